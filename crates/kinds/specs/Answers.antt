@@ -1,0 +1,44 @@
+-- What the answers of this crate stand for.
+use Prim.Native.Nat.{ℕ, _-_, _/_, _%_, _^_, _≤_}
+use mathlib.Core.Path.{_≡_}
+use mathlib.Core.List.{List, [], _∷_, _++_}
+use mathlib.Core.Bool.{Bool, true, false}
+use mathlib.Core.Option.{Option, none, some}
+use lib.Dec.{eqb}
+use lib.ListN.{length, getD, take, drop}
+use Rattle.kinds.specs.Sets.{sets}
+use Rattle.kinds.specs.declared.answer.Matched.{Matched}
+use Rattle.kinds.specs.declared.answer.Matched.the-variants as m
+use Rattle.kinds.specs.declared.answer.Name.{Name}
+use Rattle.kinds.specs.declared.answer.Name.the-variants as n
+
+abbrev pub matchedOf : Option ℕ → Matched
+matchedOf none = m.Nothing
+matchedOf (some a) = m.Kind a
+
+abbrev pub nameOf : Option ℕ → Name
+nameOf none = n.Nothing
+nameOf (some a) = n.Is a
+
+abbrev pub isSome : Option ℕ → Bool
+isSome none = false
+isSome (some a) = true
+
+-- bit i, counted through the words
+unfoldable pub inPair : List ℕ → ℕ → Bool
+inPair p i = eqb (getD p (i / 64) 0 / 2 ^ (i % 64) % 2) 1
+
+-- the lists one after the other
+abbrev pub joined : List (List ℕ) → List ℕ
+joined [] = []
+joined (S ∷ Ss) = S ++ joined Ss
+
+-- the kinds of all sets
+abbrev pub order : List ℕ
+order = joined sets
+
+-- the list l stands in the whole at from up to to
+pub record PartOf (whole l : List ℕ) (from to : ℕ) : Type 0 where
+  pub forward : from ≤ to
+  pub within : to ≤ length whole
+  pub is : take (to - from) (drop from whole) ≡ l

@@ -1,0 +1,5 @@
+pub mod Kinds
+pub mod Sets
+pub mod Answers
+pub mod Texts
+pub mod Spelling

@@ -1,0 +1,145 @@
+// Ids, kinds and token sets.
+ghost use mathlib.Core.Path.{_≡_};
+ghost use lib.ListN.{getElem?};
+ghost use Rattle.kinds.specs.Sets.{isId, trivial, idOf, kindOf, pick, idsOf, setOf};
+ghost use Rattle.kinds.specs.Answers.{matchedOf, nameOf, isSome, inPair, order, PartOf};
+
+mod answer;
+pub mod id;
+pub mod kind;
+pub mod name;
+pub mod set;
+mod table;
+mod text;
+
+pub use answer::Matched;
+pub use answer::Name;
+use table::BEGINS;
+use table::ORDER;
+pub use table::SETS;
+pub use text::spell_kind;
+pub use text::spell_name;
+
+pub fn is_id(n: u32) -> bool
+    ensures { λ r. ⌜ r ≡ isId n ⌝ }
+{
+    n < 82
+}
+
+pub fn is_trivia(id: u32) -> bool
+    ensures { λ r. ⌜ r ≡ trivial id ⌝ }
+{
+    id < 3
+}
+
+// The id that the rows of a token kind have.
+pub fn id_of(kind: u32) -> u32
+    ensures { λ r. ⌜ r ≡ idOf kind ⌝ }
+{
+    match kind {
+        kind::MINUS => kind::HYPHEN,
+        kind::SUB => kind::HYPHEN,
+        kind::MUL => kind::ASTERISK,
+        kind::MOD => kind::PERCENT,
+        kind::BITWISE_OR => kind::PIPE,
+        _ => kind,
+    }
+}
+
+// The kind that a skipped row of the id is written with.
+pub fn kind_of(id: u32) -> u32
+    ensures { λ r. ⌜ r ≡ kindOf id ⌝ }
+{
+    id
+}
+
+// Whether the pair has the id.
+pub fn member(pair: [u64; 2], id: u32) -> bool
+    ensures { λ r. ⌜ r ≡ inPair pair id ⌝ }
+{
+    let low = pair[0];
+    let high = pair[1];
+    if id < 64 {
+        return (low >> id) & 1 == 1;
+    }
+    if id < 128 {
+        return (high >> (id - 64)) & 1 == 1;
+    }
+    false
+}
+
+// Whether the set has a kind with the id.
+pub fn contains(set: usize, id: u32) -> bool
+    ensures { λ r. ⌜ r ≡ isSome (pick (setOf set) id) ⌝ }
+{
+    if set < 55 {
+        let pair = SETS[set];
+        return member(pair, id);
+    }
+    false
+}
+
+// The first of the kinds that has the id.
+fn first(kinds: &[u32], id: u32) -> Matched
+    ensures { λ r. ⌜ r ≡ matchedOf (pick (now (kinds .entry)) id) ⌝ }
+{
+    let mut i = 0;
+    while i < kinds.len() {
+        let kind = kinds[i];
+        if id_of(kind) == id {
+            return Matched::Kind(kind);
+        }
+        i += 1;
+    }
+    Matched::Nothing
+}
+
+// Where a set stands in `ORDER`.
+struct Part {
+    from: usize,
+    to: usize,
+}
+
+fn place(set: usize) -> Part
+    ensures { λ r. ⌜ PartOf order (setOf set) (r .from) (r .to) ⌝ }
+{
+    if set < 55 {
+        return Part {
+            from: BEGINS[set],
+            to: BEGINS[set + 1],
+        };
+    }
+    Part { from: 0, to: 0 }
+}
+
+// The first kind in the set that has the id.
+pub fn matched(set: usize, id: u32) -> Matched
+    ensures { λ r. ⌜ r ≡ matchedOf (pick (setOf set) id) ⌝ }
+{
+    let p = place(set);
+    let from = p.from;
+    let to = p.to;
+    let order = ORDER;
+    first(&order[from..to], id)
+}
+
+// The id of the k-th of the kinds, from 0.
+fn nth(kinds: &[u32], k: usize) -> Name
+    ensures { λ r. ⌜ r ≡ nameOf (getElem? (idsOf (now (kinds .entry))) k) ⌝ }
+{
+    if k < kinds.len() {
+        return Name::Is(id_of(kinds[k]));
+    }
+    Name::Nothing
+}
+
+// The k-th, from 0, of the names that the set enters.
+pub fn name_at(set: usize, k: usize) -> Name
+    ensures { λ r. ⌜ r ≡ nameOf (getElem? (idsOf (setOf set)) k) ⌝ }
+{
+    let p = place(set);
+    let from = p.from;
+    let to = p.to;
+    let order = ORDER;
+    nth(&order[from..to], k)
+}

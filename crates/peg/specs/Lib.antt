@@ -1,0 +1,10 @@
+pub mod Prog
+pub mod Grammar
+pub mod Run
+pub mod Peg
+pub mod Ford
+pub mod Render
+pub mod Buffer
+pub mod Answer
+pub mod Merge
+pub mod Table

@@ -1,0 +1,71 @@
+// The UTF-8 test of document 01, module 2.
+ghost use mathlib.Core.Path.{_≡_};
+ghost use Rattle.utf8.specs.Utf8.{followers, characters, begun, next, utf8};
+ghost use Rattle.utf8.specs.Due.{ranges, owed};
+
+// The followers that are due: how many, and the range of the first of them. The others are 80..BF.
+struct Due {
+    count: u8,
+    least: u8,
+    greatest: u8,
+}
+
+// What is due after a byte, unless it can neither begin nor continue a character.
+enum Step {
+    Owed(Due),
+    Stray,
+}
+
+fn followers(count: u8) -> Due
+    ensures { λ r. ⌜ ranges r ≡ followers count ⌝ }
+{
+    Due {
+        count,
+        least: 0x80,
+        greatest: 0xBF,
+    }
+}
+
+// The characters: what each first byte is followed by.
+fn begun(b: u8) -> Step
+    ensures { λ r. ⌜ owed r ≡ begun characters b ⌝ }
+{
+    match b {
+        0x00..=0x7F => Step::Owed(followers(0)),
+        0xC2..=0xDF => Step::Owed(followers(1)),
+        0xE0..=0xEF => Step::Owed(followers(2)),
+        0xF0..=0xF4 => Step::Owed(followers(3)),
+        _ => Step::Stray,
+    }
+}
+
+fn next(due: Due, b: u8) -> Step
+    ensures { λ r. ⌜ owed r ≡ next (ranges due) b ⌝ }
+{
+    if due.count == 0 {
+        return begun(b);
+    }
+    if b < due.least {
+        return Step::Stray;
+    }
+    if due.greatest < b {
+        return Step::Stray;
+    }
+    Step::Owed(followers(due.count - 1))
+}
+
+// The bytes are whole characters.
+pub fn valid(s: &[u8]) -> bool
+    ensures { λ r. ⌜ r ≡ utf8 (now (s .entry)) ⌝ }
+{
+    let mut due = followers(0);
+    let mut i = 0;
+    while i < s.len() {
+        let Step::Owed(rest) = next(due, s[i]) else {
+            return false;
+        };
+        due = rest;
+        i += 1;
+    }
+    due.count == 0
+}
