@@ -8,26 +8,20 @@ use mathlib.Core.Option.{none}
 use lib.Dec.{T}
 use lib.ListN.{length}
 use native.Mathlib.Omega.{arith}
-use Rattle.kinds.specs.Kinds as kinds
-use Rattle.peg.specs.Prog.{Production, RULE-DECL, recover, node}
 use Rattle.kinds.specs.Sets.{idOf}
+use Rattle.peg.specs.Prog.{Production, RULE-DECL, recover, node}
 use Rattle.peg.specs.Grammar.{grammar, kind}
 use Rattle.peg.specs.Run.{State, Reader, Mode, ok, failed, stopped, turn, choose, known, sought, begin, finish, exec, run, Limits, read-rule}
-use Rattle.peg.specs.Peg.{strip, Res, Peg, recover-is}
+use Rattle.peg.specs.Peg.{strip, Res, Peg, recover-is, Rules, no-more, one-rule}
+use Rattle.peg.proofs.Every.{never}
 use Rattle.peg.proofs.Order.{Running, recovery-up}
-use Rattle.peg.proofs.Grows.{Grown, grown, grows, end-refl}
+use Rattle.peg.proofs.Grows.{Grown, grown, grows, end-refl, running-before, run-zero}
 use Rattle.peg.proofs.Shrink.{strip-end, size, run-ok, exec-grown, not-failed}
-use Rattle.peg.proofs.Agree.{Fine, Inv, Sim, Won, fine-before, running-before, front-nil, not-ok, noted-failed, chose, recover-sim, exec-sim, run-sim, sound-productions, ended, nil-cons, grown-refl}
+use Rattle.peg.proofs.Agree.{Fine, Inv, Sim, Won, fine-before, front-nil, not-ok, noted-failed, chose, recover-sim, exec-sim, run-sim, sound-productions, ended, nil-cons, grown-refl}
 use Rattle.peg.proofs.Det.{det, yes-no}
 use Rattle.peg.proofs.First.{dies, dies-no}
 use Rattle.peg.proofs.Doom.{Off, off-miss, begin-inv}
-use Rattle.peg.proofs.Rule.{rule-calm}
-pub use Rattle.peg.proofs.Rule.{run-zero}
-
--- none or more rules, to the last row
-pub data Rules : List ℕ → Type 0 where
-  no-more : Rules []
-  one-rule : {r r′ : List ℕ} → Peg (node RULE-DECL) r (Res.yes r′) → Rules r′ → Rules r
+use Rattle.peg.proofs.Rule.{rule-ends, rule-calm}
 
 -- the state between items
 pub record Fresh (s : State) : Type 0 where
@@ -37,15 +31,13 @@ pub record Fresh (s : State) : Type 0 where
   pub no-chosen : s .chosen ≡ []
   pub no-cache : s .cache ≡ []
 
-abbrev pub rule-keywords : List ℕ
-rule-keywords = kinds.GLOBAL-KW ∷ kinds.PRIVATE-KW ∷ kinds.RULE-KW ∷ kinds.IMPORT-KW ∷ kinds.INCLUDE-KW ∷ []
-
 pub fresh-inv : (s : State) → Fresh s → Inv (s .rest) s
 fresh-inv s f = record { rows = end-refl (s .rest); clear = f .no-chosen; valid = λ a r p e. go (s .cache) (f .no-cache) a r e; told = quiet (s .mode) (s .cache) (f .is-ok) (f .no-cache) }
   where
     go : (c : List (ℕ × ℕ)) → c ≡ [] → (a : Production) (r : List ℕ) → known c (length r) (kind a) ≡ true → Peg (grammar a) (strip r) Res.no
-    go [] h a r e = let z : _≡_ {A = ℕ} 0 1 = cc in absurd (omega arith)
+    go [] h a r e = never cc
     go (x ∷ c) h a r e = nil-cons h
+
     quiet : (m : Mode) (c : List (ℕ × ℕ)) → m ≡ ok → c ≡ [] → Rattle.peg.proofs.Agree.Quiet m c ⊎ T (Rattle.peg.proofs.Agree.noted (s .want) (s .unwant))
     quiet ok [] e h = inl tt
     quiet ok (x ∷ c) e h = nil-cons h
@@ -89,30 +81,38 @@ accepted L s f h = by-mode ((run (L .depth) false RULE-DECL s) .mode) refl (fu .
   where
     u : State
     u = run (L .depth) false RULE-DECL s
+
     i : Inv (s .rest) s
     i = fresh-inv s f
+
     fu : Fine (run (L .depth) false RULE-DECL s)
-    fu = fine-before (run (L .depth) false RULE-DECL s) (read-rule L s) (recovery-up Grown grown (L .depth) false rule-keywords (run (L .depth) false RULE-DECL s)) h
+    fu = fine-before (run (L .depth) false RULE-DECL s) (read-rule L s) (recovery-up Grown grown (L .depth) false rule-ends (run (L .depth) false RULE-DECL s)) h
+
     x : Sim (s .rest) (node RULE-DECL) s (run (L .depth) false RULE-DECL s)
     x = run-sim (s .rest) (L .depth) false RULE-DECL s (fresh-inv s f) fu
-    y : Sim (s .rest) (recover rule-keywords) (run (L .depth) false RULE-DECL s) (read-rule L s)
-    y = recover-sim (s .rest) (L .depth) false rule-keywords (run (L .depth) false RULE-DECL s) (x .inv) h
-    same-place : (r r′ : List ℕ) → Won (s .rest) (recover rule-keywords) r r′ → r ≡ r′
+
+    y : Sim (s .rest) (recover rule-ends) (run (L .depth) false RULE-DECL s) (read-rule L s)
+    y = recover-sim (s .rest) (L .depth) false rule-ends (run (L .depth) false RULE-DECL s) (x .inv) h
+
+    same-place : (r r′ : List ℕ) → Won (s .rest) (recover rule-ends) r r′ → r ≡ r′
     same-place r r′ (inl d) = let e = det recover-is (Res.yes r′) d in cc
     same-place r r′ (inr z) = absurd (yes-no r (det recover-is Res.no (z .1)))
+
     won : (run (L .depth) false RULE-DECL s) .mode ≡ ok → (read-rule L s) .mode ≡ ok → Won (s .rest) (node RULE-DECL) (strip (s .rest)) (strip ((run (L .depth) false RULE-DECL s) .rest)) → Peg (node RULE-DECL) (strip (s .rest)) (Res.yes (strip ((read-rule L s) .rest)))
     won m e (inl d) = subst (λ (l : List ℕ). Peg (node RULE-DECL) (strip (s .rest)) (Res.yes l)) (same-place _ _ (y .good m e)) d
     won m e (inr z) = absurd (z .0)
+
     end-mode : (run (L .depth) false RULE-DECL s) .mode ≡ ok → (n : Mode) → (read-rule L s) .mode ≡ n → Running n → (read-rule L s) .mode ≡ ok
     end-mode m ok e k = e
     end-mode m failed e k = absurd (yes-no _ (det recover-is Res.no (y .bad m e)))
     end-mode m (stopped w) e k = absurd k
+
     by-mode : (n : Mode) → (run (L .depth) false RULE-DECL s) .mode ≡ n → Running n → Peg (node RULE-DECL) (strip (s .rest)) (Res.yes (strip ((read-rule L s) .rest))) × (size (read-rule L s) < size s)
-    by-mode ok m k = (won m (end-mode m ((read-rule L s) .mode) refl (h .0)) (x .good (f .is-ok) m), omega (arith, run-ok (L .depth) false RULE-DECL s m .1, strip-end ((read-rule L s) .rest) ((run (L .depth) false RULE-DECL s) .rest) ((recovery-up Grown grown (L .depth) false rule-keywords (run (L .depth) false RULE-DECL s)) .rows)))
+    by-mode ok m k = (won m (end-mode m ((read-rule L s) .mode) refl (h .0)) (x .good (f .is-ok) m), omega (arith, run-ok (L .depth) false RULE-DECL s m .1, strip-end ((read-rule L s) .rest) ((run (L .depth) false RULE-DECL s) .rest) ((recovery-up Grown grown (L .depth) false rule-ends (run (L .depth) false RULE-DECL s)) .rows)))
     by-mode failed m k = absurd (run-never-failed (s .rest) (L .depth) RULE-DECL s (fresh-inv s f) fu m)
     by-mode (stopped w) m k = absurd k
 
-rule-dies : T (dies rule-keywords (node RULE-DECL))
+rule-dies : T (dies rule-ends (node RULE-DECL))
 unfolding grammar idOf
 rule-dies = tt
 
@@ -120,9 +120,10 @@ rule-dies = tt
 pub unblamed : (L : Limits) (s : State) → Fresh s → Running ((read-rule L s) .mode) → (i : ℕ) (is : List ℕ) → strip (s .rest) ≡ i ∷ is → Rules (strip (s .rest)) → (read-rule L s) .chosen ≡ []
 unblamed L s f h i is e rs = go (strip (s .rest)) refl e rs
   where
-    next-rule : (r : List ℕ) → Rules r → Off (sought rule-keywords r) → ⊥
+    next-rule : (r : List ℕ) → Rules r → Off (sought rule-ends r) → ⊥
     next-rule r no-more o = o
-    next-rule r (one-rule {r′ = r′} g rs) o = yes-no r′ (det g Res.no (dies-no rule-keywords r (node RULE-DECL) rule-dies (off-miss (sought rule-keywords r) o)))
+    next-rule r (one-rule {r′ = r′} g rs) o = yes-no r′ (det g Res.no (dies-no rule-ends r (node RULE-DECL) rule-dies (off-miss (sought rule-ends r) o)))
+
     go : (r : List ℕ) → strip (s .rest) ≡ r → r ≡ i ∷ is → Rules r → (read-rule L s) .chosen ≡ []
     go r z e no-more = nil-cons (sym e)
     go r z e (one-rule {r′ = r′} g rs) = rule-calm L s r′ (f .is-ok) (fresh-inv s f) h (subst (λ (l : List ℕ). Peg (node RULE-DECL) l (Res.yes r′)) (sym z) g) (next-rule r′ rs) .0

@@ -1,25 +1,23 @@
 -- While no error has been chosen, the reader and the PEG agree; and what the cache holds fails in the PEG.
-use Prim.Native.Nat.{ℕ, zero, suc, _+_, _≤_, _<_, _-_}
+use Prim.Native.Nat.{ℕ, zero, suc, _+_, _<_, _-_}
 use mathlib.Core.Path.{_≡_, refl, ap, sym, _∙_, subst}
 use mathlib.Core.Logic.{_⊎_, inl, inr}
 use mathlib.Core.List.{List, [], _∷_, _++_, map}
 use mathlib.Core.Bool.{Bool, true, false, _&&_, _||_, not}
 use mathlib.Core.Option.{Option, none, some}
 use lib.Dec.{T, eqb, ltb, eqb→eq}
-use lib.ListN.{length, getD, length-append}
+use lib.ListN.{length, length-append}
 use native.Mathlib.Omega.{arith}
 use Rattle.kinds.specs.Kinds as kinds
-use Rattle.peg.specs.Prog.{Production, RULE-DECL, RULE-MODS, RULE-TAGS, META-BLK, META-DEF, PATTERNS-BLK, PATTERN-DEF, PATTERN-MODS, PATTERN-MOD, HEX-PATTERN, HEX-SUB-PATTERN, HEX-ALTERNATIVE, HEX-JUMP, CONDITION-BLK, BOOLEAN-EXPR, BOOLEAN-TERM, EXPR, FUNC-CALL, RANGE, TERM, PRIMARY-EXPR, FOR-EXPR, OF-EXPR, WITH-EXPR, WITH-DECLS, WITH-DECL, QUANTIFIER, ITERABLE, BOOLEAN-EXPR-TUPLE, EXPR-TUPLE, PATTERN-IDENT-TUPLE}
-use Rattle.peg.specs.Prog.{Prog, eat, unless, ifnext, opt, many, then, _⨟_, _/_, last, recover, node, memo}
-use Rattle.kinds.specs.Sets.{idOf}
+use Rattle.kinds.specs.Sets.{idOf, pick}
+use Rattle.peg.specs.Prog.{Production, Prog, eat, unless, ifnext, opt, many, then, _⨟_, _/_, last, recover, node, memo}
 use Rattle.peg.specs.Grammar.{grammar, kind}
-use Rattle.kinds.specs.Sets.{pick, trivial}
-use Rattle.peg.specs.Run.{State, Reader, Mode, ok, failed, stopped, Stop, spent, deep, Choice, wanted, unwanted, Next, end, other, hit, next, sought, skip, gap, trivia, turn, take, back, note, expected, unexpected, further, furthest, join, choose, decide, add, pending, halt, halted, pay, charge, begin, finish, unless-optional, if-ok, fails, eat-row, eat-at, refuse-row, refuse-at, branch, branch-at, then-at, or-else, alt-at, go-on, loop, loop-at, known, remember, memo-row, memo-at, nodes, first-names, swallow, recovered, recovery, exec, run}
+use Rattle.peg.specs.Run.{State, Reader, Mode, ok, failed, stopped, Stop, spent, deep, Choice, wanted, unwanted, Next, end, other, hit, next, sought, skip, gap, trivia, turn, back, expected, unexpected, further, furthest, join, choose, decide, halted, charge, begin, finish, if-ok, fails, eat-row, eat-at, refuse-row, refuse-at, branch, branch-at, then-at, or-else, alt-at, go-on, loop, loop-at, known, remember, memo-row, memo-at, nodes, first-names, swallow, recovered, recovery, exec, run}
 use Rattle.peg.specs.Peg.{strip, Res, Miss, Peg, eat-yes, eat-no, unless-yes, unless-no, ifnext-hit, ifnext-miss, opt-yes, opt-no, many-yes, many-no, then-is, seq-yes, seq-no, alt-yes, alt-no, last-is, recover-is, node-is, memo-is}
-use Rattle.peg.proofs.Order.{Running, steps, loop-up, swallow-up, finish-up}
-use Rattle.peg.proofs.Grows.{End, Front, Grown, grown, grows, sought-hit, take-end, gap-end, end-trans}
-use Rattle.peg.proofs.Shrink.{taking, strict, and-left, and-right, or-cases, not-failed, not-stopped, strip-gap, strip-head, strip-skip, strip-end, size, run-ok, exec-grown, shrinks, charge-rest, productions, at-production}
-use Rattle.peg.proofs.Det.{move}
+use Rattle.peg.proofs.Order.{Running, steps, loop-up, swallow-up}
+use Rattle.peg.proofs.Grows.{End, Front, Grown, grown, grows, sought-hit, take-end, gap-end, end-trans, running-before, run-zero}
+use Rattle.peg.proofs.Every.{and-left, and-right, productions, each, each-if, kind-inj, never}
+use Rattle.peg.proofs.Shrink.{taking, not-failed, strip-gap, strip-head, strip-skip, strip-end, size, run-ok, exec-grown, shrinks, charge-rest, strip-le, size-nil}
 
 -- it may end in good order at the source's end although the PEG fails: a `recover` there comes to nothing
 abbrev pub loose : Prog → Bool
@@ -76,7 +74,7 @@ furthest-noted r none (some u) = go (ltb r u)
     go false = tt
 
 pub nil-cons : {A B : Type 0} {x : A} {xs : List A} → _≡_ {A = List A} (x ∷ xs) [] → B
-nil-cons e = let z : _≡_ {A = ℕ} 0 1 = cc in absurd (omega arith)
+nil-cons e = never cc
 
 -- the first choice gives an error
 pub decide-some : {A : Type 0} (w : Option (ℕ × List ℕ)) (u : Option ℕ) → T (noted w u) → decide w u [] ≡ [] → A
@@ -96,7 +94,7 @@ next-hit S r a is e =
     ap (sought S) (strip-head r (p .0) is (p .1)) ∙ go (pick S (p .0)) (ap (sought S) (sym (p .1)) ∙ e)
   where
     go : (x : Option ℕ) → _≡_ {A = Next} (elim x [ none ↦ other | some b ↦ hit b is ]) (hit a is) → _≡_ {A = Next} (elim x [ none ↦ other | some b ↦ hit b (strip is) ]) (hit a (strip is))
-    go none e = let z : _≡_ {A = ℕ} 0 1 = cc in absurd (omega arith)
+    go none e = never cc
     go (some b) e = let z : b ≡ a = cc in ap (λ (c : ℕ). hit c (strip is)) z
 
 pub next-miss : (S r : List ℕ) → Miss (next S r) → Miss (sought S (strip r))
@@ -105,16 +103,18 @@ next-miss S r m = go (skip r) refl m
     at : (i : ℕ) (is : List ℕ) (x : Option ℕ) → Miss (elim x as (λ _. Next) [ none ↦ other | some b ↦ hit b is ]) → Miss (elim x as (λ _. Next) [ none ↦ other | some b ↦ hit b (strip is) ])
     at i is none m = tt
     at i is (some b) m = m
+
     go : (l : List ℕ) → skip r ≡ l → Miss (sought S l) → Miss (sought S (strip r))
     go [] e m = subst (λ (l : List ℕ). Miss (sought S l)) (ap strip (sym e) ∙ strip-skip r) tt
     go (i ∷ is) e m = subst (λ (l : List ℕ). Miss (sought S l)) (sym (strip-head r i is e)) (at i is (pick S i) m)
 
-next-end : (S r : List ℕ) → next S r ≡ end → strip r ≡ []
+pub next-end : (S r : List ℕ) → next S r ≡ end → strip r ≡ []
 next-end S r e = go (skip r) refl e
   where
     at : {A : Type 0} (is : List ℕ) (x : Option ℕ) → _≡_ {A = Next} (elim x [ none ↦ other | some b ↦ hit b is ]) end → A
-    at is none e = let z : _≡_ {A = ℕ} 0 1 = cc in absurd (omega arith)
-    at is (some b) e = let z : _≡_ {A = ℕ} 0 1 = cc in absurd (omega arith)
+    at is none e = never cc
+    at is (some b) e = never cc
+
     go : (l : List ℕ) → skip r ≡ l → sought S l ≡ end → strip r ≡ []
     go [] h e = sym (strip-skip r) ∙ ap strip h
     go (i ∷ is) h e = at is (pick S i) e
@@ -123,7 +123,7 @@ pub not-ok : {A : Type 0} → ok ≡ failed → A
 not-ok e = not-failed (sym e)
 
 pub not-stop : {A : Type 0} (w : Stop) → stopped w ≡ failed → A
-not-stop w e = let z : _≡_ {A = ℕ} 0 1 = cc in absurd (omega arith)
+not-stop w e = never cc
 
 -- the reader goes on, and nothing has been chosen
 abbrev pub Fine : State → Type 0
@@ -132,14 +132,6 @@ Fine t = Running (t .mode) × (t .chosen ≡ [])
 pub front-nil : {A : Type 0} (a b : List A) → Front a b → b ≡ [] → a ≡ []
 front-nil [] b p e = refl
 front-nil (x ∷ a) b p e = nil-cons (p .1 ∙ e)
-
-pub running-before : (s t : State) → Grown s t → Running (t .mode) → Running (s .mode)
-running-before s t g r = go (s .mode) refl
-  where
-    go : (m : Mode) → s .mode ≡ m → Running m
-    go ok e = tt
-    go failed e = tt
-    go (stopped w) e = subst Running (g .stops w e) r
 
 pub fine-before : (s t : State) → Grown s t → Fine t → Fine s
 fine-before s t g f = (running-before s t g (f .0), front-nil (s .chosen) (t .chosen) (g .errors) (f .1))
@@ -164,88 +156,14 @@ append-same (i ∷ x) (j ∷ y) a b e l = let z : x ++ a ≡ y ++ b = cc in appe
 end-same : (a b R : List ℕ) → End a R → End b R → length a ≡ length b → a ≡ b
 end-same a b R p q l = append-same (p .0) (q .0) a b (p .1 ∙ sym (q .1)) l
 
--- a kind belongs to one production
-all : List Production
-all = RULE-DECL ∷ RULE-MODS ∷ RULE-TAGS ∷ META-BLK ∷ META-DEF ∷ PATTERNS-BLK ∷ PATTERN-DEF ∷ PATTERN-MODS ∷ PATTERN-MOD ∷ HEX-PATTERN ∷ HEX-SUB-PATTERN ∷ HEX-ALTERNATIVE ∷ HEX-JUMP ∷ CONDITION-BLK ∷ BOOLEAN-EXPR ∷ BOOLEAN-TERM ∷ EXPR ∷ FUNC-CALL ∷ RANGE ∷ TERM ∷ PRIMARY-EXPR ∷ FOR-EXPR ∷ OF-EXPR ∷ WITH-EXPR ∷ WITH-DECLS ∷ WITH-DECL ∷ QUANTIFIER ∷ ITERABLE ∷ BOOLEAN-EXPR-TUPLE ∷ EXPR-TUPLE ∷ PATTERN-IDENT-TUPLE ∷ []
-
-unkind : ℕ → Production
-unkind n = getD all (n - kinds.RULE-DECL) RULE-DECL
-
-unkind-kind : (a : Production) → unkind (kind a) ≡ a
-unfolding unkind all kind
-unkind-kind RULE-DECL = refl
-unkind-kind RULE-MODS = refl
-unkind-kind RULE-TAGS = refl
-unkind-kind META-BLK = refl
-unkind-kind META-DEF = refl
-unkind-kind PATTERNS-BLK = refl
-unkind-kind PATTERN-DEF = refl
-unkind-kind PATTERN-MODS = refl
-unkind-kind PATTERN-MOD = refl
-unkind-kind HEX-PATTERN = refl
-unkind-kind HEX-SUB-PATTERN = refl
-unkind-kind HEX-ALTERNATIVE = refl
-unkind-kind HEX-JUMP = refl
-unkind-kind CONDITION-BLK = refl
-unkind-kind BOOLEAN-EXPR = refl
-unkind-kind BOOLEAN-TERM = refl
-unkind-kind EXPR = refl
-unkind-kind FUNC-CALL = refl
-unkind-kind RANGE = refl
-unkind-kind TERM = refl
-unkind-kind PRIMARY-EXPR = refl
-unkind-kind FOR-EXPR = refl
-unkind-kind OF-EXPR = refl
-unkind-kind WITH-EXPR = refl
-unkind-kind WITH-DECLS = refl
-unkind-kind WITH-DECL = refl
-unkind-kind QUANTIFIER = refl
-unkind-kind ITERABLE = refl
-unkind-kind BOOLEAN-EXPR-TUPLE = refl
-unkind-kind EXPR-TUPLE = refl
-unkind-kind PATTERN-IDENT-TUPLE = refl
-
-kind-inj : (a b : Production) → kind a ≡ kind b → a ≡ b
-kind-inj a b e = sym (unkind-kind a) ∙ ap unkind e ∙ unkind-kind b
-
 -- only condition_blk is loose, and every production is sound
 loose-production : (a : Production) → T (loose (grammar a)) → T (loose (node a))
-unfolding grammar kind
-loose-production RULE-DECL t = t
-loose-production RULE-MODS t = t
-loose-production RULE-TAGS t = t
-loose-production META-BLK t = t
-loose-production META-DEF t = t
-loose-production PATTERNS-BLK t = t
-loose-production PATTERN-DEF t = t
-loose-production PATTERN-MODS t = t
-loose-production PATTERN-MOD t = t
-loose-production HEX-PATTERN t = t
-loose-production HEX-SUB-PATTERN t = t
-loose-production HEX-ALTERNATIVE t = t
-loose-production HEX-JUMP t = t
-loose-production CONDITION-BLK t = tt
-loose-production BOOLEAN-EXPR t = t
-loose-production BOOLEAN-TERM t = t
-loose-production EXPR t = t
-loose-production FUNC-CALL t = t
-loose-production RANGE t = t
-loose-production TERM t = t
-loose-production PRIMARY-EXPR t = t
-loose-production FOR-EXPR t = t
-loose-production OF-EXPR t = t
-loose-production WITH-EXPR t = t
-loose-production WITH-DECLS t = t
-loose-production WITH-DECL t = t
-loose-production QUANTIFIER t = t
-loose-production ITERABLE t = t
-loose-production BOOLEAN-EXPR-TUPLE t = t
-loose-production EXPR-TUPLE t = t
-loose-production PATTERN-IDENT-TUPLE t = t
+unfolding productions grammar kind
+loose-production = each-if (λ a. loose (grammar a)) (λ a. loose (node a)) tt
 
 pub sound-productions : (a : Production) → T (sound (grammar a))
 unfolding productions grammar kind
-sound-productions = at-production sound tt
+sound-productions = each (λ a. sound (grammar a)) tt
 
 pub to-memo : {a : Production} {r : List ℕ} {x : Res} → Peg (node a) r x → Peg (memo a) r x
 to-memo (node-is d) = memo-is d
@@ -310,6 +228,7 @@ module _ (R : List ℕ) where
       quiet-failed ok (x ∷ c) e q = q
       quiet-failed failed c e q = q
       quiet-failed (stopped w) c e q = q
+
       go : Told t → T (noted (t .want) (t .unwant))
       go (inl q) = absurd (quiet-failed (t .mode) (t .cache) e q)
       go (inr n) = n
@@ -320,10 +239,11 @@ module _ (R : List ℕ) where
   eat-sim : (S N : List ℕ) (s : State) → s .mode ≡ ok → Inv s → (x : Next) → next S (s .rest) ≡ x → OkSim (eat S N) s (eat-row N x s)
   eat-sim S N s m i end h = (inv-failed (expected N s) (inv-expected N s i) (further-noted _ N (s .want) (s .unwant)), λ e. not-failed e, λ _. eat-no (next-miss S (s .rest) (subst Miss (sym h) tt)))
   eat-sim S N s m i other h = (inv-failed (expected N s) (inv-expected N s i) (further-noted _ N (s .want) (s .unwant)), λ e. not-failed e, λ _. eat-no (next-miss S (s .rest) (subst Miss (sym h) tt)))
-  eat-sim S N s m i (hit a is) h =
-      (record { rows = end-trans is (s .rest) R (take-end S (s .rest) a is h) (i .rows); clear = i .clear; valid = i .valid; told = i .told },
-      (λ _. inl (eat-yes a (next-hit S (s .rest) a is h))),
-      λ e. not-ok (sym m ∙ e))
+  eat-sim S N s m i (hit a is) h = (
+    record { rows = end-trans is (s .rest) R (take-end S (s .rest) a is h) (i .rows); clear = i .clear; valid = i .valid; told = i .told },
+    (λ _. inl (eat-yes a (next-hit S (s .rest) a is h))),
+    λ e. not-ok (sym m ∙ e),
+  )
 
   unless-sim : (S : List ℕ) (s : State) → s .mode ≡ ok → Inv s → (x : Next) → next S (s .rest) ≡ x → OkSim (unless S) s (refuse-row x s)
   unless-sim S s m i end h = (i, (λ _. inl (unless-yes (next-miss S (s .rest) (subst Miss (sym h) tt)))), λ e. not-ok (sym m ∙ e))
@@ -333,10 +253,11 @@ module _ (R : List ℕ) where
   -- f past trivia
   pub after : (p : Prog) (f : Reader) → Good p f → (s : State) → s .mode ≡ ok → Inv s → Fine (f (trivia s)) → OkSim p s (f (trivia s))
   after p f F s m i h =
-      let x = F (trivia s) (inv-trivia s i) h in
-      (x .inv,
-      (λ e. subst (λ (l : List ℕ). Won p l (strip ((f (trivia s)) .rest))) (strip-gap (s .mode) (s .rest)) (x .good m e)),
-      λ e. subst (λ (l : List ℕ). Peg p l Res.no) (strip-gap (s .mode) (s .rest)) (x .bad m e))
+      let x = F (trivia s) (inv-trivia s i) h in (
+        x .inv,
+        (λ e. subst (λ (l : List ℕ). Won p l (strip ((f (trivia s)) .rest))) (strip-gap (s .mode) (s .rest)) (x .good m e)),
+        λ e. subst (λ (l : List ℕ). Peg p l Res.no) (strip-gap (s .mode) (s .rest)) (x .bad m e),
+      )
 
   -- a result carried over to a program that has the same results and is loose where the first is
   carry : (p q : Prog) (r r′ : List ℕ) → (T (loose p) → T (loose q)) → ((x : Res) → Peg p r x → Peg q r x) → Won p r r′ → Won q r r′
@@ -414,10 +335,6 @@ module _ (R : List ℕ) where
   or-left true b t = tt
   or-left false b t = absurd t
 
-  size-nil : (l : List ℕ) → length l ≤ 0 → l ≡ []
-  size-nil [] h = refl
-  size-nil (x ∷ l) h = absurd (omega arith)
-
   -- nothing is left, so a program behind takes nothing; and one that must take a row does not end in good order
   lost : (p q : Prog) (u t : State) → Grown u t → (T (taking q) → size t < size u) → T (loose p) → strip (u .rest) ≡ [] → T (loose (p ⨟ q)) × (strip (t .rest) ≡ [])
   lost p q u t g k l e =
@@ -441,20 +358,25 @@ module _ (R : List ℕ) where
       both : {r r₁ r₂ : List ℕ} → Peg p r (Res.yes r₁) → Won q r₁ r₂ → Won (p ⨟ q) r r₂
       both d (inl e) = inl (seq-yes d e)
       both d (inr x) = inr (or-left (loose q) (loose p && not (taking q)) (x .0), seq-yes d (x .1), x .2)
+
       good₁ : (f s) .mode ≡ ok → (g (f s)) .mode ≡ ok → Sim q (f s) (g (f s)) → Won p (strip (s .rest)) (strip ((f s) .rest)) → Won (p ⨟ q) (strip (s .rest)) (strip ((g (f s)) .rest))
       good₁ m e y (inl d) = both d (y .good m e)
       good₁ m e y (inr x) = let z = lost p q (f s) (g (f s)) (gg (f s)) (gk (f s) e) (x .0) (x .2) in inr (z .0, seq-no (x .1), z .1)
+
       good′ : Sim p s (f s) → Sim q (f s) (g (f s)) → s .mode ≡ ok → (g (f s)) .mode ≡ ok → (m : Mode) → (f s) .mode ≡ m → Running m → Won (p ⨟ q) (strip (s .rest)) (strip ((g (f s)) .rest))
       good′ x y n e ok m r = good₁ m e y (x .good n m)
       good′ x y n e failed m r = let z = y .late m e in inr (or-left (loose q) (loose p && not (taking q)) (z .0), seq-no (x .bad n m), z .1)
       good′ x y n e (stopped w) m r = absurd r
+
       bad₁ : (f s) .mode ≡ ok → (g (f s)) .mode ≡ failed → Sim q (f s) (g (f s)) → Won p (strip (s .rest)) (strip ((f s) .rest)) → Peg (p ⨟ q) (strip (s .rest)) Res.no
       bad₁ m e y (inl d) = seq-yes d (y .bad m e)
       bad₁ m e y (inr x) = seq-no (x .1)
+
       bad′ : Sim p s (f s) → Sim q (f s) (g (f s)) → s .mode ≡ ok → (g (f s)) .mode ≡ failed → (m : Mode) → (f s) .mode ≡ m → Running m → Peg (p ⨟ q) (strip (s .rest)) Res.no
       bad′ x y n e ok m r = bad₁ m e y (x .good n m)
       bad′ x y n e failed m r = seq-no (x .bad n m)
       bad′ x y n e (stopped w) m r = absurd r
+
       late′ : Sim p s (f s) → Sim q (f s) (g (f s)) → s .mode ≡ failed → (g (f s)) .mode ≡ ok → (m : Mode) → (f s) .mode ≡ m → Running m → T (loose (p ⨟ q)) × (strip ((g (f s)) .rest) ≡ [])
       late′ x y n e ok m r = let z = x .late n m in lost p q (f s) (g (f s)) (gg (f s)) (gk (f s) e) (z .0) (z .1)
       late′ x y n e failed m r = let z = y .late m e in (or-left (loose q) (loose p && not (taking q)) (z .0), z .1)
@@ -481,10 +403,12 @@ module _ (R : List ℕ) where
       was-ok end s e i h = record { inv = i; good = λ _ _. inl recover-is; bad = λ _ e. not-ok e; late = λ e. not-ok e }
       was-ok other s e i h = swallowed d o S (s .chosen) (turn ok s) refl (i .clear) (h .1)
       was-ok (hit a is) s e i h = record { inv = i; good = λ _ _. inl recover-is; bad = λ _ e. not-ok e; late = λ e. not-ok e }
+
       was-failed : (x : Next) (s : State) → next S (s .rest) ≡ x → Inv (turn failed s) → Fine (recovered d o S x failed (turn ok s)) → Sim (recover S) (turn failed s) (recovered d o S x failed (turn ok s))
       was-failed end s e i h = record { inv = record { rows = i .rows; clear = i .clear; valid = i .valid; told = inr (noted-failed (turn failed s) refl i) }; good = λ e. not-failed e; bad = λ e. not-failed e; late = λ _ _. (tt, next-end S (s .rest) e) }
       was-failed other s e i h = swallowed d o S (s .chosen) (turn ok s) refl (i .clear) (h .1)
       was-failed (hit a is) s e i h = chose (turn ok s) (choose (turn ok s)) (i .clear) (noted-failed (turn failed s) refl i) (grown-refl (choose (turn ok s))) (h .1)
+
       go : (m : Mode) (s : State) → Inv (turn m s) → Fine (recovery d o S (turn m s)) → Sim (recover S) (turn m s) (recovery d o S (turn m s))
       go ok s i h = was-ok (next S (s .rest)) s refl i h
       go failed s i h = was-failed (next S (s .rest)) s refl i h
@@ -505,7 +429,7 @@ module _ (R : List ℕ) where
   hit-noted s m n a e (inl q) = absurd (go (s .mode) (s .cache) e q)
     where
       go : (m : Mode) (c : List (ℕ × ℕ)) → known c n a ≡ true → Quiet m c → ⊥
-      go ok [] e q = let z : _≡_ {A = ℕ} 0 1 = cc in omega arith
+      go ok [] e q = never cc
       go ok (x ∷ c) e q = q
       go failed c e q = q
       go (stopped w) c e q = q
@@ -565,25 +489,17 @@ module _ (R : List ℕ) where
         inv = z .1;
         good = λ m e. subst (λ (l : List ℕ). Won (node a) (strip (s .rest)) (strip l)) (sym (z .3)) (carry (grammar a) (node a) _ _ (loose-production a) (λ _ g. node-is g) (subst (λ (l : List ℕ). Won (grammar a) l (strip ((f t) .rest))) r (x .good (b .1 ∙ m) (sym (z .2) ∙ e))));
         bad = λ m e. node-is (subst (λ (l : List ℕ). Peg (grammar a) l Res.no) r (x .bad (b .1 ∙ m) (sym (z .2) ∙ e)));
-        late = λ m e. let y = x .late (b .1 ∙ m) (sym (z .2) ∙ e) in (loose-production a (y .0), ap strip (z .3) ∙ y .1) }
+        late = λ m e. let y = x .late (b .1 ∙ m) (sym (z .2) ∙ e) in (loose-production a (y .0), ap strip (z .3) ∙ y .1);
+      }
     where
       t-inv : Running ((begin d s) .mode) → Inv (begin d s)
       t-inv r = let j = begun d (s .fuel) (trivia s) (inv-trivia s i) r .0 in record { rows = j .rows; clear = j .clear; valid = j .valid; told = j .told }
-
-  pub strip-le : (r : List ℕ) → length (strip r) ≤ length r
-  strip-le [] = omega arith
-  strip-le (i ∷ is) = go (trivial i) (strip-le is)
-    where
-      go : (b : Bool) → length (strip is) ≤ length is → length {A = ℕ} (elim b as (λ _. List ℕ) [ true ↦ strip is | false ↦ i ∷ strip is ]) ≤ suc (length is)
-      go true h = omega arith
-      go false h = omega arith
 
   module _ (d : ℕ) (call : Bool → Production → Reader)
       (cg : (o : Bool) (a : Production) (s : State) → Grown s (call o a s))
       (cs : (o : Bool) (a : Production) (s : State) → (call o a s) .mode ≡ ok → s .mode ≡ ok)
       (ct : (o : Bool) (a : Production) (s : State) → (call o a s) .mode ≡ ok → size (call o a s) < size s)
       (cm : (o : Bool) (a : Production) → Good (node a) (call o a)) where
-
     pub exec-sim : (p : Prog) → T (sound p) → (o : Bool) → Good p (exec d call p o)
     exec-sim (eat S N) t o = guarded (eat S N) (eat-at S N) (λ s m i h. eat-sim S N s m i (next S (s .rest)) refl)
     exec-sim (unless S) t o = guarded (unless S) (refuse-at S) (λ s m i h. unless-sim S s m i (next S (s .rest)) refl)
@@ -612,28 +528,11 @@ module _ (R : List ℕ) where
     exec-sim (memo a) t o = guarded (memo a) (memo-at (kind a) (call o a)) (λ s m i h. memo-sim a (call o a) (cm o a) (cg o a) s m i (known (s .cache) (length (s .rest)) (kind a)) refl h)
 
   pub run-sim : (d : ℕ) (o : Bool) (a : Production) → Good (node a) (run d o a)
-  run-sim zero o a s i h =
-      let t : State = begin zero s in
-      absurd (no-room (s .fuel) (trivia s) (running-before t (run zero o a s) (grown-finish t) (h .0)))
-    where
-      no-room : (f : ℕ) (s : State) → Running ((charge zero f s) .mode) → ⊥
-      no-room zero s r = go (s .mode) r
-        where
-          go : (m : Mode) → Running (halted spent m) → ⊥
-          go ok r = r
-          go failed r = r
-          go (stopped w) r = r
-      no-room (suc f) s r = go (s .mode) r
-        where
-          go : (m : Mode) → Running (halted deep m) → ⊥
-          go ok r = r
-          go failed r = r
-          go (stopped w) r = r
-      grown-finish : (t : State) → Grown t (finish o (kind a) (length (t .rest)) t)
-      grown-finish t = finish-up Grown grown o (kind a) (length (t .rest)) t
+  run-sim zero o a s i h = absurd (run-zero o a s (h .0))
   run-sim (suc d) o a s i h = nodes-sim (suc d) o a (exec d (run d) (grammar a) o) (exec-sim d (run d) (grows d) cs ct (λ o b s i h. run-sim d o b s i h) (grammar a) (sound-productions a) o) (exec-grown d (run d) (grows d) cs ct (grammar a) o) s i h
     where
       cs : (o : Bool) (b : Production) (s : State) → (run d o b s) .mode ≡ ok → s .mode ≡ ok
       cs o b s e = run-ok d o b s e .0
+
       ct : (o : Bool) (b : Production) (s : State) → (run d o b s) .mode ≡ ok → size (run d o b s) < size s
       ct o b s e = run-ok d o b s e .1

@@ -7,12 +7,11 @@ use lib.ListN.{length, set, length-set, length-append}
 use native.Mathlib.Nat.{add-zero}
 use native.Mathlib.Omega.{arith}
 use Rattle.kinds.specs.Kinds as kinds
+use Rattle.kinds.specs.Sets.{kindOf, trivial}
 use Rattle.peg.specs.Prog.{Prog, Production}
-use Rattle.kinds.specs.Sets.{kindOf}
 use Rattle.peg.specs.Grammar.{rule-decl}
-use Rattle.kinds.specs.Sets.{trivial}
-use Rattle.peg.specs.Run.{State, Reader, Limits, Event, opened, leaf, closed, bad, Mode, ok, failed, stopped, next, past, gap-out, trivia-out, trivia, seek-out, skip-to, take, turn, charge, begin, finish, nodes, exec, run, read, Choice, stray, Next, end, other, hit, sought, seek, errors, rule-keywords, read-rule, stray-item, item-at, flush, again, item}
-use Rattle.peg.specs.Render.{Source, starts-at, ends-at, span-end, bads, Quad, Page, flat, render, inside}
+use Rattle.peg.specs.Run.{State, Reader, Limits, Event, opened, leaf, closed, bad, Mode, ok, failed, stopped, next, past, gap-out, trivia-out, trivia, seek-out, take, turn, charge, begin, finish, nodes, exec, run, read, Choice, stray, Next, end, other, hit, sought, seek, errors, rule-keywords, read-rule, stray-item, item-at, flush, again, item}
+use Rattle.peg.specs.Render.{Source, starts-at, ends-at, span-end, bads, Quad, flat, render, inside}
 use Rattle.peg.specs.Buffer.{four, patch, buffered, buffer, Nest, Adds, Open}
 use Rattle.peg.proofs.Induct.{exec-kept, run-kept}
 use Rattle.peg.proofs.Order.{Steps, stepped}
@@ -196,19 +195,19 @@ nodes-added d o a f F s =
 
 pub adding : Steps Adding
 adding = record {
-    same = λ s. none-added (s .out);
-    trans = λ s t u p q. adds-trans (s .out) (t .out) (u .out) p q;
-    at-turn = λ m s r. none-added (s .out);
-    at-expected = λ ns s. none-added (s .out);
-    at-unexpected = λ s. none-added (s .out);
-    at-choose = λ s. none-added (s .out);
-    at-keep = λ r a s. none-added (s .out);
-    at-trivia = λ s. gap-added (s .mode) (s .rest) (s .out);
-    at-take = λ S s a is m e. adds-trans (s .out) ((trivia s) .out) (leaf a (suc (length is)) ∷ (trivia s) .out) (gap-added (s .mode) (s .rest) (s .out)) (leaf-added a (suc (length is)) ((trivia s) .out));
-    at-skip = λ S s. seek-added S (s .rest) (s .out);
-    at-back = λ s t p. none-added (s .out);
-    at-node = nodes-added
-  }
+  same = λ s. none-added (s .out);
+  trans = λ s t u p q. adds-trans (s .out) (t .out) (u .out) p q;
+  at-turn = λ m s r. none-added (s .out);
+  at-expected = λ ns s. none-added (s .out);
+  at-unexpected = λ s. none-added (s .out);
+  at-choose = λ s. none-added (s .out);
+  at-keep = λ r a s. none-added (s .out);
+  at-trivia = λ s. gap-added (s .mode) (s .rest) (s .out);
+  at-take = λ S s a is m e. adds-trans (s .out) ((trivia s) .out) (leaf a (suc (length is)) ∷ (trivia s) .out) (gap-added (s .mode) (s .rest) (s .out)) (leaf-added a (suc (length is)) ((trivia s) .out));
+  at-skip = λ S s. seek-added S (s .rest) (s .out);
+  at-back = λ s t p. none-added (s .out);
+  at-node = nodes-added;
+}
 
 pub exec-adds : (d : ℕ) (p : Prog) (o : Bool) (s : State) → Adding s (exec d (run d) p o s)
 exec-adds d p o = exec-kept (stepped Adding adding) d (run d) (run-kept (stepped Adding adding) d) p o

@@ -9,18 +9,17 @@ use lib.Dec.{T, eqb, ltb, eqb→eq}
 use lib.ListN.{length}
 use native.Mathlib.Omega.{arith}
 use Rattle.kinds.specs.Kinds as kinds
-use Rattle.peg.specs.Prog.{Production, RULE-DECL, RULE-MODS, RULE-TAGS, META-BLK, META-DEF, PATTERNS-BLK, PATTERN-DEF, PATTERN-MODS, PATTERN-MOD, HEX-PATTERN, HEX-SUB-PATTERN, HEX-ALTERNATIVE, HEX-JUMP, CONDITION-BLK, BOOLEAN-EXPR, BOOLEAN-TERM, EXPR, FUNC-CALL, RANGE, TERM, PRIMARY-EXPR, FOR-EXPR, OF-EXPR, WITH-EXPR, WITH-DECLS, WITH-DECL, QUANTIFIER, ITERABLE, BOOLEAN-EXPR-TUPLE, EXPR-TUPLE, PATTERN-IDENT-TUPLE}
-use Rattle.peg.specs.Prog.{Prog, eat, unless, ifnext, opt, many, then, _⨟_, _/_, last, recover, node, memo}
-use Rattle.kinds.specs.Sets.{idOf}
+use Rattle.kinds.specs.Sets.{idOf, pick}
+use Rattle.peg.specs.Prog.{Production, CONDITION-BLK, FOR-EXPR, WITH-EXPR, Prog, eat, unless, ifnext, opt, many, then, _⨟_, _/_, last, recover, node, memo}
 use Rattle.peg.specs.Grammar.{grammar, kind}
-use Rattle.kinds.specs.Sets.{pick}
-use Rattle.peg.specs.Run.{State, Reader, Mode, ok, failed, stopped, Stop, Next, end, other, hit, next, sought, skip, trivia, turn, back, charge, begin, finish, if-ok, fails, eat-row, eat-at, refuse-row, refuse-at, branch, branch-at, then-at, or-else, alt-at, go-on, loop, loop-at, known, remember, memo-row, memo-at, nodes, recovered, recovery, exec, run}
+use Rattle.peg.specs.Run.{State, Reader, Mode, ok, failed, stopped, Next, end, other, hit, next, sought, skip, trivia, turn, back, begin, finish, if-ok, fails, eat-row, eat-at, refuse-row, refuse-at, branch, branch-at, then-at, or-else, alt-at, go-on, loop, loop-at, known, remember, memo-row, memo-at, nodes, recovered, recovery, exec, run}
 use Rattle.peg.specs.Peg.{strip, Res, Miss, Peg, eat-yes, ifnext-hit, then-is, seq-yes, seq-no, alt-no, recover-is, node-is}
 use Rattle.peg.proofs.Order.{Running, finish-up}
-use Rattle.peg.proofs.Grows.{End, Grown, grown, grows, sought-hit}
-use Rattle.peg.proofs.Shrink.{taking, and-left, and-right, or-cases, not-failed, strip-gap, strip-head, strip-append, size, run-ok, exec-grown, charge-rest, productions, at-production}
+use Rattle.peg.proofs.Grows.{Grown, grown, grows, sought-hit, running-before, run-zero}
+use Rattle.peg.proofs.Every.{and-left, and-right, or-cases, productions, each, each-if, is, kind-inj, clash, never}
+use Rattle.peg.proofs.Shrink.{taking, not-failed, strip-gap, strip-head, size, run-ok, exec-grown, charge-rest}
 use Rattle.peg.proofs.Agree as agree
-use Rattle.peg.proofs.Agree.{loose, sound, Fine, Won, running-before, not-ok, nil-cons, next-miss, next-hit, exec-sim, run-sim, to-memo, sound-productions}
+use Rattle.peg.proofs.Agree.{loose, sound, Fine, Won, not-ok, nil-cons, next-miss, next-hit, exec-sim, run-sim, to-memo, sound-productions}
 use Rattle.peg.proofs.Only.{Others, bare, for-rest, only-for, only-with, bare-for, bare-with}
 use Rattle.peg.proofs.First.{dies, dies-no, sub, sub-miss}
 
@@ -158,77 +157,34 @@ with-keyed : Keyed WITH-EXPR
 unfolding grammar idOf kind for-rest
 with-keyed = record { alone = only-with; bare-rest = bare-with; word = kinds.WITH-KW; names = kinds.EXPRESSION ∷ []; rest = for-rest (grammar WITH-EXPR); is = refl; own = refl; no-brace = λ e. omega arith; behind = tt; still = tt; ends = tt; fits = tt }
 
+-- every production that an optional part may enter is plain or one of the two
 sort : (a : Production) → T (inner a) → T (plain (grammar a)) ⊎ Keyed a
-unfolding grammar kind
-sort RULE-DECL t = absurd t
-sort RULE-MODS t = inl tt
-sort RULE-TAGS t = inl tt
-sort META-BLK t = inl tt
-sort META-DEF t = inl tt
-sort PATTERNS-BLK t = inl tt
-sort PATTERN-DEF t = inl tt
-sort PATTERN-MODS t = inl tt
-sort PATTERN-MOD t = inl tt
-sort HEX-PATTERN t = inl tt
-sort HEX-SUB-PATTERN t = inl tt
-sort HEX-ALTERNATIVE t = inl tt
-sort HEX-JUMP t = inl tt
-sort CONDITION-BLK t = absurd t
-sort BOOLEAN-EXPR t = inl tt
-sort BOOLEAN-TERM t = inl tt
-sort EXPR t = inl tt
-sort FUNC-CALL t = inl tt
-sort RANGE t = inl tt
-sort TERM t = inl tt
-sort PRIMARY-EXPR t = inl tt
-sort FOR-EXPR t = inr for-keyed
-sort OF-EXPR t = inl tt
-sort WITH-EXPR t = inr with-keyed
-sort WITH-DECLS t = inl tt
-sort WITH-DECL t = inl tt
-sort QUANTIFIER t = inl tt
-sort ITERABLE t = inl tt
-sort BOOLEAN-EXPR-TUPLE t = inl tt
-sort EXPR-TUPLE t = inl tt
-sort PATTERN-IDENT-TUPLE t = inl tt
+unfolding productions grammar kind
+sort a t = go (or-cases (is FOR-EXPR a) (plain-or-with a) (each-if inner (λ a. is FOR-EXPR a || plain-or-with a) tt a t))
+  where
+    plain-or-with : Production → Bool
+    plain-or-with a = is WITH-EXPR a || plain (grammar a)
+
+    at : {k : Production} → Keyed k → T (is k a) → Keyed a
+    at {k = k} K e = subst Keyed (sym (kind-inj a k (eqb→eq (kind a) (kind k) e))) K
+
+    or-with : T (is WITH-EXPR a) ⊎ T (plain (grammar a)) → T (plain (grammar a)) ⊎ Keyed a
+    or-with (inl e) = inr (at with-keyed e)
+    or-with (inr p) = inl p
+
+    go : T (is FOR-EXPR a) ⊎ T (plain-or-with a) → T (plain (grammar a)) ⊎ Keyed a
+    go (inl e) = inr (at for-keyed e)
+    go (inr e) = or-with (or-cases (is WITH-EXPR a) (plain (grammar a)) e)
 
 fit-productions : (a : Production) → T (fit false (grammar a))
 unfolding productions grammar kind idOf
-fit-productions = at-production (fit false) tt
+fit-productions = each (λ a. fit false (grammar a)) tt
 
 trail-production : (a : Production) → T (trailing (grammar a)) → T (trailing (node a)) × (trail (grammar a) ≡ trail (node a))
-unfolding grammar kind
-trail-production RULE-DECL t = absurd t
-trail-production RULE-MODS t = absurd t
-trail-production RULE-TAGS t = absurd t
-trail-production META-BLK t = absurd t
-trail-production META-DEF t = absurd t
-trail-production PATTERNS-BLK t = absurd t
-trail-production PATTERN-DEF t = absurd t
-trail-production PATTERN-MODS t = absurd t
-trail-production PATTERN-MOD t = absurd t
-trail-production HEX-PATTERN t = absurd t
-trail-production HEX-SUB-PATTERN t = absurd t
-trail-production HEX-ALTERNATIVE t = absurd t
-trail-production HEX-JUMP t = absurd t
-trail-production CONDITION-BLK t = (tt, refl)
-trail-production BOOLEAN-EXPR t = absurd t
-trail-production BOOLEAN-TERM t = absurd t
-trail-production EXPR t = absurd t
-trail-production FUNC-CALL t = absurd t
-trail-production RANGE t = absurd t
-trail-production TERM t = absurd t
-trail-production PRIMARY-EXPR t = absurd t
-trail-production FOR-EXPR t = absurd t
-trail-production OF-EXPR t = absurd t
-trail-production WITH-EXPR t = absurd t
-trail-production WITH-DECLS t = absurd t
-trail-production WITH-DECL t = absurd t
-trail-production QUANTIFIER t = absurd t
-trail-production ITERABLE t = absurd t
-trail-production BOOLEAN-EXPR-TUPLE t = absurd t
-trail-production EXPR-TUPLE t = absurd t
-trail-production PATTERN-IDENT-TUPLE t = absurd t
+unfolding productions grammar kind
+trail-production a t =
+    let e = each-if (λ a. trailing (grammar a)) (is CONDITION-BLK) tt a t in
+    (e, ap (λ (b : Production). trail (grammar b)) (kind-inj a CONDITION-BLK (eqb→eq (kind a) (kind CONDITION-BLK) e)))
 
 if-ok-failed : (f : Reader) (s : State) → s .mode ≡ failed → if-ok f s ≡ s
 if-ok-failed f s = go (s .mode) s
@@ -265,11 +221,13 @@ next-off S r e = go (sought S (strip r)) (next-miss S r (subst Miss (sym e) tt))
     empty (i ∷ is) e = at (pick S i) e
       where
         at : (x : Option ℕ) → _≡_ {A = Next} (elim x [ none ↦ other | some b ↦ hit b is ]) end → _≡_ {A = List ℕ} (i ∷ is) []
-        at none e = let z : _≡_ {A = ℕ} 0 1 = cc in absurd (omega arith)
-        at (some b) e = let z : _≡_ {A = ℕ} 0 1 = cc in absurd (omega arith)
+        at none e = never cc
+        at (some b) e = never cc
+
     full : {A : Type 0} (l : List ℕ) → skip r ≡ l → sought S l ≡ other → strip r ≡ [] → A
-    full [] h e f = let z : _≡_ {A = ℕ} 0 1 = cc in absurd (omega arith)
+    full [] h e f = never cc
     full (i ∷ is) h e f = nil-cons (sym (strip-head r i is h) ∙ f)
+
     go : (x : Next) → Miss x → sought S (strip r) ≡ x → Off x
     go end m h = full (skip r) refl e (empty (strip r) h)
     go other m h = tt
@@ -294,7 +252,7 @@ eat-word w N r r′ own (eat-yes a e) =
   where
     go : (i : ℕ) (b : Bool) → (T b → i ≡ idOf w) → _≡_ {A = Next} (elim (elim b as (λ _. Option ℕ) [ true ↦ some w | false ↦ none ]) [ none ↦ other | some c ↦ hit c r′ ]) (hit a r′) → i ≡ idOf w
     go i true h e = h tt
-    go i false h e = let z : _≡_ {A = ℕ} 0 1 = cc in absurd (omega arith)
+    go i false h e = never cc
 
 -- productions that call one another alone, and rows that their programs stay within; no `for` and no `with` on the way fails its
 -- production
@@ -302,7 +260,6 @@ module _ (R : List ℕ) (takes : List ℕ → Bool) (calls : Production → Bool
     (onward : (p : Prog) → T (low takes calls p) → (r r′ : List ℕ) → Peg p r (Res.yes r′) → Way r → Way r′)
     (shut : (a : Production) → T (calls a) → T (low takes calls (grammar a)))
     (whole : (a : Production) (K : Keyed a) → T (calls a) → (r : List ℕ) → Way (K .word ∷ r) → Peg (grammar a) (K .word ∷ r) Res.no → ⊥) where
-
   pub record Inv (s : State) : Type 0 where
     pub base : agree.Inv R s
     pub zone : Zone Way (s .mode) (strip (s .rest))
@@ -329,6 +286,7 @@ module _ (R : List ℕ) (takes : List ℕ → Bool) (calls : Production → Bool
           won (inr y) = subst Way (sym (y .2)) at-end
       from failed e z k x = subst Way (sym (x .late e k .1)) at-end
       from (stopped w) e z k x = absurd z
+
       go : (m : Mode) → (f s) .mode ≡ m → Running m → agree.Sim R p s (f s) → Zone Way m (strip ((f s) .rest))
       go ok e r x = from (s .mode) refl (i .zone) e x
       go failed e r x = tt
@@ -345,10 +303,11 @@ module _ (R : List ℕ) (takes : List ℕ → Bool) (calls : Production → Bool
 
   after : (p : Prog) (f : Reader) → Good p f → (s : State) → s .mode ≡ ok → Inv s → Fine (f (trivia s)) → OkSim p s (f (trivia s))
   after p f F s m i h =
-      let x = F (trivia s) (inv-trivia s i) h in
-      (x .inv,
-      (λ e. subst (λ (l : List ℕ). Won R p l (strip ((f (trivia s)) .rest))) (strip-gap (s .mode) (s .rest)) (x .good m e)),
-      λ e. subst (λ (l : List ℕ). Peg p l Res.no) (strip-gap (s .mode) (s .rest)) (x .bad m e))
+      let x = F (trivia s) (inv-trivia s i) h in (
+        x .inv,
+        (λ e. subst (λ (l : List ℕ). Won R p l (strip ((f (trivia s)) .rest))) (strip-gap (s .mode) (s .rest)) (x .good m e)),
+        λ e. subst (λ (l : List ℕ). Peg p l Res.no) (strip-gap (s .mode) (s .rest)) (x .bad m e),
+      )
 
   begin-in : (d : ℕ) (s : State) → Inv s → Running ((begin d s) .mode) → Inv (begin d s) × ((begin d s) .mode ≡ s .mode)
   begin-in d s i r =
@@ -496,6 +455,7 @@ module _ (R : List ℕ) (takes : List ℕ → Bool) (calls : Production → Bool
       at end s e i = inl (i .base .clear)
       at other s e i = inr (inr (strip (s .rest), recover-is, tt, next-off S (s .rest) e))
       at (hit a is) s e i = inl (i .base .clear)
+
       go : (m : Mode) (s : State) → m ≡ ok → Inv (turn m s) → Running ((recovery d o S (turn m s)) .mode) → Calm (recovery d o S (turn m s)) ⊎ Bad (recover S) (strip (s .rest))
       go ok s e i r = at (next S (s .rest)) s refl i
       go failed s e i r = not-failed e
@@ -506,9 +466,6 @@ module _ (R : List ℕ) (takes : List ℕ → Bool) (calls : Production → Bool
   follow p q r t (inl n) = inl (seq-no n)
   follow p q r t (inr x) = go (or-cases (not (trailing p)) (dies (trail p) q || echo (trail p) q) t)
     where
-      clash : {A : Type 0} (b : Bool) → T (not b) → T b → A
-      clash true n t = absurd n
-      clash false n t = absurd t
       echoed : (q : Prog) → T (echo (trail p) q) → Bad (p ⨟ q) r
       echoed (recover S) e = inr (x .0, seq-yes (x .1) recover-is, tt, sub-off S (trail p) (x .0) e (x .3))
       echoed (eat S N) e = absurd e
@@ -522,9 +479,11 @@ module _ (R : List ℕ) (takes : List ℕ → Bool) (calls : Production → Bool
       echoed (last p) e = absurd e
       echoed (node a) e = absurd e
       echoed (memo a) e = absurd e
+
       on : T (dies (trail p) q) ⊎ T (echo (trail p) q) → Bad (p ⨟ q) r
       on (inl d) = inl (seq-yes (x .1) (dies-no (trail p) (x .0) q d (off-miss (sought (trail p) (x .0)) (x .3))))
       on (inr e) = echoed q e
+
       go : T (not (trailing p)) ⊎ T (dies (trail p) q || echo (trail p) q) → Bad (p ⨟ q) r
       go (inl n) = clash (trailing p) n (x .2)
       go (inr t) = on (or-cases (dies (trail p) q) (echo (trail p) q) t)
@@ -542,10 +501,12 @@ module _ (R : List ℕ) (takes : List ℕ → Bool) (calls : Production → Bool
           on-q (inl c) = inl c
           on-q (inr (inl n)) = inr (inl (seq-yes d n))
           on-q (inr (inr y)) = inr (inr (y .0, seq-yes d (y .1), y .2, y .3))
+
       by-mode : Sim p s (f s) → (n : Mode) → (f s) .mode ≡ n → Running n → Calm (g (f s)) ⊎ Bad (p ⨟ q) (strip (s .rest))
       by-mode x ok e k = then-q x e (x .good m e)
       by-mode x failed e k = inr (inl (seq-no (x .bad m e)))
       by-mode x (stopped w) e k = absurd k
+
       on : Running ((f s) .mode) → Calm (f s) ⊎ Bad p (strip (s .rest)) → Calm (g (f s)) ⊎ Bad (p ⨟ q) (strip (s .rest))
       on ru (inr b) = inr (follow p q (strip (s .rest)) t b)
       on ru (inl c) = by-mode (H s i (ru, c)) ((f s) .mode) refl ru
@@ -562,8 +523,10 @@ module _ (R : List ℕ) (takes : List ℕ → Bool) (calls : Production → Bool
     where
       t : State
       t = begin d s
+
       v : State
       v = nodes d false (kind a) f s
+
       finish-ok′ : (u : State) (n : ℕ) → u .mode ≡ ok → (finish false (kind a) n u) .chosen ≡ u .chosen
       finish-ok′ u n = on (u .mode) u
         where
@@ -571,17 +534,22 @@ module _ (R : List ℕ) (takes : List ℕ → Bool) (calls : Production → Bool
           on ok u e = refl
           on failed u e = not-failed e
           on (stopped w) u e = Rattle.peg.proofs.Shrink.not-stopped w e
+
       ru : Running ((f (begin d s)) .mode)
       ru = running-before (f (begin d s)) (nodes d false (kind a) f s) (finish-up Grown grown false (kind a) (length ((begin d s) .rest)) (f (begin d s))) r
+
       b : Inv (begin d s) × ((begin d s) .mode ≡ s .mode)
       b = begin-in d s i (running-before (begin d s) (f (begin d s)) (fg (begin d s)) ru)
+
       body : Calm (f (begin d s)) ⊎ Bad (grammar a) (strip (s .rest))
       body = subst (λ (l : List ℕ). Calm (f (begin d s)) ⊎ Bad (grammar a) l) (begin-strip d s) (F (begin d s) (b .1 ∙ m) (b .0) ru)
+
       on : (n : Mode) → (f (begin d s)) .mode ≡ n → Running n → Calm (f (begin d s)) ⊎ Bad (grammar a) (strip (s .rest)) → Calm (nodes d false (kind a) f s) ⊎ Bad (node a) (strip (s .rest))
       on n e k (inr x) = inr (bad-as (grammar a) (node a) (strip (s .rest)) (λ _ g. node-is g) (trail-production a) x)
       on ok e k (inl c) = inl (finish-ok′ (f (begin d s)) (length ((begin d s) .rest)) e ∙ c)
       on failed e k (inl c) = inr (inl (node-is (subst (λ (l : List ℕ). Peg (grammar a) l Res.no) (begin-strip d s) (H (begin d s) (b .0) (ru, c) .bad (b .1 ∙ m) e))))
       on (stopped w) e k (inl c) = absurd k
+
       go : (n : Mode) → (f (begin d s)) .mode ≡ n → Calm (nodes d false (kind a) f s) ⊎ Bad (node a) (strip (s .rest))
       go n e = on n e (subst Running e ru) body
 
@@ -592,7 +560,6 @@ module _ (R : List ℕ) (takes : List ℕ → Bool) (calls : Production → Bool
       (cm : (o : Bool) (a : Production) → agree.Good R (node a) (call o a))
       (cq : (a : Production) → T (calls a) → T (inner a) → Quietly (call true a))
       (cd : (a : Production) → T (calls a) → Doomed (node a) (call false a)) where
-
     sim : (p : Prog) → T (sound p) → T (low takes calls p) → (o : Bool) → Good p (exec d call p o)
     sim p t l o = lift p (exec d call p o) l (exec-sim R d call cg cs ct cm p t o)
 
@@ -670,13 +637,13 @@ module _ (R : List ℕ) (takes : List ℕ → Bool) (calls : Production → Bool
       where
         w : ℕ
         w = K .word
+
         first : State
         first = exec d call (eat (K .word ∷ []) (K .names)) true s
+
         as-seq : exec d call (grammar a) true s ≡ exec d call (K .rest) true (exec d call (eat (K .word ∷ []) (K .names)) true s)
         as-seq = ap (λ (p : Prog). exec d call p true s) (K .is)
-        clash : {A : Type 0} (b : Bool) → T (not b) → T b → A
-        clash true n t = absurd n
-        clash false n t = absurd t
+
         first-calm : (exec d call (eat (K .word ∷ []) (K .names)) true s) .chosen ≡ s .chosen
         first-calm = go (s .mode) s
           where
@@ -684,53 +651,53 @@ module _ (R : List ℕ) (takes : List ℕ → Bool) (calls : Production → Bool
             go ok s = eat-calm (K .names) (next (K .word ∷ []) (s .rest)) (turn ok s)
             go failed s = refl
             go (stopped w) s = refl
+
         still-calm : (exec d call (eat (K .word ∷ []) (K .names)) true s) .mode ≡ failed → Calm (exec d call (grammar a) true s)
         still-calm e = ap (λ (u : State). u .chosen) (as-seq ∙ blocked-same (K .rest) true (K .still) (exec d call (eat (K .word ∷ []) (K .names)) true s) e) ∙ first-calm ∙ i .base .clear
+
         rf : Running ((exec d call (eat (K .word ∷ []) (K .names)) true s) .mode)
         rf = running-before (exec d call (eat (K .word ∷ []) (K .names)) true s) (exec d call (K .rest) true (exec d call (eat (K .word ∷ []) (K .names)) true s)) (exec-grown d call cg cs ct (K .rest) true (exec d call (eat (K .word ∷ []) (K .names)) true s)) (subst (λ (u : State). Running (u .mode)) as-seq r)
+
         at-word : s .mode ≡ ok → (exec d call (eat (K .word ∷ []) (K .names)) true s) .mode ≡ ok → (r′ : List ℕ) × (strip (s .rest) ≡ K .word ∷ r′)
         at-word m e = go (exec-sim R d call cg cs ct cm (eat (K .word ∷ []) (K .names)) tt true s (i .base) (rf, first-calm ∙ i .base .clear) .good m e)
           where
             go : Won R (eat (K .word ∷ []) (K .names)) (strip (s .rest)) (strip ((exec d call (eat (K .word ∷ []) (K .names)) true s) .rest)) → (r′ : List ℕ) × (strip (s .rest) ≡ K .word ∷ r′)
             go (inl g) = (strip ((exec d call (eat (K .word ∷ []) (K .names)) true s) .rest), eat-word (K .word) (K .names) (strip (s .rest)) (strip ((exec d call (eat (K .word ∷ []) (K .names)) true s) .rest)) (K .own) g)
             go (inr x) = absurd (x .0)
+
         found : s .mode ≡ ok → (exec d call (eat (K .word ∷ []) (K .names)) true s) .mode ≡ ok → Calm (exec d call (grammar a) true s) ⊎ Bad (grammar a) (strip (s .rest)) → Calm (exec d call (grammar a) true s)
         found m e (inl c) = c
         found m e (inr (inr x)) = clash (trailing (grammar a)) (K .ends) (x .2)
         found m e (inr (inl n)) =
             let q = at-word m e in
             absurd (whole a K l (q .0) (subst Way (q .1) (on-way s m i)) (subst (λ (l : List ℕ). Peg (grammar a) l Res.no) (q .1) n))
+
         by-first : s .mode ≡ ok → (n : Mode) → (exec d call (eat (K .word ∷ []) (K .names)) true s) .mode ≡ n → Running n → Calm (exec d call (grammar a) true s)
         by-first m ok e k = found m e (doom-exec (grammar a) true t (K .fits) (shut a l) s m i r)
         by-first m failed e k = still-calm e
         by-first m (stopped w) e k = absurd k
+
         by-mode : (n : Mode) → s .mode ≡ n → Calm (exec d call (grammar a) true s)
         by-mode ok m = by-first m ((exec d call (eat (K .word ∷ []) (K .names)) true s) .mode) refl rf
         by-mode failed m = ap (λ (u : State). u .chosen) (as-seq ∙ ap (exec d call (K .rest) true) (if-ok-failed (eat-at (K .word ∷ []) (K .names)) s m) ∙ blocked-same (K .rest) true (K .still) s m) ∙ i .base .clear
         by-mode (stopped w) m = absurd (subst Running m (running-before s (exec d call (grammar a) true s) (exec-grown d call cg cs ct (grammar a) true s) r))
 
   pub run-both : (d : ℕ) → ((a : Production) → T (calls a) → T (inner a) → Quietly (run d true a)) × ((a : Production) → T (calls a) → Doomed (node a) (run d false a))
-  run-both zero = ((λ a l t s i r. absurd (no-room true a s r)), λ a l s m i r. absurd (no-room false a s r))
-    where
-      halted-stops : (w : Stop) (m : Mode) → Running (Rattle.peg.specs.Run.halted w m) → ⊥
-      halted-stops w ok r = r
-      halted-stops w failed r = r
-      halted-stops w (stopped v) r = r
-      charged : (f : ℕ) (s : State) → Running ((charge zero f s) .mode) → ⊥
-      charged zero s r = halted-stops Stop.spent (s .mode) r
-      charged (suc f) s r = halted-stops Stop.deep (s .mode) r
-      no-room : (o : Bool) (a : Production) (s : State) → Running ((run zero o a s) .mode) → ⊥
-      no-room o a s r = charged (s .fuel) (trivia s) (running-before (begin zero s) (run zero o a s) (finish-up Grown grown o (kind a) (length ((begin zero s) .rest)) (begin zero s)) r)
+  run-both zero = ((λ a l t s i r. absurd (run-zero true a s r)), λ a l s m i r. absurd (run-zero false a s r))
   run-both (suc d) = step (run-both d)
     where
       cs : (o : Bool) (b : Production) (s : State) → (run d o b s) .mode ≡ ok → s .mode ≡ ok
       cs o b s e = run-ok d o b s e .0
+
       ct : (o : Bool) (b : Production) (s : State) → (run d o b s) .mode ≡ ok → size (run d o b s) < size s
       ct o b s e = run-ok d o b s e .1
+
       inside : ((a : Production) → T (calls a) → T (inner a) → Quietly (run d true a)) × ((a : Production) → T (calls a) → Doomed (node a) (run d false a)) → (a : Production) → T (calls a) → T (plain (grammar a)) ⊎ Keyed a → Quietly (exec d (run d) (grammar a) true)
       inside h a l (inl p) = calm-exec d (run d) (grows d) cs ct (run-sim R d) (h .0) (h .1) (grammar a) (sound-productions a) p (shut a l)
       inside h a l (inr K) = keyed-calm d (run d) (grows d) cs ct (run-sim R d) (h .0) (h .1) a K l (sound-productions a)
+
       step : ((a : Production) → T (calls a) → T (inner a) → Quietly (run d true a)) × ((a : Production) → T (calls a) → Doomed (node a) (run d false a)) → ((a : Production) → T (calls a) → T (inner a) → Quietly (run (suc d) true a)) × ((a : Production) → T (calls a) → Doomed (node a) (run (suc d) false a))
-      step h =
-          ((λ a l t. q-nodes (suc d) (kind a) (exec d (run d) (grammar a) true) (exec-grown d (run d) (grows d) cs ct (grammar a) true) (inside h a l (sort a t))),
-          λ a l. d-nodes (suc d) a (exec d (run d) (grammar a) false) (exec-grown d (run d) (grows d) cs ct (grammar a) false) (lift (grammar a) (exec d (run d) (grammar a) false) (shut a l) (exec-sim R d (run d) (grows d) cs ct (run-sim R d) (grammar a) (sound-productions a) false)) (doom-exec d (run d) (grows d) cs ct (run-sim R d) (h .0) (h .1) (grammar a) false (sound-productions a) (fit-productions a) (shut a l)))
+      step h = (
+        (λ a l t. q-nodes (suc d) (kind a) (exec d (run d) (grammar a) true) (exec-grown d (run d) (grows d) cs ct (grammar a) true) (inside h a l (sort a t))),
+        λ a l. d-nodes (suc d) a (exec d (run d) (grammar a) false) (exec-grown d (run d) (grows d) cs ct (grammar a) false) (lift (grammar a) (exec d (run d) (grammar a) false) (shut a l) (exec-sim R d (run d) (grows d) cs ct (run-sim R d) (grammar a) (sound-productions a) false)) (doom-exec d (run d) (grows d) cs ct (run-sim R d) (h .0) (h .1) (grammar a) false (sound-productions a) (fit-productions a) (shut a l)),
+      )

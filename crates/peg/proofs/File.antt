@@ -1,32 +1,28 @@
 -- A reading that did not stop has no error exactly where the rows, trivia aside, are none or more rules from first to last.
 use Prim.Native.Nat.{ℕ, zero, suc, _+_, _≤_, _<_}
 use mathlib.Core.Path.{_≡_, refl, ap, sym, _∙_, subst}
-use mathlib.Core.Logic.{_⊎_, inl, inr, _↔_}
-use mathlib.Core.List.{List, [], _∷_, _++_}
-use mathlib.Core.Bool.{Bool, true, false}
+use mathlib.Core.Logic.{_↔_}
+use mathlib.Core.List.{List, [], _∷_}
+use mathlib.Core.Bool.{false}
 use mathlib.Core.Option.{Option, none, some}
 use lib.Dec.{T}
 use lib.ListN.{length}
 use native.Mathlib.Omega.{arith}
+use Rattle.kinds.specs.Sets.{idOf, pick}
 use Rattle.peg.specs.Prog.{RULE-DECL, node}
-use Rattle.kinds.specs.Sets.{idOf}
-use Rattle.peg.specs.Grammar.{grammar, kind, rule-decl}
-use Rattle.kinds.specs.Sets.{pick, trivial}
-use Rattle.peg.specs.Run.{State, Reader, Mode, ok, failed, stopped, Stop, Event, Choice, stray, Next, end, other, hit, sought, skip, gap, gap-out, trivia, turn, put, emit, skip-to, seek-out, exec, run, Limits, blame, rule-keywords, read-rule, stray-item, item-at, errors, flush, again, item, items, start, read}
-use Rattle.peg.specs.Peg.{strip, Res, Peg}
+use Rattle.peg.specs.Grammar.{grammar, rule-decl}
+use Rattle.peg.specs.Run.{State, Mode, ok, failed, stopped, Event, Choice, stray, Next, end, other, hit, sought, skip, gap, trivia, turn, put, run, Limits, rule-keywords, read-rule, stray-item, item-at, errors, flush, again, item, items, start, read}
+use Rattle.peg.specs.Peg.{strip, Res, Peg, Rules, no-more, one-rule}
+use Rattle.peg.proofs.Every.{never}
 use Rattle.peg.proofs.Induct.{exec-kept, run-kept}
 use Rattle.peg.proofs.Order.{Running, ordered}
-use Rattle.peg.proofs.Grows.{End, Grown, grown, grows, bads, Unsaid, unsaid, gap-bads, seek-bads}
-use Rattle.peg.proofs.Shrink.{size, strip-gap, strip-skip, strip-head, not-failed}
-use Rattle.peg.proofs.Agree.{Fine, nil-cons}
+use Rattle.peg.proofs.Grows.{bads, Unsaid, unsaid, gap-bads, seek-bads}
+use Rattle.peg.proofs.Shrink.{size, strip-gap, strip-head, not-failed, strip-le, size-nil}
+use Rattle.peg.proofs.Agree.{nil-cons}
 use Rattle.peg.proofs.Det.{det, yes-no}
 use Rattle.peg.proofs.First.{dies, dies-no}
 use Rattle.peg.proofs.Doom.{Off, off-miss, next-off}
-use Rattle.peg.proofs.Accept.{Rules, no-more, one-rule, Fresh, accepted, unblamed}
-
-pub size-nil : (l : List ℕ) → length l ≤ 0 → l ≡ []
-size-nil [] h = refl
-size-nil (x ∷ l) h = absurd (omega arith)
+use Rattle.peg.proofs.Accept.{Fresh, accepted, unblamed}
 
 -- the loop over items
 pub items-end : (L : Limits) → (n : ℕ) (s : State) → s .rest ≡ [] → items L (suc n) s ≡ s
@@ -122,8 +118,8 @@ sought-end S [] e = refl
 sought-end S (i ∷ is) e = at (pick S i) e
   where
     at : (x : Option ℕ) → _≡_ {A = Next} (elim x [ none ↦ other | some b ↦ hit b is ]) end → _≡_ {A = List ℕ} (i ∷ is) []
-    at none e = let z : _≡_ {A = ℕ} 0 1 = cc in absurd (omega arith)
-    at (some b) e = let z : _≡_ {A = ℕ} 0 1 = cc in absurd (omega arith)
+    at none e = never cc
+    at (some b) e = never cc
 
 -- no error: rules from here to the last row
 sound-items : (L : Limits) → (n : ℕ) (s : State) → Fresh s → size s ≤ n → Running ((items L n s) .mode) → bads ((items L n s) .out) ≡ bads (s .out) → Rules (strip (s .rest))
@@ -132,6 +128,7 @@ sound-items L (suc n) s f l r e = by-rest (s .rest) refl (sound-items L n)
   where
     t : State
     t = trivia s
+
     by-next : (x : Next) → sought rule-keywords ((trivia s) .rest) ≡ x → let v : State = again (flush (item-at L x (trivia s))) in ((u : State) → Fresh u → size u ≤ n → Running ((items L n u) .mode) → bads ((items L n u) .out) ≡ bads (u .out) → Rules (strip (u .rest))) → Running ((items L n v) .mode) → bads ((items L n v) .out) ≡ bads (s .out) → Rules (strip (s .rest))
     by-next end h H r e = subst Rules (ap strip (sym (sought-end rule-keywords ((trivia s) .rest) h)) ∙ strip-gap (s .mode) (s .rest)) no-more
     by-next other h H r e =
@@ -150,6 +147,7 @@ sound-items L (suc n) s f l r e = by-rest (s .rest) refl (sound-items L n)
         let p = accepted L (trivia s) (trivia-fresh s f) (again-running u rv, c) in
         let w : Rules (strip (v .rest)) = H v (z .0) (omega (arith, p .1, ap (λ (q : List ℕ). length (strip q)) (z .1), ap length (strip-gap (s .mode) (s .rest)))) r (omega (arith, errors-bads (u .chosen) (u .out), ap bads (z .2), rule-unsaid L (trivia s), gap-bads (s .mode) (s .rest) (s .out), ap length c)) in
         one-rule (subst (λ (q : List ℕ). Peg (node RULE-DECL) q (Res.yes (strip (u .rest)))) (strip-gap (s .mode) (s .rest)) (p .0)) (subst (λ (q : List ℕ). Rules (strip q)) (z .1) w)
+
     by-rest : (q : List ℕ) → s .rest ≡ q → ((u : State) → Fresh u → size u ≤ n → Running ((items L n u) .mode) → bads ((items L n u) .out) ≡ bads (u .out) → Rules (strip (u .rest))) → Rules (strip (s .rest))
     by-rest [] h H = subst (λ (q : List ℕ). Rules (strip q)) (sym h) no-more
     by-rest (i ∷ is) h H =
@@ -171,15 +169,19 @@ full-items L (suc n) s f r w = by-rest (s .rest) refl (full-items L n)
         go : (l : List ℕ) → Rules l → Off (sought rule-keywords l) → ⊥
         go l no-more o = o
         go l (one-rule {r′ = r′} g rs) o = yes-no r′ (det g Res.no (dies-no rule-keywords l (node RULE-DECL) rule-dies (off-miss (sought rule-keywords l) o)))
+
     behind : (l r′ : List ℕ) → Rules l → Peg (node RULE-DECL) l (Res.yes r′) → Rules r′
     behind l r′ no-more d = absurd (yes-no r′ (det d Res.no (dies-no rule-keywords [] (node RULE-DECL) rule-dies tt)))
     behind l r′ (one-rule {r′ = r₁} g rs) d = let e = det g (Res.yes r′) d in let y : r₁ ≡ r′ = cc in subst Rules y rs
+
     skip-skip : (m : Mode) → m ≡ ok → sought rule-keywords (gap m (s .rest)) ≡ Rattle.peg.specs.Run.next rule-keywords (s .rest)
     skip-skip ok e = refl
     skip-skip failed e = not-failed e
     skip-skip (stopped v) e = Rattle.peg.proofs.Shrink.not-stopped v e
+
     rules-t : Rules (strip ((trivia s) .rest))
     rules-t = subst Rules (sym (strip-gap (s .mode) (s .rest))) w
+
     by-next : (x : Next) → sought rule-keywords ((trivia s) .rest) ≡ x → let v : State = again (flush (item-at L x (trivia s))) in ((u : State) → Fresh u → Running ((items L n u) .mode) → Rules (strip (u .rest)) → bads ((items L n u) .out) ≡ bads (u .out)) → Running ((items L n v) .mode) → bads ((items L n v) .out) ≡ bads (s .out)
     by-next end h H r =
         let u : State = trivia s in
@@ -208,19 +210,12 @@ full-items L (suc n) s f r w = by-rest (s .rest) refl (full-items L n)
             gap-ok ok e = refl
             gap-ok failed e = not-failed e
             gap-ok (stopped v) e = Rattle.peg.proofs.Shrink.not-stopped v e
+
     by-rest : (q : List ℕ) → s .rest ≡ q → ((u : State) → Fresh u → Running ((items L n u) .mode) → Rules (strip (u .rest)) → bads ((items L n u) .out) ≡ bads (u .out)) → bads ((items L (suc n) s) .out) ≡ bads (s .out)
     by-rest [] h H = ap (λ (u : State). bads (u .out)) (items-end L n s h)
     by-rest (i ∷ is) h H =
         let k = items-step L n s i is h (f .is-ok) in
         ap (λ (u : State). bads (u .out)) k ∙ by-next (sought rule-keywords ((trivia s) .rest)) refl H (subst (λ (u : State). Running (u .mode)) k r)
-
-strip-le : (r : List ℕ) → length (strip r) ≤ length r
-strip-le [] = omega arith
-strip-le (i ∷ is) = go (trivial i) (strip-le is)
-  where
-    go : (b : Bool) → length (strip is) ≤ length is → length {A = ℕ} (elim b as (λ _. List ℕ) [ true ↦ strip is | false ↦ i ∷ strip is ]) ≤ suc (length is)
-    go true h = omega arith
-    go false h = omega arith
 
 pub start-fresh : (r : List ℕ) (f : ℕ) → Fresh (start r f)
 start-fresh r f = record { is-ok = refl; no-want = refl; no-unwant = refl; no-chosen = refl; no-cache = refl }

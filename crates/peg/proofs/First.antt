@@ -1,19 +1,16 @@
 -- Which programs fail where the next row is not of a set: a test over the syntax, productions unrolled to a depth.
 use Prim.Native.Nat.{ℕ, zero, suc}
-use mathlib.Core.Path.{_≡_, refl, ap, sym, _∙_, subst}
-use mathlib.Core.Logic.{_⊎_, inl, inr}
+use mathlib.Core.Path.{_≡_, sym, subst}
 use mathlib.Core.List.{List, [], _∷_}
-use mathlib.Core.Bool.{Bool, true, false, _&&_, _||_, not}
+use mathlib.Core.Bool.{Bool, true, false, _&&_, not}
 use mathlib.Core.Option.{Option, none, some}
 use lib.Dec.{T, eqb, eqb→eq}
-use native.Mathlib.Omega.{arith}
+use Rattle.kinds.specs.Sets.{idOf, pick}
 use Rattle.peg.specs.Prog.{Production, Prog, eat, unless, ifnext, opt, many, then, _⨟_, _/_, last, recover, node, memo}
-use Rattle.kinds.specs.Sets.{idOf}
 use Rattle.peg.specs.Grammar.{grammar}
-use Rattle.kinds.specs.Sets.{pick}
-use Rattle.peg.specs.Run.{Next, end, other, hit, sought}
+use Rattle.peg.specs.Run.{Next, other, hit, sought}
 use Rattle.peg.specs.Peg.{Res, Miss, Peg, eat-no, ifnext-miss, opt-no, then-is, seq-yes, seq-no, alt-no, last-is, recover-is, node-is}
-use Rattle.peg.proofs.Shrink.{and-left, and-right, or-cases}
+use Rattle.peg.proofs.Every.{and-left, and-right, clash}
 
 abbrev there : Option ℕ → Bool
 there none = false
@@ -31,18 +28,17 @@ sub-miss S′ S (i ∷ is) t m = close (pick S′ i) (none-too S′ t (open′ (
     open′ : (x : Option ℕ) → Miss (elim x as (λ _. Next) [ none ↦ other | some b ↦ hit b is ]) → T (not (there x))
     open′ none m = tt
     open′ (some b) m = m
+
     close : (x : Option ℕ) → T (not (there x)) → Miss (elim x as (λ _. Next) [ none ↦ other | some b ↦ hit b is ])
     close none m = tt
     close (some b) m = m
-    clash : {A : Type 0} (b : Bool) → T b → T (not b) → A
-    clash true t n = absurd n
-    clash false t n = absurd t
+
     none-too : (L : List ℕ) → T (sub L S) → T (not (there (pick S i))) → T (not (there (pick L i)))
     none-too [] t n = tt
     none-too (a ∷ L) t n = at (eqb i (idOf a)) (eqb→eq i (idOf a)) (none-too L (and-right (there (pick S (idOf a))) (sub L S) t) n)
       where
         at : (b : Bool) → (T b → i ≡ idOf a) → T (not (there (pick L i))) → T (not (there (elim b as (λ _. Option ℕ) [ true ↦ some a | false ↦ pick L i ])))
-        at true e h = clash (there (pick S i)) (subst (λ (j : ℕ). T (there (pick S j))) (sym (e tt)) (and-left (there (pick S (idOf a))) (sub L S) t)) n
+        at true e h = clash (there (pick S i)) n (subst (λ (j : ℕ). T (there (pick S j))) (sym (e tt)) (and-left (there (pick S (idOf a))) (sub L S) t))
         at false e h = h
 
 -- it fails; or it takes nothing and goes on

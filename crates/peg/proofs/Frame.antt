@@ -1,17 +1,16 @@
 -- More fuel, and more events written before, change nothing else: the reading is the same, with the fuel and the events added.
 use Prim.Native.Nat.{ℕ, zero, suc, _+_}
-use mathlib.Core.Path.{_≡_, refl, ap, sym, _∙_, subst}
+use mathlib.Core.Path.{_≡_, refl, ap, _∙_}
 use mathlib.Core.List.{List, [], _∷_, _++_, map}
 use mathlib.Core.Bool.{Bool, true, false}
 use lib.ListN.{length}
-use native.Mathlib.Nat.{suc-add, zero-add, add-zero}
+use native.Mathlib.Nat.{suc-add, zero-add}
 use Rattle.kinds.specs.Kinds as kinds
+use Rattle.kinds.specs.Sets.{idOf, kindOf, trivial}
 use Rattle.peg.specs.Prog.{Production}
-use Rattle.kinds.specs.Sets.{idOf, kindOf}
-use Rattle.peg.specs.Grammar.{kind}
-use Rattle.kinds.specs.Sets.{trivial}
-use Rattle.peg.specs.Run.{count, Draft, mark, State, Reader, Mode, ok, failed, stopped, Stop, spent, deep, Event, opened, leaf, closed, bad, Choice, Next, end, other, hit, next, skip, past, put, turn, pay, note, keep, emit, take, back, halt, halted, if-ok, trivia, trivia-out, gap, gap-out, expected, unexpected, choose, charge, begin, finish, unless-optional, seek, seek-out, skip-to, swallow, first-names, recovered, recovery, eat-row, eats, refuse-row, refuses, fails, thens, branch, branches, or-else, alts, opts, loop, loops, go-on, known, remember, memo-row, memos, nodes, exec, run}
-use Rattle.peg.proofs.Induct.{Kept, exec-kept, run-kept}
+use Rattle.peg.specs.Run.{count, Draft, mark, State, Reader, Mode, ok, failed, stopped, Stop, spent, deep, Event, opened, leaf, Choice, Next, end, other, hit, next, past, put, turn, emit, take, back, halted, if-ok, trivia, trivia-out, gap, gap-out, choose, charge, begin, finish, seek, seek-out, skip-to, swallow, first-names, recovered, recovery, eat-row, refuse-row, branch, or-else, loop, go-on, known, remember, memo-row, nodes, run}
+use Rattle.peg.specs.Remaining.{Running}
+use Rattle.peg.proofs.Induct.{Kept, run-kept}
 
 -- drafts, with the events q written before them, after the drafts m
 abbrev pub behind : List Event → List Draft → List Draft → List Draft
@@ -30,6 +29,11 @@ module _ (k : ℕ) (q : List Event) (b : List ℕ) (dr : List Draft) where
 
   abbrev pub Framed : Reader → Type 0
   Framed f = (s : State) → Live ((f s) .mode) → Live (s .mode) × (f (h s) ≡ h (f s))
+
+  pub running-live : (m : Mode) → Running m → Live m
+  running-live ok r = tt
+  running-live failed r = tt
+  running-live (stopped w) r = absurd r
 
   -- by cases of a test, on both sides of an equation
   by-test : (b : Bool) (x y : List Event) {x′ y′ : List Event} → x′ ≡ x ++ q → y′ ≡ y ++ q → _≡_ {A = List Event} (elim b [ true ↦ x′ | false ↦ y′ ]) ((elim b as (λ _. List Event) [ true ↦ x | false ↦ y ]) ++ q)
@@ -212,20 +216,20 @@ module _ (k : ℕ) (q : List Event) (b : List ℕ) (dr : List Draft) where
 
   pub frames : Kept Framed
   frames = record {
-      at-id = λ s l. (l, refl);
-      at-eat = λ S N. guarded (λ s. eat-row N (next S (s .rest)) s) (λ s l. eat-row-h N (next S (s .rest)) (turn ok s));
-      at-unless = λ S. guarded (λ s. refuse-row (next S (s .rest)) s) (λ s l. refuse-row-h (next S (s .rest)) (turn ok s));
-      at-ifnext = λ S f F. guarded (λ s. branch (map idOf S) f (next S (s .rest)) s) (λ s l. branch-h (map idOf S) f F (next S (s .rest)) (turn ok s) l);
-      at-opt = λ f F. guarded (λ s. or-else (λ t. t) s (f (trivia s))) (λ s l. alt-h f (λ t. t) F (λ s l. (l, refl)) (turn ok s) l);
-      at-many = λ f F. guarded (λ s. loop f (suc (length (s .rest))) s) (λ s l. loop-h f F (suc (length (s .rest))) (turn ok s) l);
-      at-then = λ f F. guarded (λ s. f (trivia s)) (λ s l. after f F (turn ok s) l);
-      at-seq = λ f g F G s l. let b = G (f s) l in let a = F s (b .0) in (a .0, ap g (a .1) ∙ b .1);
-      at-alt = λ f g F G. guarded (λ s. or-else g s (f (trivia s))) (λ s l. alt-h f g F G (turn ok s) l);
-      at-fail = guarded (λ s. turn failed s) (λ s l. refl);
-      at-recover = recovery-h;
-      at-memo = λ a f F. guarded (λ s. memo-row a f (known (s .cache) (length (s .rest)) a) s) (λ s l. memo-row-h a f F (known (s .cache) (length (s .rest)) a) (turn ok s) l);
-      at-node = nodes-h
-    }
+    at-id = λ s l. (l, refl);
+    at-eat = λ S N. guarded (λ s. eat-row N (next S (s .rest)) s) (λ s l. eat-row-h N (next S (s .rest)) (turn ok s));
+    at-unless = λ S. guarded (λ s. refuse-row (next S (s .rest)) s) (λ s l. refuse-row-h (next S (s .rest)) (turn ok s));
+    at-ifnext = λ S f F. guarded (λ s. branch (map idOf S) f (next S (s .rest)) s) (λ s l. branch-h (map idOf S) f F (next S (s .rest)) (turn ok s) l);
+    at-opt = λ f F. guarded (λ s. or-else (λ t. t) s (f (trivia s))) (λ s l. alt-h f (λ t. t) F (λ s l. (l, refl)) (turn ok s) l);
+    at-many = λ f F. guarded (λ s. loop f (suc (length (s .rest))) s) (λ s l. loop-h f F (suc (length (s .rest))) (turn ok s) l);
+    at-then = λ f F. guarded (λ s. f (trivia s)) (λ s l. after f F (turn ok s) l);
+    at-seq = λ f g F G s l. let b = G (f s) l in let a = F s (b .0) in (a .0, ap g (a .1) ∙ b .1);
+    at-alt = λ f g F G. guarded (λ s. or-else g s (f (trivia s))) (λ s l. alt-h f g F G (turn ok s) l);
+    at-fail = guarded (λ s. turn failed s) (λ s l. refl);
+    at-recover = recovery-h;
+    at-memo = λ a f F. guarded (λ s. memo-row a f (known (s .cache) (length (s .rest)) a) s) (λ s l. memo-row-h a f F (known (s .cache) (length (s .rest)) a) (turn ok s) l);
+    at-node = nodes-h;
+  }
     where
       alt-h : (f g : Reader) → Framed f → Framed g → (s : State) → Live ((or-else g s (f (trivia s))) .mode) → or-else g (h s) (f (trivia (h s))) ≡ h (or-else g s (f (trivia s)))
       alt-h f g F G s l = ap (or-else g (h s)) (after f F s (or-else-live g s (f (trivia s)) l)) ∙ or-else-h g G s (f (trivia s)) l

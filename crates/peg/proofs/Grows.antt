@@ -1,19 +1,20 @@
 -- What every reader does: it takes rows off the front, adds events and pending errors, never leaves a stop, and fuel does not grow.
-use Prim.Native.Nat.{ℕ, zero, suc, _+_, _≤_}
+use Prim.Native.Nat.{ℕ, suc, _+_, _≤_, zero}
 use mathlib.Core.Path.{_≡_, refl, ap, sym, _∙_, subst}
 use mathlib.Core.List.{List, [], _∷_, _++_, append-assoc, append-nil}
 use mathlib.Core.Bool.{Bool, true, false}
 use mathlib.Core.Option.{Option, none, some}
 use lib.ListN.{length}
-use native.Mathlib.Nat.{le-refl, le-trans}
+use native.Mathlib.Nat.{le-refl}
 use native.Mathlib.Omega.{arith}
+use Rattle.kinds.specs.Sets.{kindOf, pick, trivial}
 use Rattle.peg.specs.Prog.{Production}
-use Rattle.kinds.specs.Sets.{idOf, kindOf}
-use Rattle.kinds.specs.Sets.{pick, trivial}
-use Rattle.peg.specs.Run.{State, Mode, ok, failed, stopped, Stop, Event, leaf, Choice, Next, end, other, hit, next, sought, skip, past, gap, gap-out, trivia, trivia-out, seek, seek-out, skip-to, take, turn, pending, add, decide, choose, run, wanted, unwanted}
+use Rattle.peg.specs.Run.{State, Mode, ok, failed, stopped, Stop, Event, leaf, Choice, Next, other, hit, next, sought, skip, past, gap, gap-out, trivia-out, seek, seek-out, pending, add, decide, run, wanted, unwanted, spent, deep, trivia, charge, begin, finish}
 pub use Rattle.peg.specs.Render.{bads}
-use Rattle.peg.proofs.Induct.{Kept, run-kept}
-use Rattle.peg.proofs.Order.{Order, ordered, Running, Plain}
+use Rattle.peg.specs.Grammar.{kind}
+use Rattle.peg.proofs.Every.{never}
+use Rattle.peg.proofs.Induct.{run-kept}
+use Rattle.peg.proofs.Order.{Order, ordered, Running, Plain, halted-not, finish-up}
 
 -- a is an end of b
 abbrev pub End : {A : Type 0} → List A → List A → Type 0
@@ -72,11 +73,11 @@ seek-out-end S (i ∷ is) o = go (past (next S (i ∷ is))) (seek-out-end S is (
 
 -- what `hit` says of the rows
 pub sought-hit : (S r : List ℕ) (a : ℕ) (is : List ℕ) → sought S r ≡ hit a is → (i : ℕ) × (r ≡ i ∷ is)
-sought-hit S [] a is e = let z : _≡_ {A = ℕ} 0 1 = cc in absurd (omega arith)
+sought-hit S [] a is e = never cc
 sought-hit S (i ∷ js) a is e = go (pick S i) e
   where
     go : (x : Option ℕ) → _≡_ {A = Next} (elim x [ none ↦ other | some b ↦ hit b js ]) (hit a is) → (j : ℕ) × (_≡_ {A = List ℕ} (i ∷ js) (j ∷ is))
-    go none e = let z : _≡_ {A = ℕ} 0 1 = cc in absurd (omega arith)
+    go none e = never cc
     go (some b) e = let z : js ≡ is = cc in (i, ap (λ (l : List ℕ). i ∷ l) z)
 
 pub take-end : (S r : List ℕ) (a : ℕ) (is : List ℕ) → next S r ≡ hit a is → End is r
@@ -126,28 +127,45 @@ not-running m w r e = subst Running e r
 
 pub grown : Order Grown
 grown = record {
-    same = λ s. still s s refl refl refl refl refl;
-    trans = λ s t u p q. record {
-        rows = end-trans (u .rest) (t .rest) (s .rest) (q .rows) (p .rows);
-        events = end-trans (s .out) (t .out) (u .out) (p .events) (q .events);
-        errors = front-trans (s .chosen) (t .chosen) (u .chosen) (p .errors) (q .errors);
-        fuels = omega (arith, p .fuels, q .fuels);
-        stops = λ w e. q .stops w (p .stops w e) };
-    at-turn = λ m s r. record { rows = end-refl (s .rest); events = end-refl (s .out); errors = front-refl (s .chosen); fuels = le-refl (s .fuel); stops = λ w e. absurd (not-running (s .mode) w r e) };
-    at-note = λ w u s. still s _ refl refl refl refl refl;
-    at-choose = λ s. record { rows = end-refl (s .rest); events = end-refl (s .out); errors = decide-front (s .want) (s .unwant) (s .chosen); fuels = le-refl (s .fuel); stops = λ w e. e };
-    at-pay = λ s f e. record { rows = end-refl (s .rest); events = end-refl (s .out); errors = front-refl (s .chosen); fuels = omega arith; stops = λ w e. e };
-    at-keep = λ r a s. still s _ refl refl refl refl refl;
-    at-count = λ s. still s _ refl refl refl refl refl;
-    at-emit = λ x p s. record { rows = end-refl (s .rest); events = end-cons x (s .out) (s .out) (end-refl (s .out)); errors = front-refl (s .chosen); fuels = le-refl (s .fuel); stops = λ w e. e };
-    at-trivia = λ s. record { rows = gap-end (s .mode) (s .rest); events = gap-out-end (s .mode) (s .rest) (s .out); errors = front-refl (s .chosen); fuels = le-refl (s .fuel); stops = λ w e. e };
-    at-take = λ S s a is m e. record { rows = take-end S (s .rest) a is e; events = end-cons _ (s .out) _ (gap-out-end (s .mode) (s .rest) (s .out)); errors = front-refl (s .chosen); fuels = le-refl (s .fuel); stops = λ w e. e };
-    at-skip = λ S s. record { rows = seek-end S (s .rest); events = seek-out-end S (s .rest) (s .out); errors = front-refl (s .chosen); fuels = le-refl (s .fuel); stops = λ w e. e };
-    at-back = λ s t p. record { rows = end-refl (s .rest); events = end-refl (s .out); errors = p .errors; fuels = p .fuels; stops = p .stops }
-  }
+  same = λ s. still s s refl refl refl refl refl;
+  trans = λ s t u p q. record {
+    rows = end-trans (u .rest) (t .rest) (s .rest) (q .rows) (p .rows);
+    events = end-trans (s .out) (t .out) (u .out) (p .events) (q .events);
+    errors = front-trans (s .chosen) (t .chosen) (u .chosen) (p .errors) (q .errors);
+    fuels = omega (arith, p .fuels, q .fuels);
+    stops = λ w e. q .stops w (p .stops w e);
+  };
+  at-turn = λ m s r. record { rows = end-refl (s .rest); events = end-refl (s .out); errors = front-refl (s .chosen); fuels = le-refl (s .fuel); stops = λ w e. absurd (not-running (s .mode) w r e) };
+  at-note = λ w u s. still s _ refl refl refl refl refl;
+  at-choose = λ s. record { rows = end-refl (s .rest); events = end-refl (s .out); errors = decide-front (s .want) (s .unwant) (s .chosen); fuels = le-refl (s .fuel); stops = λ w e. e };
+  at-pay = λ s f e. record { rows = end-refl (s .rest); events = end-refl (s .out); errors = front-refl (s .chosen); fuels = omega arith; stops = λ w e. e };
+  at-keep = λ r a s. still s _ refl refl refl refl refl;
+  at-count = λ s. still s _ refl refl refl refl refl;
+  at-emit = λ x p s. record { rows = end-refl (s .rest); events = end-cons x (s .out) (s .out) (end-refl (s .out)); errors = front-refl (s .chosen); fuels = le-refl (s .fuel); stops = λ w e. e };
+  at-trivia = λ s. record { rows = gap-end (s .mode) (s .rest); events = gap-out-end (s .mode) (s .rest) (s .out); errors = front-refl (s .chosen); fuels = le-refl (s .fuel); stops = λ w e. e };
+  at-take = λ S s a is m e. record { rows = take-end S (s .rest) a is e; events = end-cons _ (s .out) _ (gap-out-end (s .mode) (s .rest) (s .out)); errors = front-refl (s .chosen); fuels = le-refl (s .fuel); stops = λ w e. e };
+  at-skip = λ S s. record { rows = seek-end S (s .rest); events = seek-out-end S (s .rest) (s .out); errors = front-refl (s .chosen); fuels = le-refl (s .fuel); stops = λ w e. e };
+  at-back = λ s t p. record { rows = end-refl (s .rest); events = end-refl (s .out); errors = p .errors; fuels = p .fuels; stops = p .stops };
+}
 
 pub grows : (d : ℕ) (o : Bool) (a : Production) (s : State) → Grown s (run d o a s)
 grows d o a = run-kept (ordered Grown grown) d o a
+
+pub running-before : (s t : State) → Grown s t → Running (t .mode) → Running (s .mode)
+running-before s t g r = go (s .mode) refl
+  where
+    go : (m : Mode) → s .mode ≡ m → Running m
+    go ok e = tt
+    go failed e = tt
+    go (stopped w) e = subst Running (g .stops w e) r
+
+charge-not : (f : ℕ) (t : State) → Running ((charge zero f t) .mode) → ⊥
+charge-not zero t r = halted-not spent (t .mode) r
+charge-not (suc f) t r = halted-not deep (t .mode) r
+
+-- with no depth left a production stops
+pub run-zero : (o : Bool) (a : Production) (s : State) → Running ((run zero o a s) .mode) → ⊥
+run-zero o a s r = let t : State = begin zero s in charge-not (s .fuel) (trivia s) (running-before t (finish o (kind a) (length (t .rest)) t) (finish-up Grown grown o (kind a) (length (t .rest)) t) r)
 
 -- no error event is written inside an item
 abbrev pub Unsaid : State → State → Type 0
@@ -182,17 +200,17 @@ plain-bads (Event.bad n c) o p = absurd p
 
 pub unsaid : Order Unsaid
 unsaid = record {
-    same = λ s. refl;
-    trans = λ s t u p q. q ∙ p;
-    at-turn = λ m s r. refl;
-    at-note = λ w u s. refl;
-    at-choose = λ s. refl;
-    at-pay = λ s f e. refl;
-    at-keep = λ r a s. refl;
-    at-count = λ s. refl;
-    at-emit = λ e p s. plain-bads e (s .out) p;
-    at-trivia = λ s. gap-bads (s .mode) (s .rest) (s .out);
-    at-take = λ S s a is m e. gap-bads (s .mode) (s .rest) (s .out);
-    at-skip = λ S s. seek-bads S (s .rest) (s .out);
-    at-back = λ s t p. refl
-  }
+  same = λ s. refl;
+  trans = λ s t u p q. q ∙ p;
+  at-turn = λ m s r. refl;
+  at-note = λ w u s. refl;
+  at-choose = λ s. refl;
+  at-pay = λ s f e. refl;
+  at-keep = λ r a s. refl;
+  at-count = λ s. refl;
+  at-emit = λ e p s. plain-bads e (s .out) p;
+  at-trivia = λ s. gap-bads (s .mode) (s .rest) (s .out);
+  at-take = λ S s a is m e. gap-bads (s .mode) (s .rest) (s .out);
+  at-skip = λ S s. seek-bads S (s .rest) (s .out);
+  at-back = λ s t p. refl;
+}

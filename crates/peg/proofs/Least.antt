@@ -1,23 +1,22 @@
 -- The fuel that a finished reading used is the least that finishes it: with less, the reading ends out of fuel.
 use Prim.Native.Nat.{ℕ, zero, suc, _+_, _-_, _≤_, _<_}
-use mathlib.Core.Path.{_≡_, refl, ap, ap₂, sym, _∙_, subst}
+use mathlib.Core.Path.{_≡_, refl, ap, sym, _∙_, subst}
 use mathlib.Core.Logic.{_⊎_, inl, inr}
-use mathlib.Core.List.{List, [], _∷_, _++_, map}
-use mathlib.Core.Bool.{Bool, true, false}
-use mathlib.Core.Option.{Option, none, some}
+use mathlib.Core.List.{List, [], _∷_, map}
+use mathlib.Core.Bool.{Bool, true, false, not}
+use lib.Dec.{T, ltb, ltb→lt, nltb→le}
 use lib.ListN.{length}
 use native.Mathlib.Nat.{suc-add, zero-add, le-refl}
 use native.Mathlib.Omega.{arith}
 use Rattle.kinds.specs.Kinds as kinds
 use Rattle.kinds.specs.Sets.{idOf}
 use Rattle.peg.specs.Grammar.{rule-decl}
-use Rattle.peg.specs.Run.{State, Reader, Limits, Draft, Event, Choice, Mode, ok, failed, stopped, Stop, spent, deep, Next, end, other, hit, next, sought, trivia, turn, put, back, pay, charge, halted, begin, finish, nodes, skip-to, swallow, first-names, choose, recovered, recovery, if-ok, or-else, go-on, loop, branch, eat-row, refuse-row, memo-row, remember, known, fails, exec, run, rule-keywords, read-rule, stray-item, item-at, flush, again, item, items, start, read}
+use Rattle.peg.specs.Run.{State, Reader, Limits, Draft, Event, Choice, Mode, ok, failed, stopped, Stop, spent, deep, Next, end, other, hit, next, sought, trivia, turn, put, back, pay, charge, halted, begin, finish, nodes, skip-to, swallow, first-names, choose, recovered, recovery, if-ok, or-else, go-on, loop, branch, eat-row, refuse-row, memo-row, remember, known, fails, run, rule-keywords, read-rule, stray-item, item-at, flush, again, item, items, start, read, begin-steps}
 use Rattle.peg.proofs.Induct.{Kept, exec-kept, run-kept}
-use Rattle.peg.proofs.Order.{Running, Order, ordered, steps, loop-up, finish-up, recovery-up}
-use Rattle.peg.proofs.Frame.{h, Live, Framed, frames, trivia-h, skip-to-h, begin-h, choose-h, first-names-h}
-use Rattle.peg.proofs.Whole.{items-h, item-h, item-at-h}
-use Rattle.peg.proofs.Suffix.{items-stuck}
-use Rattle.peg.proofs.Fuel.{halted-not, begin-steps, fuel-exact, less-fuel}
+use Rattle.peg.proofs.Order.{Running, Order, ordered, steps, loop-up, finish-up}
+use Rattle.peg.proofs.Frame.{h, Framed, frames, trivia-h, skip-to-h, begin-h, first-names-h, running-live}
+use Rattle.peg.proofs.Whole.{item-h, item-at-h}
+use Rattle.peg.proofs.Fuel.{fuel-left, fuel-exact, more-fuel, less-fuel}
 
 -- a stop stands, and fuel does not grow
 pub record Ebb (s t : State) : Type 0 where
@@ -32,20 +31,20 @@ quiet s t a b = record { stops = λ w e. a ∙ e; fuels = omega (arith, b) }
 
 ebbing : Order Ebb
 ebbing = record {
-    same = λ s. quiet s s refl refl;
-    trans = λ s t u p q. record { stops = λ w e. q .stops w (p .stops w e); fuels = omega (arith, p .fuels, q .fuels) };
-    at-turn = λ m s r. record { stops = λ w e. not-both (s .mode) w r e; fuels = le-refl (s .fuel) };
-    at-note = λ w u s. quiet s _ refl refl;
-    at-choose = λ s. quiet s _ refl refl;
-    at-count = λ s. quiet s _ refl refl;
-    at-pay = λ s f e. record { stops = λ w e. e; fuels = omega (arith, e) };
-    at-keep = λ r a s. quiet s _ refl refl;
-    at-emit = λ x p s. quiet s _ refl refl;
-    at-trivia = λ s. quiet s _ refl refl;
-    at-take = λ S s a is m e. quiet s _ refl refl;
-    at-skip = λ S s. quiet s _ refl refl;
-    at-back = λ s t p. record { stops = p .stops; fuels = p .fuels }
-  }
+  same = λ s. quiet s s refl refl;
+  trans = λ s t u p q. record { stops = λ w e. q .stops w (p .stops w e); fuels = omega (arith, p .fuels, q .fuels) };
+  at-turn = λ m s r. record { stops = λ w e. not-both (s .mode) w r e; fuels = le-refl (s .fuel) };
+  at-note = λ w u s. quiet s _ refl refl;
+  at-choose = λ s. quiet s _ refl refl;
+  at-count = λ s. quiet s _ refl refl;
+  at-pay = λ s f e. record { stops = λ w e. e; fuels = omega (arith, e) };
+  at-keep = λ r a s. quiet s _ refl refl;
+  at-emit = λ x p s. quiet s _ refl refl;
+  at-trivia = λ s. quiet s _ refl refl;
+  at-take = λ S s a is m e. quiet s _ refl refl;
+  at-skip = λ S s. quiet s _ refl refl;
+  at-back = λ s t p. record { stops = p .stops; fuels = p .fuels };
+}
 
 module _ (j : ℕ) (q : List Event) (b : List ℕ) (dr : List Draft) where
   abbrev H : State → State
@@ -68,17 +67,13 @@ module _ (j : ℕ) (q : List Event) (b : List ℕ) (dr : List Draft) where
   gone-on t t′ u u′ a c (inl z) = inl (a .stops spent (z .0), omega (arith, c .fuels, z .1))
   gone-on t t′ u u′ a c (inr z) = inr (a .stops deep (z .0), c .stops deep (z .1))
 
-  live : (m : Mode) → Running m → Live (suc j) q b dr m
-  live ok r = tt
-  live failed r = tt
-  live (stopped w) r = absurd r
-
   -- f, then g
   seq-halts : (f g : Reader) → F f → E g → Halts f → Halts g → Halts (λ s. g (f s))
   seq-halts f g F e A B s r w z = go ((f s) .mode) refl
     where
       both : Running ((f s) .mode) → Gone (g (f s)) (g (f (H s)))
-      both k = subst (λ (u : State). Gone (g (f s)) (g u)) (sym (F s (live ((f s) .mode) k) .1)) (B (f s) k w z)
+      both k = subst (λ (u : State). Gone (g (f s)) (g u)) (sym (F s (running-live (suc j) q b dr ((f s) .mode) k) .1)) (B (f s) k w z)
+
       go : (m : Mode) → (f s) .mode ≡ m → Gone (g (f s)) (g (f (H s)))
       go ok x = both (subst Running (sym x) tt)
       go failed x = both (subst Running (sym x) tt)
@@ -97,7 +92,7 @@ module _ (j : ℕ) (q : List Event) (b : List ℕ) (dr : List Draft) where
   after f A s w z = subst (λ (u : State). Gone (f (trivia (turn ok s))) (f u)) (sym (trivia-h (suc j) q b dr (turn ok s))) (A (trivia (turn ok s)) tt w z)
 
   framed-after : (f : Reader) → F f → (s : State) → Running ((f (trivia s)) .mode) → f (trivia (H s)) ≡ H (f (trivia s))
-  framed-after f F s k = ap f (trivia-h (suc j) q b dr s) ∙ F (trivia s) (live ((f (trivia s)) .mode) k) .1
+  framed-after f F s k = ap f (trivia-h (suc j) q b dr s) ∙ F (trivia s) (running-live (suc j) q b dr ((f (trivia s)) .mode) k) .1
 
   or-else-ebb : (g : Reader) → E g → (s t : State) → Ebb t (or-else g s t)
   or-else-ebb g e s t = go (t .mode) t
@@ -243,20 +238,20 @@ module _ (j : ℕ) (q : List Event) (b : List ℕ) (dr : List Draft) where
 
   halting : Kept All
   halting = record {
-      at-id = (KE .at-id, KF .at-id, id-halts);
-      at-eat = λ S N. (KE .at-eat S N, KF .at-eat S N, guarded (λ s. eat-row N (next S (s .rest)) s) (λ s w z. eat-halts N (next S (s .rest)) s w z));
-      at-unless = λ S. (KE .at-unless S, KF .at-unless S, guarded (λ s. refuse-row (next S (s .rest)) s) (λ s w z. refuse-halts (next S (s .rest)) s w z));
-      at-ifnext = λ S f A. (KE .at-ifnext S f (A .0), KF .at-ifnext S f (A .1), guarded (λ s. branch (map idOf S) f (next S (s .rest)) s) (λ s w z. branch-halts (map idOf S) f (A .2) (next S (s .rest)) s w z));
-      at-opt = λ f A. (KE .at-opt f (A .0), KF .at-opt f (A .1), alt-halts f (λ t. t) (A .1) (KE .at-id) (A .2) id-halts);
-      at-many = λ f A. (KE .at-many f (A .0), KF .at-many f (A .1), guarded (λ s. loop f (suc (length (s .rest))) s) (λ s w z. loop-any f (A .1) (A .0) (A .2) (suc (length (s .rest))) (turn ok s) tt w z));
-      at-then = λ f A. (KE .at-then f (A .0), KF .at-then f (A .1), guarded (λ s. f (trivia s)) (λ s w z. after f (A .2) s w z));
-      at-seq = λ f g A B. (KE .at-seq f g (A .0) (B .0), KF .at-seq f g (A .1) (B .1), seq-halts f g (A .1) (B .0) (A .2) (B .2));
-      at-alt = λ f g A B. (KE .at-alt f g (A .0) (B .0), KF .at-alt f g (A .1) (B .1), alt-halts f g (A .1) (B .0) (A .2) (B .2));
-      at-fail = (KE .at-fail, KF .at-fail, fails-halts);
-      at-recover = λ d o S. (KE .at-recover d o S, KF .at-recover d o S, recovery-halts d o S);
-      at-memo = λ a f A. (KE .at-memo a f (A .0), KF .at-memo a f (A .1), guarded (λ s. memo-row a f (known (s .cache) (length (s .rest)) a) s) (λ s w z. memo-halts a f (A .2) (known (s .cache) (length (s .rest)) a) s w z));
-      at-node = λ d o a f A. (KE .at-node d o a f (A .0), KF .at-node d o a f (A .1), node-halts d o a f (A .0) (A .1) (A .2))
-    }
+    at-id = (KE .at-id, KF .at-id, id-halts);
+    at-eat = λ S N. (KE .at-eat S N, KF .at-eat S N, guarded (λ s. eat-row N (next S (s .rest)) s) (λ s w z. eat-halts N (next S (s .rest)) s w z));
+    at-unless = λ S. (KE .at-unless S, KF .at-unless S, guarded (λ s. refuse-row (next S (s .rest)) s) (λ s w z. refuse-halts (next S (s .rest)) s w z));
+    at-ifnext = λ S f A. (KE .at-ifnext S f (A .0), KF .at-ifnext S f (A .1), guarded (λ s. branch (map idOf S) f (next S (s .rest)) s) (λ s w z. branch-halts (map idOf S) f (A .2) (next S (s .rest)) s w z));
+    at-opt = λ f A. (KE .at-opt f (A .0), KF .at-opt f (A .1), alt-halts f (λ t. t) (A .1) (KE .at-id) (A .2) id-halts);
+    at-many = λ f A. (KE .at-many f (A .0), KF .at-many f (A .1), guarded (λ s. loop f (suc (length (s .rest))) s) (λ s w z. loop-any f (A .1) (A .0) (A .2) (suc (length (s .rest))) (turn ok s) tt w z));
+    at-then = λ f A. (KE .at-then f (A .0), KF .at-then f (A .1), guarded (λ s. f (trivia s)) (λ s w z. after f (A .2) s w z));
+    at-seq = λ f g A B. (KE .at-seq f g (A .0) (B .0), KF .at-seq f g (A .1) (B .1), seq-halts f g (A .1) (B .0) (A .2) (B .2));
+    at-alt = λ f g A B. (KE .at-alt f g (A .0) (B .0), KF .at-alt f g (A .1) (B .1), alt-halts f g (A .1) (B .0) (A .2) (B .2));
+    at-fail = (KE .at-fail, KF .at-fail, fails-halts);
+    at-recover = λ d o S. (KE .at-recover d o S, KF .at-recover d o S, recovery-halts d o S);
+    at-memo = λ a f A. (KE .at-memo a f (A .0), KF .at-memo a f (A .1), guarded (λ s. memo-row a f (known (s .cache) (length (s .rest)) a) s) (λ s w z. memo-halts a f (A .2) (known (s .cache) (length (s .rest)) a) s w z));
+    at-node = λ d o a f A. (KE .at-node d o a f (A .0), KF .at-node d o a f (A .1), node-halts d o a f (A .0) (A .1) (A .2));
+  }
 
   rule-all : (L : Limits) → All (read-rule L)
   unfolding read-rule
@@ -317,14 +312,16 @@ module _ (j : ℕ) (q : List Event) (b : List ℕ) (dr : List Draft) where
       go (i ∷ is) (stopped v) s A r w z = absurd r
       go (i ∷ is) ok s A r w z = seq-halts (item L) (items L n) (item-h L (suc j) q b dr) (items-ebb L n) (item-halts L) A (turn ok (put (i ∷ is) (s .out) s)) tt w z
 
--- (xiii) whole: at a fixed depth limit, on less fuel than a finished reading used the reading ends out of fuel
+-- request (xiii), whole: at a fixed depth limit, on less fuel than a finished reading used the reading ends out of fuel
 pub too-little : (L : Limits) (r : List ℕ) (f g : ℕ) → Running ((read L r f) .mode) → g < begin-steps L r f → (read L r g) .mode ≡ stopped spent
 too-little L r f g z l = by ((read L r g) .mode) refl
   where
     j : ℕ
     j = (f - g) - 1
+
     e : g + suc ((f - g) - 1) ≡ f
     e = omega (arith, l, fuel-exact L r f z)
+
     by : (m : Mode) → (read L r g) .mode ≡ m → (read L r g) .mode ≡ stopped spent
     by ok x = absurd (less-fuel L r f g z l (subst Running (sym x) tt))
     by failed x = absurd (less-fuel L r f g z l (subst Running (sym x) tt))
@@ -340,6 +337,7 @@ enough-fuel L r f g z l k = by ((read L r g) .mode) refl
   where
     e : g + suc ((f - g) - 1) ≡ f
     e = omega (arith, k)
+
     by : (m : Mode) → (read L r g) .mode ≡ m → Running ((read L r g) .mode)
     by ok x = subst Running (sym x) tt
     by failed x = subst Running (sym x) tt
@@ -348,3 +346,20 @@ enough-fuel L r f g z l k = by ((read L r g) .mode) refl
         at : (((read L r g) .mode ≡ stopped spent) × ((read L r (g + suc ((f - g) - 1))) .fuel < suc ((f - g) - 1))) ⊎ (((read L r g) .mode ≡ stopped deep) × ((read L r (g + suc ((f - g) - 1))) .mode ≡ stopped deep)) → ⊥
         at (inl y) = omega (arith, y .1, ap (λ (n : ℕ). (read L r n) .fuel) e, fuel-exact L r f z, l, k)
         at (inr y) = not-both ((read L r f) .mode) deep z (ap (λ (n : ℕ). (read L r n) .mode) (sym e) ∙ y .1)
+
+-- on any fuel that is not less than was used, the reading is the same in all but the fuel left
+pub same-reading : (L : Limits) (r : List ℕ) (f g : ℕ) → Running ((read L r f) .mode) → begin-steps L r f ≤ g → read L r g ≡ pay (g - begin-steps L r f) (read L r f)
+same-reading L r f g z l = paid (by (ltb g f) (ltb→lt g f) (nltb→le g f))
+  where
+    larger : f ≤ g → (a : ℕ) × (read L r g ≡ pay a (read L r f))
+    larger m = let e : f + (g - f) ≡ g = omega (arith, m) in (_, ap (read L r) (sym e) ∙ more-fuel L r f (g - f) z)
+
+    smaller : g < f → (a : ℕ) × (read L r g ≡ pay a (read L r f))
+    smaller m = let e : g + (f - g) ≡ f = omega (arith, m) in ((read L r g) .fuel, ap (pay ((read L r g) .fuel)) (sym (ap (read L r) (sym e) ∙ more-fuel L r g (f - g) (enough-fuel L r f g z l m))))
+
+    by : (b : Bool) → (T b → g < f) → (T (not b) → f ≤ g) → (a : ℕ) × (read L r g ≡ pay a (read L r f))
+    by true m n = smaller (m tt)
+    by false m n = larger (n tt)
+
+    paid : ((a : ℕ) × (read L r g ≡ pay a (read L r f))) → read L r g ≡ pay (g - begin-steps L r f) (read L r f)
+    paid q = q .1 ∙ ap (λ (a : ℕ). pay a (read L r f)) (sym (ap (λ (s : State). s .fuel) (q .1)) ∙ fuel-left L r g ∙ ap (λ (s : State). g - length (s .begun)) (q .1))

@@ -1,19 +1,20 @@
 -- An order on states that each small change respects is respected by every program: from what a state is to what it becomes.
-use Prim.Native.Nat.{ℕ, zero, suc, _+_}
-use mathlib.Core.Path.{_≡_, refl, ap, sym, _∙_, subst}
-use mathlib.Core.List.{List, [], _∷_, _++_, map}
+use Prim.Native.Nat.{ℕ, zero, suc}
+use mathlib.Core.Path.{_≡_, refl, sym, subst}
+use mathlib.Core.List.{List, [], _∷_, map}
 use mathlib.Core.Bool.{Bool, true, false}
 use mathlib.Core.Option.{Option}
 use lib.ListN.{length}
 use Rattle.kinds.specs.Kinds as kinds
 use Rattle.kinds.specs.Sets.{idOf}
-use Rattle.peg.specs.Run.{count, State, Reader, Mode, ok, failed, stopped, Stop, spent, deep, Event, opened, leaf, closed, bad, Choice, Next, end, other, hit, next, put, turn, pay, note, keep, emit, take, back, halt, halted, if-ok, trivia, expected, unexpected, choose, charge, begin, finish, unless-optional, skip-to, swallow, first-names, recovered, recovery, eat-row, eats, refuse-row, refuses, fails, thens, branch, branches, or-else, alts, opts, loop, loops, go-on, known, remember, memo-row, memos, nodes, exec, run}
+use Rattle.peg.specs.Run.{count, State, Reader, Mode, ok, failed, stopped, Stop, spent, deep, Event, opened, leaf, closed, bad, Choice, Next, end, other, hit, next, turn, pay, note, keep, emit, take, back, halt, if-ok, trivia, expected, unexpected, choose, charge, begin, finish, unless-optional, skip-to, swallow, first-names, recovered, recovery, eat-row, refuse-row, branch, or-else, loop, go-on, known, remember, memo-row, nodes, halted}
+pub use Rattle.peg.specs.Remaining.{Running}
 use Rattle.peg.proofs.Induct.{Kept}
 
-abbrev pub Running : Mode → Type 0
-Running ok = Unit
-Running failed = Unit
-Running (stopped w) = ⊥
+pub halted-not : (w : Stop) (m : Mode) → Running (halted w m) → ⊥
+halted-not w ok r = r
+halted-not w failed r = r
+halted-not w (stopped v) r = r
 
 abbrev pub Plain : Event → Type 0
 Plain (opened n) = Unit
@@ -145,20 +146,20 @@ module _ (Q : State → State → Type 0) (O : Steps Q) where
 
   pub stepped : Kept Up
   stepped = record {
-      at-id = λ s. O .same s;
-      at-eat = λ S N. guarded (λ s. eat-row N (next S (s .rest)) s) (λ s e. eat-row-up S N s e (next S (s .rest)) refl);
-      at-unless = λ S. guarded (λ s. refuse-row (next S (s .rest)) s) (λ s e. refuse-row-up s e (next S (s .rest)));
-      at-ifnext = λ S f F. guarded (λ s. branch (map idOf S) f (next S (s .rest)) s) (λ s e. branch-up (map idOf S) f F s (next S (s .rest)));
-      at-opt = λ f F. guarded (λ s. or-else (λ t. t) s (f (trivia s))) (λ s e. or-else-up (λ t. t) (λ t. O .same t) s (f (trivia s)) (after f F s));
-      at-many = λ f F. guarded (λ s. loop f (suc (length (s .rest))) s) (λ s e. loop-up f F (suc (length (s .rest))) s);
-      at-then = λ f F. guarded (λ s. f (trivia s)) (λ s e. after f F s);
-      at-seq = λ f g F G s. O .trans s (f s) (g (f s)) (F s) (G (f s));
-      at-alt = λ f g F G. guarded (λ s. or-else g s (f (trivia s))) (λ s e. or-else-up g G s (f (trivia s)) (after f F s));
-      at-fail = guarded (λ s. turn failed s) (λ s e. O .at-turn failed s (running (s .mode) e));
-      at-recover = recover-up;
-      at-memo = λ a f F. guarded (λ s. memo-row a f (known (s .cache) (length (s .rest)) a) s) (λ s e. memo-row-up a f F s e (known (s .cache) (length (s .rest)) a));
-      at-node = O .at-node
-    }
+    at-id = λ s. O .same s;
+    at-eat = λ S N. guarded (λ s. eat-row N (next S (s .rest)) s) (λ s e. eat-row-up S N s e (next S (s .rest)) refl);
+    at-unless = λ S. guarded (λ s. refuse-row (next S (s .rest)) s) (λ s e. refuse-row-up s e (next S (s .rest)));
+    at-ifnext = λ S f F. guarded (λ s. branch (map idOf S) f (next S (s .rest)) s) (λ s e. branch-up (map idOf S) f F s (next S (s .rest)));
+    at-opt = λ f F. guarded (λ s. or-else (λ t. t) s (f (trivia s))) (λ s e. or-else-up (λ t. t) (λ t. O .same t) s (f (trivia s)) (after f F s));
+    at-many = λ f F. guarded (λ s. loop f (suc (length (s .rest))) s) (λ s e. loop-up f F (suc (length (s .rest))) s);
+    at-then = λ f F. guarded (λ s. f (trivia s)) (λ s e. after f F s);
+    at-seq = λ f g F G s. O .trans s (f s) (g (f s)) (F s) (G (f s));
+    at-alt = λ f g F G. guarded (λ s. or-else g s (f (trivia s))) (λ s e. or-else-up g G s (f (trivia s)) (after f F s));
+    at-fail = guarded (λ s. turn failed s) (λ s e. O .at-turn failed s (running (s .mode) e));
+    at-recover = recover-up;
+    at-memo = λ a f F. guarded (λ s. memo-row a f (known (s .cache) (length (s .rest)) a) s) (λ s e. memo-row-up a f F s e (known (s .cache) (length (s .rest)) a));
+    at-node = O .at-node;
+  }
 
 -- a step at a time, the writing of an event one of them
 module _ (Q : State → State → Type 0) (O : Order Q) where
@@ -191,6 +192,7 @@ module _ (Q : State → State → Type 0) (O : Order Q) where
       shut : (o : Bool) (b : ℕ) (s : State) → Q s (emit (closed b n (length (s .rest))) (unless-optional o s))
       shut true b s = O .at-emit (closed b n (length (s .rest))) tt s
       shut false b s = O .trans s (choose s) (emit (closed b n (length (s .rest))) (choose s)) (O .at-choose s) (O .at-emit (closed b n (length (s .rest))) tt (choose s))
+
       go : (o : Bool) (m : Mode) (s : State) → Q (turn m s) (finish o a n (turn m s))
       go o ok s = O .at-emit (closed a n (length (s .rest))) tt (turn ok s)
       go o failed s = shut o kinds.ERROR (turn failed s)

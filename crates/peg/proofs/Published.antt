@@ -1,6 +1,6 @@
 -- Acceptance is Ford's: `Peg p` is his relation on the expression of p.
-use Prim.Native.Nat.{ℕ, zero, suc, _+_, _≤_, _<_}
-use mathlib.Core.Path.{_≡_, refl, ap, sym, _∙_, subst}
+use Prim.Native.Nat.{ℕ, zero, suc, _≤_, _<_}
+use mathlib.Core.Path.{_≡_, refl, sym, subst}
 use mathlib.Core.Logic.{_⊎_, inl, inr, _↔_}
 use mathlib.Core.List.{List, [], _∷_}
 use mathlib.Core.Bool.{Bool, true, false}
@@ -8,21 +8,18 @@ use mathlib.Core.Option.{Option, none, some}
 use lib.Dec.{eqb, eqb→eq, eqb-refl, T}
 use native.Mathlib.Nat.{le-refl}
 use native.Mathlib.Omega.{arith}
-use Rattle.peg.specs.Prog.{Production, Prog, eat, unless, ifnext, opt, many, then, _⨟_, _/_, last, recover, node, memo}
-use Rattle.kinds.specs.Sets.{idOf}
+use Rattle.kinds.specs.Sets.{idOf, pick}
+use Rattle.peg.specs.Prog.{Production, RULE-DECL, Prog, eat, unless, ifnext, opt, many, then, _⨟_, _/_, last, recover, node, memo}
 use Rattle.peg.specs.Grammar.{grammar}
-use Rattle.kinds.specs.Sets.{pick}
-use Rattle.peg.specs.Run.{Next, end, other, hit, sought}
-use Rattle.peg.specs.Peg.{Res, Miss, Peg, eat-yes, eat-no, unless-yes, unless-no, ifnext-hit, ifnext-miss, opt-yes, opt-no, many-yes, many-no, then-is, seq-yes, seq-no, alt-yes, alt-no, last-is, recover-is, node-is, memo-is}
+use Rattle.peg.specs.Run.{Next, end, other, hit, sought, rule-keywords}
+use Rattle.peg.specs.Peg.{Res, Miss, Peg, eat-yes, eat-no, unless-yes, unless-no, ifnext-hit, ifnext-miss, opt-yes, opt-no, many-yes, many-no, then-is, seq-yes, seq-no, alt-yes, alt-no, last-is, recover-is, node-is, memo-is, Rules, no-more, one-rule}
 use Rattle.peg.specs.Ford as Fo
 use Rattle.peg.specs.Ford.{Exp, ε, tok, nt, _·_, _∣_, star, non, Ford, empty, term-yes, term-no, term-end, nonterm, seq-no₁, seq-no₂, choice₁, choice₂, repeat, rest, non-no, non-yes, one-of, ford, rules}
-use Rattle.peg.proofs.Det.{yes-no}
+use Rattle.peg.proofs.Det.{yes-no, yes-is}
+use Rattle.peg.proofs.First.{dies-no}
 
 abbrev pub Fd : Exp → List ℕ → ℕ → Res → Type 0
 Fd = Ford rules
-
-yes-is : {r r′ : List ℕ} → _≡_ {A = Res} (Res.yes r) (Res.yes r′) → r ≡ r′
-yes-is e = cc
 
 move : {e : Exp} {r r′ : List ℕ} {n : ℕ} {y : Res} → r ≡ r′ → Fd e r′ n y → Fd e r n y
 move {e = e} {n = n} {y = y} z h = subst (λ (l : List ℕ). Fd e l n y) (sym z) h
@@ -207,12 +204,15 @@ ifnext-back N H S p r n x l a is e d = by (inv-choice d)
   where
     there : Some (non (non (one-of S))) r (Res.yes r)
     there = (_, non-yes (non-no (one-hit S r a is e .1)))
+
     by-yes : (z : Went (non (non (one-of S)) · ford p) r n) → (Failed (non (non (one-of S))) r (z .m) × (Res.yes (z .to) ≡ Res.no)) ⊎ Both (non (non (one-of S))) (ford p) r (z .m) (Res.yes (z .to)) → Peg (ifnext S p) r (Res.yes (z .to))
     by-yes z (inl u) = absurd (yes-no (z .to) (u .1))
     by-yes z (inr u) = let q : r ≡ u .first .to = yes-is (det (there .1) _ _ (u .first .part)) in ifnext-hit a is e (H p r (u .m) (Res.yes (z .to)) (omega (arith, l, z .less, u .less)) (move q (u .second)))
+
     by-no : (z : Else (non (non (one-of S)) · ford p) (non (one-of S)) r n x) → (Failed (non (non (one-of S))) r (z .first .m) × (Res.no ≡ Res.no)) ⊎ Both (non (non (one-of S))) (ford p) r (z .first .m) Res.no → Peg (ifnext S p) r Res.no
     by-no z (inl u) = absurd (yes-no r (det (there .1) _ _ (u .0 .part)))
     by-no z (inr u) = let q : r ≡ u .first .to = yes-is (det (there .1) _ _ (u .first .part)) in ifnext-hit a is e (H p r (u .m) Res.no (omega (arith, l, z .first .less, u .less)) (move q (u .second)))
+
     by : ((z : Went (non (non (one-of S)) · ford p) r n) × (x ≡ Res.yes (z .to))) ⊎ Else (non (non (one-of S)) · ford p) (non (one-of S)) r n x → Peg (ifnext S p) r x
     by (inl z) = subst (Peg (ifnext S p) r) (sym (z .1)) (by-yes (z .0) (inv-seq (z .0 .part)))
     by (inr z) = subst (Peg (ifnext S p) r) (det (non-no (one-hit S r a is e .1)) _ _ (z .second)) (by-no z (inv-seq (z .first .part)))
@@ -259,3 +259,19 @@ backs (suc N) p r n x l d = step N (backs N) p r n x l d
 -- THE THEOREM: the acceptance definition is the published one
 pub peg-is-ford : (p : Prog) (r : List ℕ) (x : Res) → Peg p r x ↔ ((n : ℕ) × Ford rules (ford p) r n x)
 peg-is-ford p r x = ((λ g. to-ford g), λ z. backs (z .0) p r (z .0) x (le-refl (z .0)) (z .1))
+
+-- "a run of none or more `rule_decl` from first to last", in Ford's words: rule_decl* takes all
+rule-fails : Peg (node RULE-DECL) [] Res.no
+unfolding grammar idOf
+rule-fails = dies-no rule-keywords [] (node RULE-DECL) tt tt
+
+rules-many : {r : List ℕ} → Rules r → Peg (many (node RULE-DECL)) r (Res.yes [])
+rules-many no-more = many-no rule-fails
+rules-many (one-rule g rs) = many-yes g (rules-many rs)
+
+many-rules : {r : List ℕ} → Peg (many (node RULE-DECL)) r (Res.yes []) → Rules r
+many-rules (many-yes d e) = one-rule d (many-rules e)
+many-rules (many-no d) = no-more
+
+pub accepts-is-ford : (r : List ℕ) → Rules r ↔ ((n : ℕ) × Ford rules (star (nt RULE-DECL)) r n (Res.yes []))
+accepts-is-ford r = let i = peg-is-ford (many (node RULE-DECL)) r (Res.yes []) in ((λ a. i .0 (rules-many a)), λ z. many-rules (i .1 z))

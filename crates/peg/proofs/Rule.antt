@@ -10,26 +10,21 @@ use lib.Dec.{T, ltb}
 use lib.ListN.{length, length-append}
 use native.Mathlib.Omega.{arith}
 use Rattle.kinds.specs.Kinds as kinds
-use Rattle.peg.specs.Prog.{Production, RULE-DECL, RULE-MODS, RULE-TAGS, META-BLK, META-DEF, PATTERNS-BLK, PATTERN-DEF, PATTERN-MODS, PATTERN-MOD, HEX-PATTERN, HEX-SUB-PATTERN, HEX-ALTERNATIVE, HEX-JUMP, CONDITION-BLK, BOOLEAN-EXPR, BOOLEAN-TERM, EXPR, FUNC-CALL, RANGE, TERM, PRIMARY-EXPR, FOR-EXPR, OF-EXPR, WITH-EXPR, WITH-DECLS, WITH-DECL, QUANTIFIER, ITERABLE, BOOLEAN-EXPR-TUPLE, EXPR-TUPLE, PATTERN-IDENT-TUPLE}
-use Rattle.peg.specs.Prog.{Prog, eat, then, _⨟_, last, recover, node}
-use Rattle.kinds.specs.Sets.{idOf}
+use Rattle.kinds.specs.Sets.{idOf, pick}
+use Rattle.peg.specs.Prog.{Production, RULE-DECL, CONDITION-BLK, Prog, eat, then, _⨟_, recover, node}
 use Rattle.peg.specs.Grammar.{grammar, kind}
-use Rattle.kinds.specs.Sets.{pick}
-use Rattle.peg.specs.Run.{State, Reader, Limits, Mode, ok, failed, stopped, Stop, halted, Next, end, other, hit, next, sought, skip, trivia, turn, begin, charge, finish, eat-row, recovered, recovery, exec, run, read-rule}
+use Rattle.peg.specs.Run.{State, Reader, Limits, Mode, ok, failed, stopped, Next, end, other, hit, next, sought, skip, trivia, turn, begin, finish, eat-row, recovered, recovery, exec, run, read-rule}
 use Rattle.peg.specs.Peg.{strip, Res, Miss, Peg, eat-yes, eat-no, unless-yes, unless-no, ifnext-hit, ifnext-miss, opt-yes, opt-no, many-yes, many-no, then-is, seq-yes, seq-no, alt-yes, alt-no, last-is, recover-is, node-is, memo-is}
 use Rattle.peg.proofs.Order.{Running, finish-up, recovery-up}
-use Rattle.peg.proofs.Grows.{End, end-refl, end-trans, end-cons, gap-end, skip-end, Grown, grown, grows, sought-hit}
-use Rattle.peg.proofs.Shrink.{and-left, and-right, not-failed, not-stopped, size, run-ok, exec-grown, charge-rest}
-use Rattle.peg.proofs.Agree.{sound, Inv, Won, running-before, nil-cons, next-miss, exec-sim, run-sim, of-node}
+use Rattle.peg.proofs.Grows.{End, end-refl, end-trans, end-cons, gap-end, skip-end, Grown, grown, grows, sought-hit, running-before, run-zero}
+use Rattle.peg.proofs.Every.{and-left, and-right, productions, each-if, clash, never}
+use Rattle.peg.proofs.Shrink.{not-failed, not-stopped, size, run-ok, exec-grown, charge-rest}
+use Rattle.peg.proofs.Agree.{sound, Inv, Won, nil-cons, next-miss, exec-sim, run-sim, of-node}
 use Rattle.peg.proofs.Only.{Each, none-left, one-more, each}
 use Rattle.peg.proofs.Det.{det, yes-no}
 use Rattle.peg.proofs.First.{dies}
 use Rattle.peg.proofs.Doom as doom
 use Rattle.peg.proofs.Doom.{heads, low, fit, trailing, trail, echo, Keyed, Off, next-off, begin-strip, begin-inv, eat-word}
-
-clash : {A : Type 0} (b : Bool) → T (not b) → T b → A
-clash true n t = absurd n
-clash false n t = absurd t
 
 -- the productions of the condition, and the sets that have no brace
 abbrev conds : Production → Bool
@@ -46,72 +41,12 @@ abbrev spares : List ℕ → Bool
 spares S = spared (pick S kinds.R-BRACE)
 
 shut-heads : (a : Production) → T (heads a) → T (low any heads (grammar a))
-unfolding grammar kind
-shut-heads RULE-DECL t = absurd t
-shut-heads RULE-MODS t = tt
-shut-heads RULE-TAGS t = tt
-shut-heads META-BLK t = tt
-shut-heads META-DEF t = tt
-shut-heads PATTERNS-BLK t = tt
-shut-heads PATTERN-DEF t = tt
-shut-heads PATTERN-MODS t = tt
-shut-heads PATTERN-MOD t = tt
-shut-heads HEX-PATTERN t = tt
-shut-heads HEX-SUB-PATTERN t = tt
-shut-heads HEX-ALTERNATIVE t = tt
-shut-heads HEX-JUMP t = tt
-shut-heads CONDITION-BLK t = absurd t
-shut-heads BOOLEAN-EXPR t = absurd t
-shut-heads BOOLEAN-TERM t = absurd t
-shut-heads EXPR t = absurd t
-shut-heads FUNC-CALL t = absurd t
-shut-heads RANGE t = absurd t
-shut-heads TERM t = absurd t
-shut-heads PRIMARY-EXPR t = absurd t
-shut-heads FOR-EXPR t = absurd t
-shut-heads OF-EXPR t = absurd t
-shut-heads WITH-EXPR t = absurd t
-shut-heads WITH-DECLS t = absurd t
-shut-heads WITH-DECL t = absurd t
-shut-heads QUANTIFIER t = absurd t
-shut-heads ITERABLE t = absurd t
-shut-heads BOOLEAN-EXPR-TUPLE t = absurd t
-shut-heads EXPR-TUPLE t = absurd t
-shut-heads PATTERN-IDENT-TUPLE t = absurd t
+unfolding productions grammar kind
+shut-heads = each-if heads (λ a. low any heads (grammar a)) tt
 
 shut-conds : (a : Production) → T (conds a) → T (low spares conds (grammar a))
-unfolding grammar kind idOf
-shut-conds RULE-DECL t = absurd t
-shut-conds RULE-MODS t = absurd t
-shut-conds RULE-TAGS t = absurd t
-shut-conds META-BLK t = absurd t
-shut-conds META-DEF t = absurd t
-shut-conds PATTERNS-BLK t = absurd t
-shut-conds PATTERN-DEF t = absurd t
-shut-conds PATTERN-MODS t = absurd t
-shut-conds PATTERN-MOD t = absurd t
-shut-conds HEX-PATTERN t = absurd t
-shut-conds HEX-SUB-PATTERN t = absurd t
-shut-conds HEX-ALTERNATIVE t = absurd t
-shut-conds HEX-JUMP t = absurd t
-shut-conds CONDITION-BLK t = tt
-shut-conds BOOLEAN-EXPR t = tt
-shut-conds BOOLEAN-TERM t = tt
-shut-conds EXPR t = tt
-shut-conds FUNC-CALL t = tt
-shut-conds RANGE t = tt
-shut-conds TERM t = tt
-shut-conds PRIMARY-EXPR t = tt
-shut-conds FOR-EXPR t = tt
-shut-conds OF-EXPR t = tt
-shut-conds WITH-EXPR t = tt
-shut-conds WITH-DECLS t = tt
-shut-conds WITH-DECL t = tt
-shut-conds QUANTIFIER t = tt
-shut-conds ITERABLE t = tt
-shut-conds BOOLEAN-EXPR-TUPLE t = tt
-shut-conds EXPR-TUPLE t = tt
-shut-conds PATTERN-IDENT-TUPLE t = tt
+unfolding productions grammar kind idOf
+shut-conds = each-if conds (λ a. low spares conds (grammar a)) tt
 
 -- what takes no brace does not pass one
 abbrev Past : List ℕ → List ℕ → Type 0
@@ -130,8 +65,9 @@ past-eat S r is r′ a e h t =
     subst (λ (l : List ℕ). Past r l) y (subst (λ (l : List ℕ). Past l is) (sym (p .1)) (end-cons (p .0) is is (end-refl is), λ z x. go (p .0) z (x .0) (x .1) (subst (λ (l : List ℕ). sought S l ≡ hit a is) (p .1) e)))
   where
     not-here : (i : ℕ) (x : Option ℕ) → T (spared x) → _≡_ {A = Next} (elim x as (λ _. Next) [ none ↦ other | some b ↦ hit b is ]) (hit a is) → ⊥
-    not-here i none t e = let z : _≡_ {A = ℕ} 0 1 = cc in omega arith
+    not-here i none t e = never cc
     not-here i (some b) t e = t
+
     go : (i : ℕ) (z x : List ℕ) → x ++ (kinds.R-BRACE ∷ z) ≡ i ∷ is → sought S (i ∷ is) ≡ hit a is → End (kinds.R-BRACE ∷ z) is
     go i z [] k f = let y : i ≡ kinds.R-BRACE = cc in absurd (not-here i (pick S kinds.R-BRACE) t (subst (λ (j : ℕ). sought S (j ∷ is) ≡ hit a is) y f))
     go i z (j ∷ x) k f = let y : x ++ (kinds.R-BRACE ∷ z) ≡ is = cc in (x, y)
@@ -190,7 +126,7 @@ module _ (C z : List ℕ) (g : Peg (node CONDITION-BLK) C (Res.yes (kinds.R-BRAC
   whole : (a : Production) (K : Keyed a) → T (conds a) → (r : List ℕ) → Way (K .word ∷ r) → Peg (grammar a) (K .word ∷ r) Res.no → ⊥
   unfolding kind
   whole a K t r (inl e) n = nil-cons e
-  whole a K t r (inr w) n = go (at-word (K .word) a (K .word ∷ []) (K .names) (K .rest) (each (K .word) a (K .word ∷ []) (K .names) (K .rest) (K .alone) (K .bare-rest) g (kinds.R-BRACE ∷ z) refl (inl tt)) r (w .0))
+  whole a K t r (inr w) n = go (at-word (K .word) a (K .word ∷ []) (K .names) (K .rest) (each (K .word) a (K .word ∷ []) (K .names) (K .rest) (K .alone) (K .bare-rest) g (inl tt)) r (w .0))
     where
       go : ((r₁ : List ℕ) × Peg (grammar a) (K .word ∷ r) (Res.yes r₁)) ⊎ End (K .word ∷ r) (kinds.R-BRACE ∷ z) → ⊥
       go (inl y) = yes-no (y .0) (det (y .1) Res.no n)
@@ -255,6 +191,7 @@ module _ (R : List ℕ) (d : ℕ) where
           let h : seq-inv g .0 ≡ strip ((go-in p s) .rest) = cc in
           (e, exec-sim R d (run d) (grows d) cs ct (run-sim R d) p sp false s i (r, c) .inv, subst (λ (l : List ℕ). Peg q l (Res.yes r′)) h (seq-inv g .2))
       won e (inr y) = absurd (yes-no (seq-inv g .0) (det (seq-inv g .1) Res.no (y .1)))
+
       by-mode : (n : Mode) → (go-in p s) .mode ≡ n → Running n → At q (go-in p s) r′
       by-mode ok e k = won e (exec-sim R d (run d) (grows d) cs ct (run-sim R d) p sp false s i (r, c) .good m e)
       by-mode failed e k = absurd (yes-no (seq-inv g .0) (det (seq-inv g .1) Res.no (exec-sim R d (run d) (grows d) cs ct (run-sim R d) p sp false s i (r, c) .bad m e)))
@@ -269,6 +206,7 @@ module _ (R : List ℕ) (d : ℕ) where
       at end u e m c g = absurd (yes-no r′ (det g Res.no (eat-no (next-miss (kinds.R-BRACE ∷ []) (u .rest) (subst Miss (sym e) tt)))))
       at other u e m c g = absurd (yes-no r′ (det g Res.no (eat-no (next-miss (kinds.R-BRACE ∷ []) (u .rest) (subst Miss (sym e) tt)))))
       at (hit a is) u e m c g = (c, m, subst (λ (l : List ℕ). End l (u .rest)) (eat-word kinds.R-BRACE N (skip (u .rest)) is refl (eat-yes a e)) (skip-end (u .rest)))
+
       go : (n : Mode) (u : State) → n ≡ ok → u .chosen ≡ [] → Peg (eat (kinds.R-BRACE ∷ []) N) (strip (u .rest)) (Res.yes r′) → let t : State = go-in (eat (kinds.R-BRACE ∷ []) N) (turn n u) in (t .chosen ≡ []) × (t .mode ≡ ok) × End (kinds.R-BRACE ∷ t .rest) (u .rest)
       go ok u m c g = at (next (kinds.R-BRACE ∷ []) (u .rest)) (turn ok u) refl refl c g
       go failed u m c g = not-failed m
@@ -332,21 +270,6 @@ module _ (R : List ℕ) (d : ℕ) where
       let e : End (t .rest) (s .rest) = subst (λ (l : List ℕ). End l (s .rest)) (sym (charge-rest (suc d) (s .fuel) (trivia s))) (gap-end (s .mode) (s .rest)) in
       (f .0 ∙ w .0, f .1, subst (λ (l : List ℕ). End (kinds.R-BRACE ∷ l) (s .rest)) (sym (f .2)) (end-trans (kinds.R-BRACE ∷ u .rest) (t .rest) (s .rest) (w .2) e))
 
-halted-not : (w : Stop) (m : Mode) → Running (halted w m) → ⊥
-halted-not w ok r = r
-halted-not w failed r = r
-halted-not w (stopped v) r = r
-
-charge-not : (f : ℕ) (t : State) → Running ((charge zero f t) .mode) → ⊥
-charge-not zero t r = halted-not Stop.spent (t .mode) r
-charge-not (suc f) t r = halted-not Stop.deep (t .mode) r
-
--- at no depth a production stops
-pub run-zero : (o : Bool) (a : Production) (s : State) → Running ((run zero o a s) .mode) → ⊥
-run-zero o a s r =
-    let t : State = begin zero s in
-    charge-not (s .fuel) (trivia s) (running-before t (finish o (kind a) (length (t .rest)) t) (finish-up Grown grown o (kind a) (length (t .rest)) t) r)
-
 abbrev pub rule-ends : List ℕ
 rule-ends = kinds.GLOBAL-KW ∷ kinds.PRIVATE-KW ∷ kinds.RULE-KW ∷ kinds.IMPORT-KW ∷ kinds.INCLUDE-KW ∷ []
 
@@ -357,6 +280,7 @@ recovered-calm D v = go (v .mode) v
     at end v e c n = (c, refl)
     at (hit a is) v e c n = (c, refl)
     at other v e c n = absurd (n (next-off rule-ends (v .rest) e))
+
     go : (m : Mode) (v : State) → m ≡ ok → v .chosen ≡ [] → (Off (sought rule-ends (strip (v .rest))) → ⊥) → let t : State = recovery D false rule-ends (turn m v) in (t .chosen ≡ []) × (t .rest ≡ v .rest)
     go ok v e c n = at (next rule-ends (v .rest)) v refl c n
     go failed v e c n = not-failed e
@@ -371,6 +295,7 @@ rule-calm L s r′ m i r g n = go (L .depth) r
     same : (v : State) → Won (s .rest) (node RULE-DECL) (strip (s .rest)) (strip (v .rest)) → strip (v .rest) ≡ r′
     same v (inl d) = let e = det d (Res.yes r′) g in let y : strip (v .rest) ≡ r′ = cc in y
     same v (inr x) = absurd (x .0)
+
     go : (D : ℕ) → let t : State = recovery D false rule-ends (run D false RULE-DECL s) in Running (t .mode) → (t .chosen ≡ []) × (strip (t .rest) ≡ r′) × End (kinds.R-BRACE ∷ t .rest) (s .rest)
     go zero r = absurd (run-zero false RULE-DECL s (running-before (run zero false RULE-DECL s) (recovery zero false rule-ends (run zero false RULE-DECL s)) (recovery-up Grown grown zero false rule-ends (run zero false RULE-DECL s)) r))
     go (suc d) r =

@@ -1,21 +1,23 @@
 -- Damage stays where it is, in document 01's numbers: places are shifted by where the rows that are left begin, record numbers by how many
 -- records are before.
-use Prim.Native.Nat.{ℕ, zero, suc, _+_, _-_, _≤_, _<_}
-use mathlib.Core.Path.{_≡_, refl, ap, ap₂, sym, _∙_, subst}
-use mathlib.Core.List.{List, [], _∷_, _++_, append-nil, append-assoc}
+use Prim.Native.Nat.{ℕ, zero, suc, _+_, _-_, _≤_}
+use mathlib.Core.Path.{_≡_, refl, ap, ap₂, sym, _∙_}
+use mathlib.Core.List.{List, [], _∷_, _++_}
 use mathlib.Core.Bool.{Bool, true, false}
-use lib.Dec.{eqb, T}
+use lib.Dec.{eqb}
 use lib.ListN.{length, getD, take, drop, length-append}
 use native.Mathlib.Nat.{suc-add, zero-add, add-zero, add-suc}
 use native.Mathlib.Omega.{arith}
 use Rattle.kinds.specs.Kinds as k
-use Rattle.peg.specs.Run.{State, Limits, Event, opened, leaf, closed, bad, Choice, Mode, items, start, read}
-use Rattle.peg.specs.Render.{Source, ends-at, starts-at, id-at, text-at, span-end, Quad, Rec, Page, bads, shut, write, render, form-of, names-of, record-of, records, inside}
+use Rattle.peg.specs.Run.{State, Limits, Event, opened, leaf, closed, bad, Choice, items, start, read}
+use Rattle.peg.specs.Render.{Source, ends-at, starts-at, id-at, text-at, span-end, Quad, Rec, Page, bads, write, render, form-of, names-of, record-of, records, inside}
+use Rattle.peg.specs.Remaining.{shifts, shift-records}
 use Rattle.peg.specs.Buffer.{Nest}
+use Rattle.peg.proofs.Every.{never}
 use Rattle.peg.proofs.Order.{Running}
 use Rattle.peg.proofs.Frame.{h}
-use Rattle.peg.proofs.Suffix.{Between, damage-stays}
-use Rattle.peg.proofs.Tidy.{In, Ins, read-tidy}
+use Rattle.peg.proofs.Suffix.{damage-stays}
+use Rattle.peg.proofs.Tidy.{Ins, read-tidy}
 
 abbrev pub put-off : ℕ → List ℕ → List ℕ
 put-off p [] = []
@@ -70,7 +72,7 @@ write-keeps x i (leaf a n) st l l′ = refl
 write-keeps x i (closed a n m) st l l′ = refl
 write-keeps x i (bad n c) st l l′ = refl
 
-render-keeps : (x : Source) (b : ℕ) (w : List Event) (st : List (ℕ × ℕ)) (l l′ : List Quad) → let z : Page = render x b w (st, l) in render x b w (st, l ++ l′) ≡ (z .0, z .1 ++ l′)
+pub render-keeps : (x : Source) (b : ℕ) (w : List Event) (st : List (ℕ × ℕ)) (l l′ : List Quad) → let z : Page = render x b w (st, l) in render x b w (st, l ++ l′) ≡ (z .0, z .1 ++ l′)
 render-keeps x b [] st l l′ = refl
 render-keeps x b (e ∷ w) st l l′ = let z : Page = write x (bads w + b) e (st, l) in ap (render x b w) (write-keeps x (bads w + b) e st l l′) ∙ render-keeps x b w (z .0) (z .1) l′
 
@@ -87,17 +89,27 @@ render-high x b (leaf a n ∷ w) st l g p = render-high x b w st _ g p
 render-high x b (closed a n m ∷ w) st l g p = render-high x b w ((a, span-end x n m) ∷ st) _ g p
 render-high x b (bad n c ∷ w) st l g p = render-high x b w st _ g p
 
--- shifted by p places and c records
-abbrev pub shift : ℕ → ℕ → Quad → Quad
-shift p c q = (q .0, elim (eqb (q .0) 4) as (λ _. ℕ) [ true ↦ q .1 + c | false ↦ q .1 ], p + q .2, p + q .3)
+-- what is nested comes behind what was written
+pub inside-append : (x : Source) (w q : List Event) → Nest 0 w 0 → inside x (w ++ q) ≡ inside x q ++ (render x (bads q + 0) w ([], [])) .1
+inside-append x w q p =
+    let z : Page = render x (bads q + 0) w ([], []) in
+    ap (λ (z : Page). z .1) (render-append x 0 w q ([], []))
+    ∙ ap (λ (st : List (ℕ × ℕ)). (render x 0 q (st, z .1)) .1) (nil-of (z .0) (render-high x (bads q + 0) w [] [] 0 p))
+    ∙ ap (λ (z : Page). z .1) (render-keeps x 0 q [] [] (z .1))
 
-abbrev pub shifts : ℕ → ℕ → List Quad → List Quad
-shifts p c [] = []
-shifts p c (q ∷ l) = shift p c q ∷ shifts p c l
+records-append : (x : Source) (L : Limits) (w q : List Event) (l : List Rec) → records L x (w ++ q) l ≡ records L x q (records L x w l)
+records-append x L [] q l = refl
+records-append x L (opened n ∷ w) q l = records-append x L w q l
+records-append x L (leaf k n ∷ w) q l = records-append x L w q l
+records-append x L (closed k n m ∷ w) q l = records-append x L w q l
+records-append x L (bad n c ∷ w) q l = records-append x L w q (record-of L x n c ∷ l)
 
-abbrev pub shift-records : ℕ → List Rec → List Rec
-shift-records p [] = []
-shift-records p (q ∷ l) = (p + q .0, p + q .1, q .2, q .3) ∷ shift-records p l
+pub records-keep : (x : Source) (L : Limits) (w : List Event) (l l′ : List Rec) → records L x w (l ++ l′) ≡ records L x w l ++ l′
+records-keep x L [] l l′ = refl
+records-keep x L (opened n ∷ w) l l′ = records-keep x L w l l′
+records-keep x L (leaf k n ∷ w) l l′ = records-keep x L w l l′
+records-keep x L (closed k n m ∷ w) l l′ = records-keep x L w l l′
+records-keep x L (bad n c ∷ w) l l′ = records-keep x L w (record-of L x n c ∷ l) l′
 
 abbrev ups : ℕ → List (ℕ × ℕ) → List (ℕ × ℕ)
 ups p [] = []
@@ -126,10 +138,10 @@ module _ (pre a e : List ℕ) (B : Before pre a e) (y : Source) where
       go zero = ap (λ (i : ℕ). getD (0 ∷ e ++ put-off P (y .ends)) i (length (x .bytes))) (add-zero (length e)) ∙ last-in 0 e (put-off P (y .ends)) (length (x .bytes)) 0 ∙ B .last ∙ sym (add-zero P)
       go (suc j) = ap (λ (i : ℕ). getD (0 ∷ e ++ put-off P (y .ends)) i (length (x .bytes))) (add-suc (length e) j) ∙ getD-past e (put-off P (y .ends)) j (length (x .bytes)) ∙ ap (getD (put-off P (y .ends)) j) (length-append pre (y .bytes)) ∙ getD-off P (y .ends) j (length (y .bytes))
 
-  id-later : (n : ℕ) → n ≤ N → id-at x n ≡ id-at y n
+  pub id-later : (n : ℕ) → n ≤ N → id-at x n ≡ id-at y n
   id-later n l = ap (λ (i : ℕ). getD (x .ids) i k.UNKNOWN) (omega (arith, l, length-append a (y .ids))) ∙ getD-past a (y .ids) (N - n) k.UNKNOWN
 
-  text-later : (n : ℕ) → n ≤ N → text-at x n ≡ text-at y n
+  pub text-later : (n : ℕ) → n ≤ N → text-at x n ≡ text-at y n
   text-later n l =
       ap₂ (λ (i j : ℕ). take (i - j) (drop j (x .bytes))) (ends-later n l) (starts-later n l)
       ∙ ap₂ (λ (i : ℕ) (l : List ℕ). take i l) (cancel P (ends-at y n) (starts-at y n)) (drop-past pre (y .bytes) (starts-at y n))
@@ -141,7 +153,8 @@ module _ (pre a e : List ℕ) (B : Before pre a e) (y : Source) where
   span-later n m l q = go (eqb n m) refl
     where
       apart : eqb n m ≡ false → n ≡ m → ⊥
-      apart f z = let c : true ≡ false = sym (eqb-refl m) ∙ ap (λ (i : ℕ). eqb i m) (sym z) ∙ f in let d : _≡_ {A = ℕ} 0 1 = cc in omega arith
+      apart f z = let c : true ≡ false = sym (eqb-refl m) ∙ ap (λ (i : ℕ). eqb i m) (sym z) ∙ f in never cc
+
       go : (b : Bool) → eqb n m ≡ b → elim b as (λ _. ℕ) [ true ↦ starts-at x n | false ↦ ends-at x (suc m) ] ≡ P + elim b as (λ _. ℕ) [ true ↦ starts-at y n | false ↦ ends-at y (suc m) ]
       go true f = starts-later n l
       go false f = ends-later (suc m) (less (apart f))
@@ -174,20 +187,6 @@ module _ (pre a e : List ℕ) (B : Before pre a e) (y : Source) where
       ∙ ap (λ (st : List (ℕ × ℕ)). (render x 0 q (ups P st, shifts P (bads q) (inside y w))) .1) (nil-of ((render y 0 w ([], [])) .0) (render-high y 0 w [] [] 0 p))
       ∙ ap (λ (z : Page). z .1) (render-keeps x 0 q [] [] (shifts P (bads q) (inside y w)))
 
-  records-append : (L : Limits) (w q : List Event) (l : List Rec) → records L x (w ++ q) l ≡ records L x q (records L x w l)
-  records-append L [] q l = refl
-  records-append L (opened n ∷ w) q l = records-append L w q l
-  records-append L (leaf k n ∷ w) q l = records-append L w q l
-  records-append L (closed k n m ∷ w) q l = records-append L w q l
-  records-append L (bad n c ∷ w) q l = records-append L w q (record-of L x n c ∷ l)
-
-  records-keep : (L : Limits) (w : List Event) (l l′ : List Rec) → records L x w (l ++ l′) ≡ records L x w l ++ l′
-  records-keep L [] l l′ = refl
-  records-keep L (opened n ∷ w) l l′ = records-keep L w l l′
-  records-keep L (leaf k n ∷ w) l l′ = records-keep L w l l′
-  records-keep L (closed k n m ∷ w) l l′ = records-keep L w l l′
-  records-keep L (bad n c ∷ w) l l′ = records-keep L w (record-of L x n c ∷ l) l′
-
   records-shown : (L : Limits) (w : List Event) (l : List Rec) → Ins N w → records L x w (shift-records P l) ≡ shift-records P (records L y w l)
   records-shown L [] l i = refl
   records-shown L (opened n ∷ w) l i = records-shown L w l (i .1)
@@ -196,7 +195,7 @@ module _ (pre a e : List ℕ) (B : Before pre a e) (y : Source) where
   records-shown L (bad n c ∷ w) l i = ap (λ (r : Rec). records L x w (r ∷ shift-records P l)) (record-later L n c (i .0)) ∙ records-shown L w (record-of L y n c ∷ l) (i .1)
 
   pub records-later : (L : Limits) (w q : List Event) → Ins N w → records L x (w ++ q) [] ≡ records L x q [] ++ shift-records P (records L y w [])
-  records-later L w q i = records-append L w q [] ∙ ap (records L x q) (records-shown L w [] i) ∙ records-keep L q [] (shift-records P (records L y w []))
+  records-later L w q i = records-append x L w q [] ∙ ap (records L x q) (records-shown L w [] i) ∙ records-keep x L q [] (shift-records P (records L y w []))
 
   -- THE THEOREM, in numbers: the reader, not stopped, stands after n items before the rows of y
   pub damage-shown : (L : Limits) (f n : ℕ) → let s : State = items L n (start (x .ids) f) in Running (s .mode) → s .rest ≡ y .ids → let t : State = read L (x .ids) f in let v : State = read L (y .ids) (s .fuel) in

@@ -2,22 +2,20 @@
 use Prim.Native.Nat.{ℕ, zero, suc, _+_, _≤_, _<_}
 use mathlib.Core.Path.{_≡_, refl, ap, sym, _∙_, subst}
 use mathlib.Core.Logic.{_⊎_, inl, inr}
-use mathlib.Core.List.{List, [], _∷_, _++_, map}
-use mathlib.Core.Bool.{Bool, true, false, _&&_, _||_, not}
+use mathlib.Core.List.{List, [], _∷_, _++_}
+use mathlib.Core.Bool.{Bool, true, false, _&&_, _||_}
 use lib.Dec.{T}
 use lib.ListN.{length, length-append}
-use native.Mathlib.Nat.{le-refl, le-trans}
 use native.Mathlib.Omega.{arith}
-use Rattle.peg.specs.Prog.{Production, RULE-DECL, RULE-MODS, RULE-TAGS, META-BLK, META-DEF, PATTERNS-BLK, PATTERN-DEF, PATTERN-MODS, PATTERN-MOD, HEX-PATTERN, HEX-SUB-PATTERN, HEX-ALTERNATIVE, HEX-JUMP, CONDITION-BLK, BOOLEAN-EXPR, BOOLEAN-TERM, EXPR, FUNC-CALL, RANGE, TERM, PRIMARY-EXPR, FOR-EXPR, OF-EXPR, WITH-EXPR, WITH-DECLS, WITH-DECL, QUANTIFIER, ITERABLE, BOOLEAN-EXPR-TUPLE, EXPR-TUPLE, PATTERN-IDENT-TUPLE}
-use Rattle.peg.specs.Prog.{Prog, eat, unless, ifnext, opt, many, then, _⨟_, _/_, last, recover, node, memo}
-use Rattle.kinds.specs.Sets.{idOf}
-use Rattle.peg.specs.Grammar.{grammar, kind}
 use Rattle.kinds.specs.Sets.{trivial}
-use Rattle.peg.specs.Run.{State, Reader, Mode, ok, failed, stopped, Stop, spent, deep, Next, end, other, hit, next, sought, skip, gap, trivia, turn, take, back, halt, halted, pay, charge, begin, finish, if-ok, eat-row, refuse-row, branch, or-else, go-on, fails, loop, loop-at, eat-at, refuse-at, then-at, branch-at, alt-at, memo-at, known, remember, memo-row, nodes, exec, run}
+use Rattle.peg.specs.Prog.{Production, Prog, eat, unless, ifnext, opt, many, then, _⨟_, _/_, last, recover, node, memo}
+use Rattle.peg.specs.Grammar.{grammar, kind}
+use Rattle.peg.specs.Run.{State, Reader, Mode, ok, failed, stopped, Stop, spent, deep, Next, end, other, hit, next, skip, gap, trivia, turn, back, halted, charge, begin, finish, if-ok, eat-row, or-else, fails, loop-at, eat-at, refuse-at, then-at, branch-at, alt-at, memo-at, known, remember, memo-row, exec, run}
 use Rattle.peg.specs.Peg.{strip}
+use Rattle.peg.proofs.Every.{and-left, and-right, or-cases, productions, each, never}
 use Rattle.peg.proofs.Induct.{exec-kept}
-use Rattle.peg.proofs.Order.{ordered}
-use Rattle.peg.proofs.Grows.{End, Grown, grown, grows, sought-hit}
+use Rattle.peg.proofs.Order.{ordered, Running}
+use Rattle.peg.proofs.Grows.{End, Grown, grown, grows, sought-hit, run-zero}
 
 -- it ends in good order only where it began so
 abbrev pub strict : Prog → Bool
@@ -49,23 +47,11 @@ taking (recover S) = false
 taking (node a) = true
 taking (memo a) = true
 
-pub and-left : (a b : Bool) → T (a && b) → T a
-and-left true b t = tt
-and-left false b t = absurd t
-
-pub and-right : (a b : Bool) → T (a && b) → T b
-and-right true b t = t
-and-right false b t = absurd t
-
-pub or-cases : (a b : Bool) → T (a || b) → T a ⊎ T b
-or-cases true b t = inl tt
-or-cases false b t = inr t
-
 pub not-failed : {A : Type 0} → failed ≡ ok → A
-not-failed e = let z : _≡_ {A = ℕ} 0 1 = cc in absurd (omega arith)
+not-failed e = never cc
 
 pub not-stopped : {A : Type 0} (w : Stop) → stopped w ≡ ok → A
-not-stopped w e = let z : _≡_ {A = ℕ} 0 1 = cc in absurd (omega arith)
+not-stopped w e = never cc
 
 pub if-ok-ok : (f : Reader) (s : State) → (if-ok f s) .mode ≡ ok → (s .mode ≡ ok) × (if-ok f s ≡ f s)
 if-ok-ok f s = go (s .mode) s
@@ -91,7 +77,7 @@ strip-gap (stopped w) r = refl
 
 -- the first row that `skip` leaves is no trivia
 pub strip-head : (r : List ℕ) (i : ℕ) (is : List ℕ) → skip r ≡ i ∷ is → strip r ≡ i ∷ strip is
-strip-head [] i is e = let z : _≡_ {A = ℕ} 0 1 = cc in absurd (omega arith)
+strip-head [] i is e = never cc
 strip-head (j ∷ js) i is e = go (trivial j) (strip-head js i is) e
   where
     go : (b : Bool) → (skip js ≡ i ∷ is → strip js ≡ i ∷ strip is) → _≡_ {A = List ℕ} (elim b [ true ↦ skip js | false ↦ j ∷ js ]) (i ∷ is) → (elim b as (λ _. List ℕ) [ true ↦ strip js | false ↦ j ∷ strip js ]) ≡ i ∷ strip is
@@ -108,6 +94,18 @@ strip-append (i ∷ is) r = go (trivial i) (strip-append is r)
 
 pub strip-end : (a b : List ℕ) → End a b → length (strip a) ≤ length (strip b)
 strip-end a b p = omega (arith, length-append (strip (p .0)) (strip a), ap length (sym (strip-append (p .0) a) ∙ ap strip (p .1)))
+
+pub strip-le : (r : List ℕ) → length (strip r) ≤ length r
+strip-le [] = omega arith
+strip-le (i ∷ is) = go (trivial i) (strip-le is)
+  where
+    go : (b : Bool) → length (strip is) ≤ length is → length {A = ℕ} (elim b as (λ _. List ℕ) [ true ↦ strip is | false ↦ i ∷ strip is ]) ≤ suc (length is)
+    go true h = omega arith
+    go false h = omega arith
+
+pub size-nil : (l : List ℕ) → length l ≤ 0 → l ≡ []
+size-nil [] h = refl
+size-nil (x ∷ l) h = absurd (omega arith)
 
 abbrev pub size : State → ℕ
 size s = length (strip (s .rest))
@@ -163,15 +161,10 @@ charge-rest d zero t = refl
 charge-rest zero (suc f) t = refl
 charge-rest (suc d) (suc f) t = refl
 
-charge-zero : {A : Type 0} (f : ℕ) (t : State) → (charge zero f t) .mode ≡ ok → A
-charge-zero zero t e = halted-ok spent (t .mode) e
-charge-zero (suc f) t e = halted-ok deep (t .mode) e
-
 module _ (d : ℕ) (call : Bool → Production → Reader)
     (cg : (o : Bool) (a : Production) (s : State) → Grown s (call o a s))
     (cs : (o : Bool) (a : Production) (s : State) → (call o a s) .mode ≡ ok → s .mode ≡ ok)
     (ct : (o : Bool) (a : Production) (s : State) → (call o a s) .mode ≡ ok → size (call o a s) < size s) where
-
   pub exec-grown : (p : Prog) (o : Bool) (s : State) → Grown s (exec d call p o s)
   exec-grown = exec-kept (ordered Grown grown) d call cg
 
@@ -242,54 +235,16 @@ module _ (d : ℕ) (call : Bool → Production → Reader)
           let z = ct o a s (g .0) in
           omega (arith, ap (λ (l : List ℕ). length (strip l)) (g .1))
 
--- a test that every production's program passes: the one place that goes through the productions
-unfoldable pub productions : (c : Prog → Bool) → Bool
-productions c = c (grammar RULE-DECL) && c (grammar RULE-MODS) && c (grammar RULE-TAGS) && c (grammar META-BLK) && c (grammar META-DEF) && c (grammar PATTERNS-BLK) && c (grammar PATTERN-DEF) && c (grammar PATTERN-MODS) && c (grammar PATTERN-MOD) && c (grammar HEX-PATTERN) && c (grammar HEX-SUB-PATTERN) && c (grammar HEX-ALTERNATIVE) && c (grammar HEX-JUMP) && c (grammar CONDITION-BLK) && c (grammar BOOLEAN-EXPR) && c (grammar BOOLEAN-TERM) && c (grammar EXPR) && c (grammar FUNC-CALL) && c (grammar RANGE) && c (grammar TERM) && c (grammar PRIMARY-EXPR) && c (grammar FOR-EXPR) && c (grammar OF-EXPR) && c (grammar WITH-EXPR) && c (grammar WITH-DECLS) && c (grammar WITH-DECL) && c (grammar QUANTIFIER) && c (grammar ITERABLE) && c (grammar BOOLEAN-EXPR-TUPLE) && c (grammar EXPR-TUPLE) && c (grammar PATTERN-IDENT-TUPLE)
-
-pub at-production : (c : Prog → Bool) → T (productions c) → (a : Production) → T (c (grammar a))
-unfolding productions
-at-production c t RULE-DECL = search (and-left, and-right) depth 40
-at-production c t RULE-MODS = search (and-left, and-right) depth 40
-at-production c t RULE-TAGS = search (and-left, and-right) depth 40
-at-production c t META-BLK = search (and-left, and-right) depth 40
-at-production c t META-DEF = search (and-left, and-right) depth 40
-at-production c t PATTERNS-BLK = search (and-left, and-right) depth 40
-at-production c t PATTERN-DEF = search (and-left, and-right) depth 40
-at-production c t PATTERN-MODS = search (and-left, and-right) depth 40
-at-production c t PATTERN-MOD = search (and-left, and-right) depth 40
-at-production c t HEX-PATTERN = search (and-left, and-right) depth 40
-at-production c t HEX-SUB-PATTERN = search (and-left, and-right) depth 40
-at-production c t HEX-ALTERNATIVE = search (and-left, and-right) depth 40
-at-production c t HEX-JUMP = search (and-left, and-right) depth 40
-at-production c t CONDITION-BLK = search (and-left, and-right) depth 40
-at-production c t BOOLEAN-EXPR = search (and-left, and-right) depth 40
-at-production c t BOOLEAN-TERM = search (and-left, and-right) depth 40
-at-production c t EXPR = search (and-left, and-right) depth 40
-at-production c t FUNC-CALL = search (and-left, and-right) depth 40
-at-production c t RANGE = search (and-left, and-right) depth 40
-at-production c t TERM = search (and-left, and-right) depth 40
-at-production c t PRIMARY-EXPR = search (and-left, and-right) depth 40
-at-production c t FOR-EXPR = search (and-left, and-right) depth 40
-at-production c t OF-EXPR = search (and-left, and-right) depth 40
-at-production c t WITH-EXPR = search (and-left, and-right) depth 40
-at-production c t WITH-DECLS = search (and-left, and-right) depth 40
-at-production c t WITH-DECL = search (and-left, and-right) depth 40
-at-production c t QUANTIFIER = search (and-left, and-right) depth 40
-at-production c t ITERABLE = search (and-left, and-right) depth 40
-at-production c t BOOLEAN-EXPR-TUPLE = search (and-left, and-right) depth 40
-at-production c t EXPR-TUPLE = search (and-left, and-right) depth 40
-at-production c t PATTERN-IDENT-TUPLE = search (and-left, and-right) depth 40
-
 pub strict-productions : (a : Production) → T (strict (grammar a))
 unfolding productions grammar
-strict-productions = at-production strict tt
+strict-productions = each (λ a. strict (grammar a)) tt
 
 pub taking-productions : (a : Production) → T (taking (grammar a))
 unfolding productions grammar
-taking-productions = at-production taking tt
+taking-productions = each (λ a. taking (grammar a)) tt
 
 pub run-ok : (d : ℕ) (o : Bool) (a : Production) (s : State) → (run d o a s) .mode ≡ ok → (s .mode ≡ ok) × (size (run d o a s) < size s)
-run-ok zero o a s e = charge-zero (s .fuel) (trivia s) (finish-ok o (kind a) (length ((begin zero s) .rest)) (begin zero s) e .0)
+run-ok zero o a s e = absurd (run-zero o a s (subst Running (sym e) tt))
 run-ok (suc d) o a s e =
     let t : State = begin (suc d) s in
     let u : State = exec d (run d) (grammar a) o t in

@@ -7,35 +7,25 @@ use mathlib.Core.Option.{Option, none, some}
 use lib.ListN.{length, length-append}
 use native.Mathlib.Omega.{arith}
 use Rattle.kinds.specs.Kinds as kinds
+use Rattle.kinds.specs.Sets.{idOf, kindOf, pick, trivial}
 use Rattle.peg.specs.Prog.{RULE-DECL, node}
-use Rattle.kinds.specs.Sets.{idOf, kindOf}
 use Rattle.peg.specs.Grammar.{grammar}
-use Rattle.kinds.specs.Sets.{pick, trivial}
-use Rattle.peg.specs.Run.{State, Limits, Event, opened, leaf, closed, bad, Choice, stray, Mode, ok, failed, stopped, Next, end, other, hit, next, sought, skip, past, trivia-out, gap-out, trivia, seek, seek-out, rule-keywords, read-rule, stray-item, item-at, errors, flush, again, item, run}
+use Rattle.peg.specs.Run.{State, Limits, Event, opened, leaf, closed, bad, Choice, stray, Mode, ok, failed, stopped, Next, end, other, hit, next, sought, skip, past, trivia-out, gap-out, trivia, seek, seek-out, rule-keywords, read-rule, stray-item, item-at, errors, flush, again, item}
 use Rattle.peg.specs.Peg.{strip, Res, Miss, Peg}
+use Rattle.peg.specs.Remaining.{Keyless, Solid}
+use Rattle.peg.proofs.Every.{never}
 use Rattle.peg.proofs.Order.{Running}
 use Rattle.peg.proofs.Grows.{End, end-trans, gap-end, bads, gap-bads}
 use Rattle.peg.proofs.Shrink.{strip-append, strip-gap, not-failed, not-stopped}
 use Rattle.peg.proofs.Doom.{Off, sub-off}
-use Rattle.peg.proofs.Rule.{rule-calm}
+use Rattle.peg.proofs.Rule.{rule-ends, rule-calm}
 use Rattle.peg.proofs.Agree.{next-miss}
 use Rattle.peg.proofs.Det.{det, yes-no}
-use Rattle.peg.proofs.First.{dies, dies-no}
+use Rattle.peg.proofs.First.{dies-no}
 use Rattle.peg.proofs.Accept.{Fresh, fresh-inv}
 use Rattle.peg.proofs.File.{after-item, again-running, trivia-fresh, rule-unsaid}
 use Rattle.peg.proofs.Takes.{skip-skip, gap-ok}
 use Rattle.peg.proofs.Fuel.{again-free}
-
--- none of the rule keywords in it
-abbrev pub Keyless : List ℕ → Type 0
-Keyless [] = Unit
-Keyless (i ∷ is) = (pick rule-keywords i ≡ none) × Keyless is
-
--- not empty, and its last row is no trivia
-abbrev pub Solid : List ℕ → Type 0
-Solid [] = ⊥
-Solid (i ∷ []) = trivial i ≡ false
-Solid (i ∷ j ∷ js) = Solid (j ∷ js)
 
 skip-false : (i : ℕ) (is : List ℕ) → trivial i ≡ false → skip (i ∷ is) ≡ i ∷ is
 skip-false i is e = ap (λ (b : Bool). elim b as (λ _. List ℕ) [ true ↦ skip is | false ↦ i ∷ is ]) e
@@ -63,13 +53,13 @@ seek-here (i ∷ r) a is o e = go (past (next rule-keywords (i ∷ r))) (ap past
   where
     go : (b : Bool) → b ≡ true → (elim b as (λ _. List ℕ) [ true ↦ i ∷ r | false ↦ seek rule-keywords r ] ≡ i ∷ r) × (elim b as (λ _. List Event) [ true ↦ o | false ↦ seek-out rule-keywords r (leaf (kindOf i) (suc (length r)) ∷ o) ] ≡ o)
     go true z = (refl, refl)
-    go false z = let c : _≡_ {A = ℕ} 0 1 = cc in absurd (omega arith)
+    go false z = never cc
 
 seek-step : (i : ℕ) (r : List ℕ) (o : List Event) → next rule-keywords (i ∷ r) ≡ other → (seek rule-keywords (i ∷ r) ≡ seek rule-keywords r) × (seek-out rule-keywords (i ∷ r) o ≡ seek-out rule-keywords r (leaf (kindOf i) (suc (length r)) ∷ o))
 seek-step i r o e = go (past (next rule-keywords (i ∷ r))) (ap past e)
   where
     go : (b : Bool) → b ≡ false → (elim b as (λ _. List ℕ) [ true ↦ i ∷ r | false ↦ seek rule-keywords r ] ≡ seek rule-keywords r) × (elim b as (λ _. List Event) [ true ↦ o | false ↦ seek-out rule-keywords r (leaf (kindOf i) (suc (length r)) ∷ o) ] ≡ seek-out rule-keywords r (leaf (kindOf i) (suc (length r)) ∷ o))
-    go true z = let c : _≡_ {A = ℕ} 0 1 = cc in absurd (omega arith)
+    go true z = never cc
     go false z = (refl, refl)
 
 seek-run : (j r : List ℕ) (a : ℕ) (is : List ℕ) (o : List Event) → Keyless j → Solid j → next rule-keywords r ≡ hit a is → (seek rule-keywords (j ++ r) ≡ r) × (seek-out rule-keywords (j ++ r) o ≡ leaves j r o)
@@ -91,16 +81,21 @@ junk-run L s j r a is f e k d h = go (sought rule-keywords ((trivia s) .rest)) a
   where
     t : State
     t = trivia s
+
     rows : (trivia s) .rest ≡ j ++ r
     rows = gap-ok (s .mode) (s .rest) (f .is-ok) ∙ e
+
     away : sought rule-keywords ((trivia s) .rest) ≡ other
     away = ap (sought rule-keywords) (gap-ok (s .mode) (s .rest) (f .is-ok) ∙ sym (skip-skip (s .rest)) ∙ ap skip e) ∙ solid-next j r k d
+
     old : (m : Mode) → m ≡ ok → gap-out m (s .rest) (s .out) ≡ trivia-out (s .rest) (s .out)
     old ok z = refl
     old failed z = not-failed z
     old (stopped w) z = not-stopped w z
+
     u : State
     u = stray-item (trivia s)
+
     wrote : (q : List ℕ) (o : List Event) → q ≡ j ++ r → o ≡ trivia-out (s .rest) (s .out) → (closed kinds.ERROR (length q) (length (seek rule-keywords q)) ∷ seek-out rule-keywords q (opened (length q) ∷ bad (length q) stray ∷ o)) ≡ (closed kinds.ERROR (length (j ++ r)) (length r) ∷ leaves j r (opened (length (j ++ r)) ∷ bad (length (j ++ r)) stray ∷ trivia-out (s .rest) (s .out)))
     wrote q o x y =
         let n : ℕ = length (j ++ r) in
@@ -108,18 +103,16 @@ junk-run L s j r a is f e k d h = go (sought rule-keywords ((trivia s) .rest)) a
         let p = seek-run j r a is b k d h in
         ap₂ (λ (q : List ℕ) (o : List Event). closed kinds.ERROR (length q) (length (seek rule-keywords q)) ∷ seek-out rule-keywords q (opened (length q) ∷ bad (length q) stray ∷ o)) x y
         ∙ ap₂ (λ (q : List ℕ) (o : List Event). closed kinds.ERROR n (length q) ∷ o) (p .0) (p .1)
+
     go : (x : Next) → x ≡ other → let v : State = again (flush (item-at L x (trivia s))) in Fresh v × (v .rest ≡ r) × (v .fuel ≡ s .fuel) × (v .begun ≡ s .begun) × (v .out ≡ closed kinds.ERROR (length (j ++ r)) (length r) ∷ leaves j r (opened (length (j ++ r)) ∷ bad (length (j ++ r)) stray ∷ trivia-out (s .rest) (s .out)))
-    go end x = let c : _≡_ {A = ℕ} 0 1 = cc in absurd (omega arith)
-    go (hit b js) x = let c : _≡_ {A = ℕ} 0 1 = cc in absurd (omega arith)
+    go end x = never cc
+    go (hit b js) x = never cc
     go other x =
         let z = after-item u (subst Running (sym (f .is-ok)) tt) in
         let y = again-free u in
         (z .0, z .1 ∙ ap (seek rule-keywords) rows ∙ seek-run j r a is [] k d h .0, y .0, y .1, z .2 ∙ ap (λ (c : List (ℕ × Choice)). errors c (u .out)) (f .no-chosen) ∙ wrote ((trivia s) .rest) ((trivia s) .out) rows (old (s .mode) (f .is-ok)))
 
 -- accepted rules
-abbrev pub rule-ends : List ℕ
-rule-ends = Rattle.peg.proofs.Accept.rule-keywords
-
 -- a rule that the PEG accepts, whose next row past trivia is a rule keyword or none: no error, and the reader stands right behind the
 -- rule's last brace
 pub accepted-rule : (L : Limits) (s : State) (r′ : List ℕ) → Fresh s → Running ((read-rule L s) .mode) → Peg (node RULE-DECL) (strip (s .rest)) (Res.yes r′) → (Off (sought rule-ends r′) → ⊥) → ((read-rule L s) .chosen ≡ []) × (strip ((read-rule L s) .rest) ≡ r′) × End (kinds.R-BRACE ∷ (read-rule L s) .rest) (s .rest)
@@ -135,8 +128,8 @@ pub brace-stands : (L : Limits) (s : State) (a : ℕ) (is r′ : List ℕ) → F
 brace-stands L s a is r′ f e = go (sought rule-keywords ((trivia s) .rest)) e
   where
     go : (x : Next) → x ≡ hit a is → let v : State = again (flush (item-at L x (trivia s))) in Running (v .mode) → Peg (node RULE-DECL) (strip (s .rest)) (Res.yes r′) → (Off (sought rule-keywords r′) → ⊥) → Fresh v × (strip (v .rest) ≡ r′) × End (kinds.R-BRACE ∷ v .rest) (s .rest) × (bads (v .out) ≡ bads (s .out))
-    go end x r g n = let c : _≡_ {A = ℕ} 0 1 = cc in absurd (omega arith)
-    go other x r g n = let c : _≡_ {A = ℕ} 0 1 = cc in absurd (omega arith)
+    go end x r g n = never cc
+    go other x r g n = never cc
     go (hit b js) x r g n =
         let u : State = read-rule L (trivia s) in
         let v : State = again (flush u) in
@@ -150,7 +143,7 @@ solid-size [] d = absurd d
 solid-size (i ∷ []) d = go (trivial i) d
   where
     go : (b : Bool) → b ≡ false → 1 ≤ length {A = ℕ} (elim b as (λ _. List ℕ) [ true ↦ [] | false ↦ i ∷ [] ])
-    go true e = let c : _≡_ {A = ℕ} 0 1 = cc in absurd (omega arith)
+    go true e = never cc
     go false e = omega arith
 solid-size (i ∷ j ∷ x) d = go (trivial i) (solid-size (j ∷ x) d)
   where
@@ -173,6 +166,7 @@ keyword-first r r′ g = go (next rule-keywords r) refl
   where
     none-there : Miss (next rule-keywords r) → ⊥
     none-there m = yes-no r′ (det g Res.no (dies-no rule-keywords (strip r) (node RULE-DECL) tt (next-miss rule-keywords r m)))
+
     go : (x : Next) → next rule-keywords r ≡ x → (a : ℕ) × (is : List ℕ) × (next rule-keywords r ≡ hit a is)
     go end e = absurd (none-there (subst Miss (sym e) tt))
     go other e = absurd (none-there (subst Miss (sym e) tt))

@@ -9,18 +9,17 @@ use lib.Dec.{T, eqb, eqb→eq}
 use lib.ListN.{length, length-append}
 use native.Mathlib.Omega.{arith}
 use Rattle.kinds.specs.Kinds as kinds
+use Rattle.kinds.specs.Sets.{idOf, pick, trivial}
 use Rattle.peg.specs.Prog.{Production, RULE-DECL, RULE-MODS, Prog, node, opt, last, _⨟_}
-use Rattle.kinds.specs.Sets.{idOf}
 use Rattle.peg.specs.Grammar.{grammar, kind, rule-decl, one}
-use Rattle.kinds.specs.Sets.{pick, trivial}
-use Rattle.peg.specs.Run.{State, Reader, Limits, Mode, ok, failed, stopped, Stop, Next, end, other, hit, sought, next, skip, past, gap, trivia, turn, put, back, if-ok, or-else, alts, opts, fails, eats, eat-row, begin, finish, charge, nodes, seek, recovery, exec, run, rule-keywords, read-rule, stray-item, item-at, flush, again, item}
+use Rattle.peg.specs.Run.{State, Reader, Limits, Mode, ok, failed, stopped, Next, end, other, hit, sought, next, skip, past, gap, trivia, turn, put, back, or-else, alts, opts, fails, eats, eat-row, begin, finish, charge, seek, exec, run, rule-keywords, read-rule, stray-item, item-at, flush, again, item}
 use Rattle.peg.specs.Peg.{strip}
+use Rattle.peg.proofs.Every.{never}
 use Rattle.peg.proofs.Induct.{exec-kept}
-use Rattle.peg.proofs.Order.{Running, ordered, recovery-up, finish-up, begin-up}
-use Rattle.peg.proofs.Grows.{End, Grown, grown, grows, end-trans, gap-end, seek-end, sought-hit}
-use Rattle.peg.proofs.Shrink.{size, strip-gap, strip-end, run-ok, not-failed, not-stopped, if-ok-ok, eat-row-small, charge-rest}
-use Rattle.peg.proofs.Agree.{not-ok, not-stop, nil-cons, running-before}
-use Rattle.peg.proofs.Accept.{run-zero}
+use Rattle.peg.proofs.Order.{Running, ordered, finish-up}
+use Rattle.peg.proofs.Grows.{End, Grown, grown, grows, gap-end, seek-end, sought-hit, running-before, run-zero}
+use Rattle.peg.proofs.Shrink.{size, strip-gap, strip-end, run-ok, not-failed, not-stopped, eat-row-small, charge-rest}
+use Rattle.peg.proofs.Agree.{not-ok, not-stop, nil-cons}
 use Rattle.peg.proofs.Only.{for-rest}
 use Rattle.peg.proofs.File.{after-item, again-running, sought-end}
 
@@ -103,7 +102,7 @@ keyword i a = go (eqb i kinds.GLOBAL-KW) (eqb i kinds.PRIVATE-KW) (eqb i kinds.R
     go true y z p q r e = inl (p tt)
     go false true z p q r e = inr (inl (q tt))
     go false false true p q r e = inr (inr (r tt))
-    go false false false p q r e = let z : _≡_ {A = ℕ} 0 1 = cc in absurd (omega arith)
+    go false false false p q r e = never cc
 
 -- the rule's first rows
 module _ (d : ℕ) (call : Bool → Production → Reader) (cg : (o : Bool) (a : Production) (s : State) → Grown s (call o a s)) (ck : (o : Bool) (a : Production) (s : State) → (call o a s) .mode ≡ ok → size (call o a s) < size s) where
@@ -118,11 +117,12 @@ module _ (d : ℕ) (call : Bool → Production → Reader) (cg : (o : Bool) (a :
       go failed t h r = (refl, inr (refl, refl))
       go (stopped w) t h r = absurd r
 
-  eats-end : (u : State) → u .mode ≡ ok → let v : State = eats (kinds.RULE-KW ∷ []) (kinds.RULE-KW ∷ []) u in (size v < size u) ⊎ ((v .rest ≡ u .rest) × (next (kinds.RULE-KW ∷ []) (u .rest) ≡ other))  ⊎ ((v .rest ≡ u .rest) × (next (kinds.RULE-KW ∷ []) (u .rest) ≡ end))
+  eats-end : (u : State) → u .mode ≡ ok → let v : State = eats (kinds.RULE-KW ∷ []) (kinds.RULE-KW ∷ []) u in (size v < size u) ⊎ ((v .rest ≡ u .rest) × (next (kinds.RULE-KW ∷ []) (u .rest) ≡ other)) ⊎ ((v .rest ≡ u .rest) × (next (kinds.RULE-KW ∷ []) (u .rest) ≡ end))
   eats-end u e = subst (λ (x : State). let v : State = eats (kinds.RULE-KW ∷ []) (kinds.RULE-KW ∷ []) x in (size v < size x) ⊎ ((v .rest ≡ x .rest) × (next (kinds.RULE-KW ∷ []) (x .rest) ≡ other)) ⊎ ((v .rest ≡ x .rest) × (next (kinds.RULE-KW ∷ []) (x .rest) ≡ end))) (sym (as-is u ok (u .rest) e refl)) (go (next (kinds.RULE-KW ∷ []) (u .rest)) refl)
     where
       S : List ℕ
       S = kinds.RULE-KW ∷ []
+
       go : (x : Next) → next (kinds.RULE-KW ∷ []) (u .rest) ≡ x → let v : State = eat-row (kinds.RULE-KW ∷ []) x (turn ok u) in (size v < size u) ⊎ ((v .rest ≡ u .rest) × (x ≡ other)) ⊎ ((v .rest ≡ u .rest) × (x ≡ end))
       go end h = inr (inr (refl, refl))
       go other h = inr (inl (refl, refl))
@@ -162,11 +162,11 @@ mods-at i k m (suc d) is s e h b =
     let x = starting d true RULE-MODS s i is (k is) e h (subst Running (sym b) tt) in
     m d (run d) is t (ap (λ (y : State). (f y) .mode) (sym (as-is t ok (i ∷ is) (x .0) (x .1))) ∙ finish-failed true (kind RULE-MODS) (length (t .rest)) (f t) b)
 
-mods-P : Mods kinds.PRIVATE-KW
-mods-P = mods-at kinds.PRIVATE-KW (λ is. refl) mods-private
+past-private : Mods kinds.PRIVATE-KW
+past-private = mods-at kinds.PRIVATE-KW (λ is. refl) mods-private
 
-mods-G : Mods kinds.GLOBAL-KW
-mods-G = mods-at kinds.GLOBAL-KW (λ is. refl) mods-global
+past-global : Mods kinds.GLOBAL-KW
+past-global = mods-at kinds.GLOBAL-KW (λ is. refl) mods-global
 
 run-takes : (d : ℕ) (s : State) (i : ℕ) (is : List ℕ) → skip (i ∷ is) ≡ i ∷ is → (Mods i ⊎ (next (kinds.RULE-KW ∷ []) (i ∷ is) ≡ other → ⊥)) → s .mode ≡ ok → s .rest ≡ i ∷ is → Running ((run d false RULE-DECL s) .mode) → size (run d false RULE-DECL s) < size s
 unfolding grammar idOf for-rest
@@ -175,28 +175,40 @@ run-takes (suc d) s i is k m e h r = by-two (eats-end d (run d) (grows d) (λ o 
   where
     t : State
     t = begin (suc d) s
+
     u : State
     u = opts (run d true RULE-MODS) (begin (suc d) s)
+
     v : State
     v = first-two d (run d) (grows d) (λ o b x z. run-ok d o b x z .1) (begin (suc d) s)
+
     w : State
     w = run (suc d) false RULE-DECL s
+
     x : ((begin (suc d) s) .mode ≡ ok) × ((begin (suc d) s) .rest ≡ i ∷ is)
     x = starting d false RULE-DECL s i is k e h r
+
     vg : Grown v w
     vg = let f : State = exec d (run d) (grammar RULE-DECL) false t in grown .trans v f w (exec-grows d (for-rest (for-rest (grammar RULE-DECL))) false v) (finish-up Grown grown false (kind RULE-DECL) (length (t .rest)) f)
+
     ug : Grown u v
     ug = exec-grows d (one kinds.RULE-KW) false u
+
     tu : Grown t u
     tu = exec-grows d (opt (node RULE-MODS)) false t
+
     ou : (u .mode ≡ ok) × ((size u < size t) ⊎ ((u .rest ≡ t .rest) × ((run d true RULE-MODS (trivia (turn ok t))) .mode ≡ failed)))
     ou = subst (λ (y : State). Running ((opts (run d true RULE-MODS) y) .mode) → ((opts (run d true RULE-MODS) y) .mode ≡ ok) × ((size (opts (run d true RULE-MODS) y) < size t) ⊎ (((opts (run d true RULE-MODS) y) .rest ≡ t .rest) × ((run d true RULE-MODS (trivia (turn ok t))) .mode ≡ failed)))) (sym (as-is t ok (t .rest) (x .0) refl)) (opts-end d (run d) (grows d) (λ o b x z. run-ok d o b x z .1) t) (running-before u w (grown .trans u v w ug vg) r)
+
     ws : size w ≤ size v
     ws = strip-end (w .rest) (v .rest) (vg .rows)
+
     ts : size t ≡ size s
     ts = ap length (ap strip (x .1 ∙ sym h))
+
     us : size u ≤ size t
     us = strip-end (u .rest) (t .rest) (tu .rows)
+
     by-other : next (kinds.RULE-KW ∷ []) (u .rest) ≡ other → v .rest ≡ u .rest → (size u < size t) ⊎ ((u .rest ≡ t .rest) × ((run d true RULE-MODS (trivia (turn ok t))) .mode ≡ failed)) → size w < size s
     by-other n q (inl z) = omega (arith, ws, ts, us, ap (λ (l : List ℕ). length (strip l)) q)
     by-other n q (inr z) = absurd (go m)
@@ -204,9 +216,11 @@ run-takes (suc d) s i is k m e h r = by-two (eats-end d (run d) (grows d) (λ o 
         go : Mods i ⊎ (next (kinds.RULE-KW ∷ []) (i ∷ is) ≡ other → ⊥) → ⊥
         go (inl a) = a d is (trivia (turn ok t)) refl (ap skip (x .1) ∙ k) (z .1)
         go (inr a) = a (ap (next (kinds.RULE-KW ∷ [])) (sym (z .0 ∙ x .1)) ∙ n)
+
     by-end : next (kinds.RULE-KW ∷ []) (u .rest) ≡ end → v .rest ≡ u .rest → (size u < size t) ⊎ ((u .rest ≡ t .rest) × ((run d true RULE-MODS (trivia (turn ok t))) .mode ≡ failed)) → size w < size s
     by-end n q (inl z) = omega (arith, ws, ts, us, ap (λ (l : List ℕ). length (strip l)) q)
     by-end n q (inr z) = nil-cons (sym (ap skip (z .0 ∙ x .1) ∙ k) ∙ sought-end (kinds.RULE-KW ∷ []) (skip (u .rest)) n)
+
     by-two : (size v < size u) ⊎ ((v .rest ≡ u .rest) × (next (kinds.RULE-KW ∷ []) (u .rest) ≡ other)) ⊎ ((v .rest ≡ u .rest) × (next (kinds.RULE-KW ∷ []) (u .rest) ≡ end)) → (size u < size t) ⊎ ((u .rest ≡ t .rest) × ((run d true RULE-MODS (trivia (turn ok t))) .mode ≡ failed)) → size w < size s
     by-two (inl z) p = omega (arith, ws, ts, us)
     by-two (inr (inl z)) p = by-other (z .1) (z .0) p
@@ -224,7 +238,7 @@ pick-of : (S : List ℕ) (i a : ℕ) (is js : List ℕ) → sought S (i ∷ js) 
 pick-of S i a is js = go (pick S i)
   where
     go : (x : Option ℕ) → _≡_ {A = Next} (elim x [ none ↦ other | some b ↦ hit b js ]) (hit a is) → x ≡ some a
-    go none e = let z : _≡_ {A = ℕ} 0 1 = cc in absurd (omega arith)
+    go none e = never cc
     go (some b) e = cc
 
 -- a rule keyword is next: reading the rule takes a row
@@ -236,21 +250,28 @@ rule-takes L s a is e h r =
   where
     u : State
     u = run (L .depth) false RULE-DECL s
+
     K : List ℕ
     K = kinds.GLOBAL-KW ∷ kinds.PRIVATE-KW ∷ kinds.RULE-KW ∷ kinds.IMPORT-KW ∷ kinds.INCLUDE-KW ∷ []
+
     ug : Grown u (read-rule L s)
     ug = exec-grows (L .depth) (for-rest rule-decl) false u
+
     ru : Running ((run (L .depth) false RULE-DECL s) .mode)
     ru = running-before u (read-rule L s) (exec-grows (L .depth) (for-rest rule-decl) false (run (L .depth) false RULE-DECL s)) r
+
     down : size (run (L .depth) false RULE-DECL s) < size s → size (read-rule L s) < size s
     down z = omega (arith, z, strip-end ((read-rule L s) .rest) ((run (L .depth) false RULE-DECL s) .rest) ((exec-grows (L .depth) (for-rest rule-decl) false (run (L .depth) false RULE-DECL s)) .rows))
+
     at-rule : (x : ℕ) → x ≡ kinds.RULE-KW → next (kinds.RULE-KW ∷ []) (x ∷ is) ≡ other → ⊥
-    at-rule x z n = let y : hit kinds.RULE-KW is ≡ other = ap (λ (j : ℕ). next (kinds.RULE-KW ∷ []) (j ∷ is)) (sym z) ∙ n in let c : _≡_ {A = ℕ} 0 1 = cc in omega arith
+    at-rule x z n = let y : hit kinds.RULE-KW is ≡ other = ap (λ (j : ℕ). next (kinds.RULE-KW ∷ []) (j ∷ is)) (sym z) ∙ n in never cc
+
     still : (i j : ℕ) → i ≡ j → skip (j ∷ is) ≡ j ∷ is → skip (i ∷ is) ≡ i ∷ is
     still i j z k = subst (λ (x : ℕ). skip (x ∷ is) ≡ x ∷ is) (sym z) k
+
     go : (i : ℕ) → s .rest ≡ i ∷ is → (i ≡ kinds.GLOBAL-KW) ⊎ (i ≡ kinds.PRIVATE-KW) ⊎ (i ≡ kinds.RULE-KW) → size (read-rule L s) < size s
-    go i z (inl y) = down (run-takes (L .depth) s i is (still i kinds.GLOBAL-KW y refl) (inl (subst Mods (sym y) mods-G)) e z ru)
-    go i z (inr (inl y)) = down (run-takes (L .depth) s i is (still i kinds.PRIVATE-KW y refl) (inl (subst Mods (sym y) mods-P)) e z ru)
+    go i z (inl y) = down (run-takes (L .depth) s i is (still i kinds.GLOBAL-KW y refl) (inl (subst Mods (sym y) past-global)) e z ru)
+    go i z (inr (inl y)) = down (run-takes (L .depth) s i is (still i kinds.PRIVATE-KW y refl) (inl (subst Mods (sym y) past-private)) e z ru)
     go i z (inr (inr y)) = down (run-takes (L .depth) s i is (still i kinds.RULE-KW y refl) (inr (at-rule i y)) e z ru)
 
 pub rule-rows : (L : Limits) (s : State) → End ((read-rule L s) .rest) (s .rest)
@@ -262,11 +283,11 @@ pub stray-takes : (s : State) → skip (s .rest) ≡ s .rest → sought rule-key
 stray-takes s = go (s .rest)
   where
     go : (r : List ℕ) → skip r ≡ r → sought rule-keywords r ≡ other → length (seek rule-keywords r) < length r
-    go [] k e = let z : _≡_ {A = ℕ} 0 1 = cc in absurd (omega arith)
+    go [] k e = never cc
     go (i ∷ is) k e = at (past (next rule-keywords (i ∷ is))) (ap past (ap (sought rule-keywords) k ∙ e))
       where
         at : (b : Bool) → b ≡ false → length {A = ℕ} (elim b as (λ _. List ℕ) [ true ↦ i ∷ is | false ↦ seek rule-keywords is ]) < suc (length is)
-        at true z = let c : _≡_ {A = ℕ} 0 1 = cc in absurd (omega arith)
+        at true z = never cc
         at false z = omega (arith, end-length (seek rule-keywords is) is (seek-end rule-keywords is))
 
 -- THE THEOREM: every item that does not stop the reader takes at least one row
@@ -275,8 +296,10 @@ item-takes L s i is e h r = go (sought rule-keywords ((trivia s) .rest)) refl r
   where
     t : State
     t = trivia s
+
     ts : length ((trivia s) .rest) ≤ length (s .rest)
     ts = end-length ((trivia s) .rest) (s .rest) (gap-end (s .mode) (s .rest))
+
     go : (x : Next) → sought rule-keywords ((trivia s) .rest) ≡ x → let v : State = again (flush (item-at L x (trivia s))) in Running (v .mode) → length (v .rest) < length (s .rest)
     go end n r = let z = after-item (trivia s) (again-running (trivia s) r) in omega (arith, ap length (z .1), ap length (sought-end rule-keywords ((trivia s) .rest) n), ap length h)
     go other n r =

@@ -1,7 +1,6 @@
 -- What a reading writes: every row that it names is one of the file's, and every node that it closes it has opened.
-use Prim.Native.Nat.{ℕ, zero, suc, _+_, _-_, _≤_, _<_}
+use Prim.Native.Nat.{ℕ, zero, suc, _+_, _-_, _≤_}
 use mathlib.Core.Path.{_≡_, refl, ap, ap₂, sym, _∙_, subst}
-use mathlib.Core.Logic.{_⊎_, inl, inr}
 use mathlib.Core.List.{List, [], _∷_, _++_, append-nil, append-assoc}
 use mathlib.Core.Bool.{Bool, true, false}
 use mathlib.Core.Option.{Option, none, some}
@@ -9,14 +8,13 @@ use lib.Dec.{ltb, eqb}
 use lib.ListN.{length}
 use native.Mathlib.Omega.{arith}
 use Rattle.kinds.specs.Kinds as kinds
-use Rattle.kinds.specs.Sets.{kindOf}
+use Rattle.kinds.specs.Sets.{kindOf, trivial}
 use Rattle.peg.specs.Grammar.{rule-decl}
-use Rattle.kinds.specs.Sets.{trivial}
-use Rattle.peg.specs.Run.{State, Reader, Limits, Draft, Event, opened, leaf, closed, bad, Choice, wanted, unwanted, stray, Mode, ok, failed, stopped, Stop, spent, deep, Next, end, other, hit, next, sought, skip, past, gap, gap-out, trivia-out, trivia, seek, seek-out, skip-to, take, turn, put, pay, count, charge, begin, finish, nodes, expected, unexpected, further, furthest, join, pending, add, decide, choose, errors, exec, run, rule-keywords, read-rule, stray-item, item-at, flush, again, item, items, start, read}
+use Rattle.peg.specs.Run.{State, Reader, Limits, Event, opened, leaf, closed, bad, Choice, wanted, unwanted, stray, Mode, ok, failed, stopped, Next, end, other, hit, next, sought, skip, past, gap, gap-out, trivia-out, trivia, seek, seek-out, skip-to, take, turn, put, charge, begin, finish, nodes, further, furthest, join, pending, add, decide, choose, errors, run, rule-keywords, read-rule, stray-item, item-at, flush, again, item, items, start, read}
 use Rattle.peg.specs.Buffer.{Nest}
 use Rattle.peg.proofs.Induct.{exec-kept, run-kept}
-use Rattle.peg.proofs.Order.{Running, Steps, stepped}
-use Rattle.peg.proofs.Grows.{End, gap-end, seek-end, skip-end, take-end}
+use Rattle.peg.proofs.Order.{Steps, stepped}
+use Rattle.peg.proofs.Grows.{gap-end, seek-end, skip-end, take-end}
 use Rattle.peg.proofs.Shrink.{charge-rest}
 use Rattle.peg.proofs.Takes.{end-length}
 
@@ -39,19 +37,19 @@ module _ (N : ℕ) where
   Ins [] = Unit
   Ins (e ∷ es) = In e × Ins es
 
-  ins-append : (w v : List Event) → Ins w → Ins v → Ins (w ++ v)
+  pub ins-append : (w v : List Event) → Ins w → Ins v → Ins (w ++ v)
   ins-append [] v p q = q
   ins-append (e ∷ w) v p q = (p .0, ins-append w v (p .1) q)
 
-  abbrev WantIn : Option (ℕ × List ℕ) → Type 0
+  abbrev pub WantIn : Option (ℕ × List ℕ) → Type 0
   WantIn none = Unit
   WantIn (some w) = w .0 ≤ N
 
-  abbrev UnwantIn : Option ℕ → Type 0
+  abbrev pub UnwantIn : Option ℕ → Type 0
   UnwantIn none = Unit
   UnwantIn (some u) = u ≤ N
 
-  abbrev ChosenIn : List (ℕ × Choice) → Type 0
+  abbrev pub ChosenIn : List (ℕ × Choice) → Type 0
   ChosenIn [] = Unit
   ChosenIn (e ∷ es) = (e .0 ≤ N) × ChosenIn es
 
@@ -133,7 +131,7 @@ module _ (N : ℕ) where
       go true = h
       go false = chosen-append es r c h l
 
-  decide-in : (w : Option (ℕ × List ℕ)) (u : Option ℕ) (es : List (ℕ × Choice)) → WantIn w → UnwantIn u → ChosenIn es → ChosenIn (decide w u es)
+  pub decide-in : (w : Option (ℕ × List ℕ)) (u : Option ℕ) (es : List (ℕ × Choice)) → WantIn w → UnwantIn u → ChosenIn es → ChosenIn (decide w u es)
   decide-in none none es a b c = c
   decide-in none (some u) es a b c = add-in u unwanted es b c
   decide-in (some w) none es a b c = add-in (w .0) (wanted (w .1)) es a c
@@ -167,27 +165,29 @@ module _ (N : ℕ) where
   pub trivia-tidy : (s : State) → Tidy s (trivia s)
   trivia-tidy s = moved s (trivia s) refl refl refl (end-length (gap (s .mode) (s .rest)) (s .rest) (gap-end (s .mode) (s .rest))) (λ i. gap-wrote (s .mode) (s .rest) (s .out) (i .rows))
 
-  charge-same : (d f : ℕ) (t : State) → ((charge d f t) .want ≡ t .want) × ((charge d f t) .unwant ≡ t .unwant) × ((charge d f t) .chosen ≡ t .chosen) × ((charge d f t) .out ≡ t .out)
+  pub charge-same : (d f : ℕ) (t : State) → ((charge d f t) .want ≡ t .want) × ((charge d f t) .unwant ≡ t .unwant) × ((charge d f t) .chosen ≡ t .chosen) × ((charge d f t) .out ≡ t .out)
   charge-same d zero t = (refl, refl, refl, refl)
   charge-same zero (suc f) t = (refl, refl, refl, refl)
   charge-same (suc d) (suc f) t = (refl, refl, refl, refl)
 
   -- what a begin leaves; its opening stands written
-  begin-in : (d : ℕ) (s : State) → Within s → Within (begin d s) × (length ((begin d s) .rest) ≤ length (s .rest)) × Wrote (s .out) ((trivia s) .out) × ((begin d s) .out ≡ opened (length ((begin d s) .rest)) ∷ (trivia s) .out)
+  pub begin-in : (d : ℕ) (s : State) → Within s → Within (begin d s) × (length ((begin d s) .rest) ≤ length (s .rest)) × Wrote (s .out) ((trivia s) .out) × ((begin d s) .out ≡ opened (length ((begin d s) .rest)) ∷ (trivia s) .out)
   begin-in d s i =
       let a = trivia-tidy s i in
       let c = charge-same d (s .fuel) (trivia s) in
-      let e = charge-rest d (s .fuel) (trivia s) in
-      (record { rows = omega (arith, a .within .rows, ap length e); wants = subst WantIn (sym (c .0)) (i .wants); unwants = subst UnwantIn (sym (c .1)) (i .unwants); chose = subst ChosenIn (sym (c .2)) (i .chose) }
-      , omega (arith, a .shorter, ap length e)
-      , a .wrote
-      , ap₂ (λ (n : ℕ) (o : List Event). opened n ∷ o) (sym (ap length e)) (c .3))
+      let e = charge-rest d (s .fuel) (trivia s) in (
+        record { rows = omega (arith, a .within .rows, ap length e); wants = subst WantIn (sym (c .0)) (i .wants); unwants = subst UnwantIn (sym (c .1)) (i .unwants); chose = subst ChosenIn (sym (c .2)) (i .chose) },
+        omega (arith, a .shorter, ap length e),
+        a .wrote,
+        ap₂ (λ (n : ℕ) (o : List Event). opened n ∷ o) (sym (ap length e)) (c .3),
+      )
 
-  finish-in : (o : Bool) (a n : ℕ) (s : State) → Within s → Within (finish o a n s) × ((finish o a n s) .rest ≡ s .rest) × ((k : ℕ) × ((finish o a n s) .out ≡ closed k n (length (s .rest)) ∷ s .out))
+  pub finish-in : (o : Bool) (a n : ℕ) (s : State) → Within s → Within (finish o a n s) × ((finish o a n s) .rest ≡ s .rest) × ((k : ℕ) × ((finish o a n s) .out ≡ closed k n (length (s .rest)) ∷ s .out))
   finish-in o a n s = go o (s .mode) s
     where
       plain : (m : Mode) (s : State) → Within (turn m s) → (t : State) → t .rest ≡ s .rest → t .want ≡ s .want → t .unwant ≡ s .unwant → t .chosen ≡ s .chosen → Within t
       plain m s i t a b c d = record { rows = omega (arith, i .rows, ap length a); wants = subst WantIn (sym b) (i .wants); unwants = subst UnwantIn (sym c) (i .unwants); chose = subst ChosenIn (sym d) (i .chose) }
+
       go : (o : Bool) (m : Mode) (s : State) → Within (turn m s) → let t : State = finish o a n (turn m s) in Within t × (t .rest ≡ s .rest) × ((k : ℕ) × (t .out ≡ closed k n (length (s .rest)) ∷ s .out))
       go o ok s i = (plain ok s i (finish o a n (turn ok s)) refl refl refl refl, refl, (a, refl))
       go true failed s i = (plain failed s i (finish true a n (turn failed s)) refl refl refl refl, refl, (kinds.ERROR, refl))
@@ -195,7 +195,7 @@ module _ (N : ℕ) where
       go false failed s i = let j = choose-tidy (turn failed s) i .within in (record { rows = j .rows; wants = tt; unwants = tt; chose = j .chose }, refl, (kinds.ERROR, refl))
       go false (stopped w) s i = let j = choose-tidy (turn (stopped w) s) i .within in (record { rows = j .rows; wants = tt; unwants = tt; chose = j .chose }, refl, (kinds.ERROR, refl))
 
-  node-tidy : (d : ℕ) (o : Bool) (a : ℕ) (f : Reader) → ((s : State) → Tidy s (f s)) → (s : State) → Tidy s (nodes d o a f s)
+  pub node-tidy : (d : ℕ) (o : Bool) (a : ℕ) (f : Reader) → ((s : State) → Tidy s (f s)) → (s : State) → Tidy s (nodes d o a f s)
   node-tidy d o a f F s i =
       let t : State = begin d s in
       let b = begin-in d s i in
@@ -205,24 +205,24 @@ module _ (N : ℕ) where
       record {
         within = z .0;
         shorter = omega (arith, b .1, p .shorter, ap length (z .1));
-        wrote = subst (Wrote (s .out)) (sym (z .2 .1)) (wrote-trans (s .out) ((trivia s) .out) (closed (z .2 .0) (length (t .rest)) (length (u .rest)) ∷ u .out) (b .2) (a-node (z .2 .0) (length (t .rest)) (length (u .rest)) ((trivia s) .out) (u .out) (b .0 .rows) (p .shorter) (subst (λ (x : List Event). Wrote x (u .out)) (b .3) (p .wrote))))
+        wrote = subst (Wrote (s .out)) (sym (z .2 .1)) (wrote-trans (s .out) ((trivia s) .out) (closed (z .2 .0) (length (t .rest)) (length (u .rest)) ∷ u .out) (b .2) (a-node (z .2 .0) (length (t .rest)) (length (u .rest)) ((trivia s) .out) (u .out) (b .0 .rows) (p .shorter) (subst (λ (x : List Event). Wrote x (u .out)) (b .3) (p .wrote))));
       }
 
   pub tidying : Steps Tidy
   tidying = record {
-      same = λ s. moved s s refl refl refl (omega arith) (λ i. nothing (s .out));
-      trans = tidy-trans;
-      at-turn = λ m s r. moved s (turn m s) refl refl refl (omega arith) (λ i. nothing (s .out));
-      at-expected = λ ns s i. record { within = record { rows = i .rows; wants = further-in (length (skip (s .rest))) ns (s .want) (omega (arith, skip-le (s .rest), i .rows)) (i .wants); unwants = i .unwants; chose = i .chose }; shorter = omega arith; wrote = nothing (s .out) };
-      at-unexpected = λ s i. record { within = record { rows = i .rows; wants = i .wants; unwants = furthest-in (length (skip (s .rest))) (s .unwant) (omega (arith, skip-le (s .rest), i .rows)) (i .unwants); chose = i .chose }; shorter = omega arith; wrote = nothing (s .out) };
-      at-choose = choose-tidy;
-      at-keep = λ r a s. moved s _ refl refl refl (omega arith) (λ i. nothing (s .out));
-      at-trivia = trivia-tidy;
-      at-take = λ S s a is m e. moved s (take a is (trivia s)) refl refl refl (end-length is (s .rest) (take-end S (s .rest) a is e)) (λ i. wrote-trans (s .out) ((trivia s) .out) (leaf a (suc (length is)) ∷ (trivia s) .out) (gap-wrote (s .mode) (s .rest) (s .out) (i .rows)) (a-leaf a (suc (length is)) ((trivia s) .out) (took S s a is e (i .rows))));
-      at-skip = λ S s. moved s (skip-to S s) refl refl refl (end-length (seek S (s .rest)) (s .rest) (seek-end S (s .rest))) (λ i. seek-wrote S (s .rest) (s .out) (i .rows));
-      at-back = λ s t p i. let a = p i in record { within = record { rows = i .rows; wants = a .within .wants; unwants = a .within .unwants; chose = a .within .chose }; shorter = omega arith; wrote = nothing (s .out) };
-      at-node = node-tidy
-    }
+    same = λ s. moved s s refl refl refl (omega arith) (λ i. nothing (s .out));
+    trans = tidy-trans;
+    at-turn = λ m s r. moved s (turn m s) refl refl refl (omega arith) (λ i. nothing (s .out));
+    at-expected = λ ns s i. record { within = record { rows = i .rows; wants = further-in (length (skip (s .rest))) ns (s .want) (omega (arith, skip-le (s .rest), i .rows)) (i .wants); unwants = i .unwants; chose = i .chose }; shorter = omega arith; wrote = nothing (s .out) };
+    at-unexpected = λ s i. record { within = record { rows = i .rows; wants = i .wants; unwants = furthest-in (length (skip (s .rest))) (s .unwant) (omega (arith, skip-le (s .rest), i .rows)) (i .unwants); chose = i .chose }; shorter = omega arith; wrote = nothing (s .out) };
+    at-choose = choose-tidy;
+    at-keep = λ r a s. moved s _ refl refl refl (omega arith) (λ i. nothing (s .out));
+    at-trivia = trivia-tidy;
+    at-take = λ S s a is m e. moved s (take a is (trivia s)) refl refl refl (end-length is (s .rest) (take-end S (s .rest) a is e)) (λ i. wrote-trans (s .out) ((trivia s) .out) (leaf a (suc (length is)) ∷ (trivia s) .out) (gap-wrote (s .mode) (s .rest) (s .out) (i .rows)) (a-leaf a (suc (length is)) ((trivia s) .out) (took S s a is e (i .rows))));
+    at-skip = λ S s. moved s (skip-to S s) refl refl refl (end-length (seek S (s .rest)) (s .rest) (seek-end S (s .rest))) (λ i. seek-wrote S (s .rest) (s .out) (i .rows));
+    at-back = λ s t p i. let a = p i in record { within = record { rows = i .rows; wants = a .within .wants; unwants = a .within .unwants; chose = a .within .chose }; shorter = omega arith; wrote = nothing (s .out) };
+    at-node = node-tidy;
+  }
     where
       took : (S : List ℕ) (s : State) (a : ℕ) (is : List ℕ) → next S (s .rest) ≡ hit a is → length (s .rest) ≤ N → suc (length is) ≤ N
       took S s a is e l = let q = Rattle.peg.proofs.Grows.sought-hit S (skip (s .rest)) a is e in omega (arith, l, ap length (q .1), skip-le (s .rest))
@@ -231,17 +231,17 @@ module _ (N : ℕ) where
   errors-wrote [] o h = nothing o
   errors-wrote (e ∷ c) o h = wrote-trans o (bad (e .0) (e .1) ∷ o) (errors c (bad (e .0) (e .1) ∷ o)) (a-bad (e .0) (e .1) o (h .0)) (errors-wrote c (bad (e .0) (e .1) ∷ o) (h .1))
 
-  rule-tidy : (L : Limits) (s : State) → Tidy s (read-rule L s)
+  pub rule-tidy : (L : Limits) (s : State) → Tidy s (read-rule L s)
   unfolding read-rule
   rule-tidy L s = exec-kept (stepped Tidy tidying) (L .depth) (run (L .depth)) (run-kept (stepped Tidy tidying) (L .depth)) rule-decl false s
 
-  stray-tidy : (s : State) → Tidy s (stray-item s)
+  pub stray-tidy : (s : State) → Tidy s (stray-item s)
   stray-tidy s = moved s (stray-item s) refl refl refl (end-length (seek rule-keywords (s .rest)) (s .rest) (seek-end rule-keywords (s .rest))) (λ i. wrote-trans (s .out) (bad n stray ∷ s .out) ((stray-item s) .out) (a-bad n stray (s .out) (i .rows)) (a-node kinds.ERROR n (length (seek rule-keywords (s .rest))) (bad n stray ∷ s .out) (seek-out rule-keywords (s .rest) (opened n ∷ bad n stray ∷ s .out)) (i .rows) (end-length (seek rule-keywords (s .rest)) (s .rest) (seek-end rule-keywords (s .rest))) (seek-wrote rule-keywords (s .rest) (opened n ∷ bad n stray ∷ s .out) (i .rows))))
     where
       n : ℕ
       n = length (s .rest)
 
-  flush-tidy : (u : State) → Tidy u (again (flush u))
+  pub flush-tidy : (u : State) → Tidy u (again (flush u))
   flush-tidy u = go (u .mode) u
     where
       go : (m : Mode) (u : State) → Tidy (turn m u) (again (flush (turn m u)))
@@ -249,7 +249,7 @@ module _ (N : ℕ) where
       go failed u i = record { within = record { rows = i .rows; wants = tt; unwants = tt; chose = tt }; shorter = omega arith; wrote = errors-wrote (u .chosen) (u .out) (i .chose) }
       go (stopped w) u i = record { within = record { rows = i .rows; wants = tt; unwants = tt; chose = tt }; shorter = omega arith; wrote = errors-wrote (u .chosen) (u .out) (i .chose) }
 
-  item-tidy : (L : Limits) (s : State) → Tidy s (item L s)
+  pub item-tidy : (L : Limits) (s : State) → Tidy s (item L s)
   item-tidy L s =
       let x : Next = sought rule-keywords ((trivia s) .rest) in
       let u : State = item-at L x (trivia s) in
@@ -270,9 +270,12 @@ module _ (N : ℕ) where
       go (i ∷ is) (stopped w) s H = tidying .same (turn (stopped w) (put (i ∷ is) (s .out) s))
       go (i ∷ is) ok s H = let t : State = turn ok (put (i ∷ is) (s .out) s) in tidy-trans t (item L t) (items L n (item L t)) (item-tidy L t) (H (item L t))
 
--- what a whole reading writes
-pub read-tidy : (L : Limits) (r : List ℕ) (f : ℕ) → Ins (length r) ((read L r f) .out) × Nest 0 ((read L r f) .out) 0
-read-tidy L r f =
-    let w = items-tidy (length r) L (length r) (start r f) (record { rows = omega arith; wants = tt; unwants = tt; chose = tt }) .wrote in
-    let e : w .new ≡ (read L r f) .out = sym (append-nil (w .new)) ∙ w .joins in
+-- what is written after n items, and by a whole reading
+pub items-tidied : (L : Limits) (r : List ℕ) (f n : ℕ) → let o : List Event = (items L n (start r f)) .out in Ins (length r) o × Nest 0 o 0
+items-tidied L r f n =
+    let w = items-tidy (length r) L n (start r f) (record { rows = omega arith; wants = tt; unwants = tt; chose = tt }) .wrote in
+    let e : w .new ≡ (items L n (start r f)) .out = sym (append-nil (w .new)) ∙ w .joins in
     (subst (Ins (length r)) e (w .ins), subst (λ (o : List Event). Nest 0 o 0) e (w .nest 0))
+
+pub read-tidy : (L : Limits) (r : List ℕ) (f : ℕ) → Ins (length r) ((read L r f) .out) × Nest 0 ((read L r f) .out) 0
+read-tidy L r f = items-tidied L r f (length r)

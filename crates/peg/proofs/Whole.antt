@@ -1,14 +1,14 @@
 -- The whole reading: more fuel, or events written before, change nothing else. So the rows that are left, read as a file of their own,
 -- give what is left of the reading: rows are named from the end, so nothing else differs.
 use Prim.Native.Nat.{ℕ, zero, suc, _+_}
-use mathlib.Core.Path.{_≡_, refl, ap, sym, _∙_, subst}
+use mathlib.Core.Path.{_≡_, refl, ap, _∙_}
 use mathlib.Core.List.{List, [], _∷_, _++_}
-use mathlib.Core.Bool.{Bool, true, false}
+use mathlib.Core.Bool.{false}
 use mathlib.Core.Option.{none}
 use lib.ListN.{length}
 use Rattle.kinds.specs.Kinds as kinds
 use Rattle.peg.specs.Grammar.{rule-decl}
-use Rattle.peg.specs.Run.{Limits, Draft, mark, State, Reader, Mode, ok, failed, stopped, Event, Choice, Next, end, other, hit, sought, trivia, turn, put, emit, skip-to, exec, run, rule-keywords, read-rule, stray-item, blame, item-at, errors, flush, again, item, items, start, read}
+use Rattle.peg.specs.Run.{Limits, Draft, mark, State, Mode, ok, failed, stopped, Event, Choice, Next, end, other, hit, sought, trivia, turn, put, emit, run, rule-keywords, read-rule, blame, item-at, errors, flush, again, item, items}
 use Rattle.peg.proofs.Induct.{exec-kept, run-kept}
 use Rattle.peg.proofs.Frame.{h, Live, Framed, frames, trivia-h, skip-to-h}
 

@@ -4,8 +4,8 @@
 use Prim.Native.Nat.{ℕ, suc, _+_}
 use mathlib.Core.Path.{_≡_}
 use mathlib.Core.List.{List, [], _∷_}
-use Rattle.peg.specs.Prog.{Production, Prog, eat, unless, ifnext, opt, many, then, _⨟_, _/_, last, recover, node, memo}
 use Rattle.kinds.specs.Sets.{idOf}
+use Rattle.peg.specs.Prog.{Production, Prog, eat, unless, ifnext, opt, many, then, _⨟_, _/_, last, recover, node, memo}
 use Rattle.peg.specs.Grammar.{grammar}
 use Rattle.peg.specs.Peg.{Res}
 
@@ -34,7 +34,8 @@ pub data Ford (R : Production → Exp) : Exp → List ℕ → ℕ → Res → Ty
   non-no : {e : Exp} {x y : List ℕ} {n : ℕ} → Ford R e x n (Res.yes y) → Ford R (non e) x (suc n) Res.no
   non-yes : {e : Exp} {x : List ℕ} {n : ℕ} → Ford R e x n Res.no → Ford R (non e) x (suc n) (Res.yes x)
 
--- the module's combinators in Ford's
+-- the module's combinators in Ford's, as document 01's first paragraph says: a set is a choice of tokens; `if_next` is `&S e / !S`; `begin`, `end` and
+-- `recover` are left out
 abbrev pub one-of : List ℕ → Exp
 one-of [] = non ε
 one-of (a ∷ S) = tok (idOf a) ∣ one-of S

@@ -1,12 +1,11 @@
--- The module's productions, from rule_decl down to pattern_ident_tuple.
+-- The module's productions, from rule_decl down to pattern_ident_tuple, in its order ("for events, errors and fuel the module decides").
 use Prim.Native.Nat.{ℕ}
 use mathlib.Core.List.{List, [], _∷_, map}
 use Rattle.kinds.specs.Kinds as k
 use Rattle.kinds.specs.Sets.{idOf}
-use Rattle.peg.specs.Prog.{Production, RULE-DECL, RULE-MODS, RULE-TAGS, META-BLK, META-DEF, PATTERNS-BLK, PATTERN-DEF, PATTERN-MODS, PATTERN-MOD, HEX-PATTERN, HEX-SUB-PATTERN, HEX-ALTERNATIVE, HEX-JUMP, CONDITION-BLK, BOOLEAN-EXPR, BOOLEAN-TERM, EXPR, FUNC-CALL, RANGE, TERM, PRIMARY-EXPR, FOR-EXPR, OF-EXPR, WITH-EXPR, WITH-DECLS, WITH-DECL, QUANTIFIER, ITERABLE, BOOLEAN-EXPR-TUPLE, EXPR-TUPLE, PATTERN-IDENT-TUPLE}
-use Rattle.peg.specs.Prog.{Prog, eat, unless, ifnext, opt, many, then, _⨟_, _/_, last, recover, node, memo}
+use Rattle.peg.specs.Prog.{Production, RULE-DECL, RULE-MODS, RULE-TAGS, META-BLK, META-DEF, PATTERNS-BLK, PATTERN-DEF, PATTERN-MODS, PATTERN-MOD, HEX-PATTERN, HEX-SUB-PATTERN, HEX-ALTERNATIVE, HEX-JUMP, CONDITION-BLK, BOOLEAN-EXPR, BOOLEAN-TERM, EXPR, FUNC-CALL, RANGE, TERM, PRIMARY-EXPR, FOR-EXPR, OF-EXPR, WITH-EXPR, WITH-DECLS, WITH-DECL, QUANTIFIER, ITERABLE, BOOLEAN-EXPR-TUPLE, EXPR-TUPLE, PATTERN-IDENT-TUPLE, Prog, eat, unless, ifnext, opt, many, then, _⨟_, _/_, last, recover, node, memo}
 
--- the forms that the module writes
+-- the forms that the module writes: `expect` of a set, of one kind, of two; `expect_d`; one_or_more; `cond`; `alt`
 abbrev pub set : List ℕ → Prog
 set S = eat S (map idOf S)
 
@@ -43,9 +42,11 @@ hex-unit = alt₂ (one k.HEX-BYTE) (node HEX-ALTERNATIVE)
 abbrev pub tuple : Prog → Prog
 tuple p = one k.L-PAREN ⨟ then p ⨟ many (one k.COMMA ⨟ then p) ⨟ one k.R-PAREN
 
+-- an item that begins with a rule keyword
 abbrev pub rule-decl : Prog
 rule-decl = node RULE-DECL ⨟ recover (k.GLOBAL-KW ∷ k.PRIVATE-KW ∷ k.RULE-KW ∷ k.IMPORT-KW ∷ k.INCLUDE-KW ∷ [])
 
+-- shut, so that no tactic computes with it unasked
 unfoldable pub grammar : Production → Prog
 grammar RULE-DECL =
     opt (node RULE-MODS) ⨟ one k.RULE-KW ⨟ one k.IDENT
@@ -82,9 +83,7 @@ grammar BOOLEAN-TERM =
     (named k.EXPRESSION (k.PATTERN-IDENT ∷ []) ⨟ ifnext (k.AT-KW ∷ k.IN-KW ∷ []) at-or-in)
     / named k.EXPRESSION (k.TRUE-KW ∷ k.FALSE-KW ∷ [])
     / (named k.EXPRESSION (k.NOT-KW ∷ k.DEFINED-KW ∷ []) ⨟ then (node BOOLEAN-TERM))
-    / node FOR-EXPR
-    / node OF-EXPR
-    / node WITH-EXPR
+    / node FOR-EXPR / node OF-EXPR / node WITH-EXPR
     / (memo EXPR ⨟ many (named k.EXPRESSION (k.EQ ∷ k.NE ∷ k.LE ∷ k.LT ∷ k.GE ∷ k.GT ∷ k.CONTAINS-KW ∷ k.ICONTAINS-KW ∷ k.STARTSWITH-KW
     ∷ k.ISTARTSWITH-KW ∷ k.ENDSWITH-KW ∷ k.IENDSWITH-KW ∷ k.IEQUALS-KW ∷ k.MATCHES-KW ∷ []) ⨟ then (memo EXPR)))
     / last (named k.EXPRESSION (k.L-PAREN ∷ []) ⨟ then (node BOOLEAN-EXPR) ⨟ one k.R-PAREN)
@@ -113,8 +112,8 @@ grammar OF-EXPR =
     then (node QUANTIFIER) ⨟ one k.OF-KW
     ⨟ alt₂ (them ⨟ ifnext (k.AT-KW ∷ k.IN-KW ∷ []) at-or-in) (node BOOLEAN-EXPR-TUPLE ⨟ unless (k.AT-KW ∷ k.IN-KW ∷ []))
 grammar WITH-EXPR =
-    named k.EXPRESSION (k.WITH-KW ∷ []) ⨟ then (node WITH-DECLS ⨟ recover (k.COLON ∷ k.L-PAREN ∷ []))
-    ⨟ one k.COLON ⨟ one k.L-PAREN ⨟ then (node BOOLEAN-EXPR ⨟ recover (k.R-PAREN ∷ [])) ⨟ one k.R-PAREN
+    named k.EXPRESSION (k.WITH-KW ∷ []) ⨟ then (node WITH-DECLS ⨟ recover (k.COLON ∷ k.L-PAREN ∷ [])) ⨟ one k.COLON
+    ⨟ one k.L-PAREN ⨟ then (node BOOLEAN-EXPR ⨟ recover (k.R-PAREN ∷ [])) ⨟ one k.R-PAREN
 grammar WITH-DECLS = then (node WITH-DECL) ⨟ many (one k.COMMA ⨟ node WITH-DECL)
 grammar WITH-DECL = one k.IDENT ⨟ one k.EQUAL ⨟ then (memo EXPR)
 grammar QUANTIFIER =
@@ -126,6 +125,7 @@ grammar PATTERN-IDENT-TUPLE =
     one k.L-PAREN ⨟ one k.PATTERN-IDENT ⨟ opt (one k.ASTERISK)
     ⨟ many (one k.COMMA ⨟ one k.PATTERN-IDENT ⨟ opt (one k.ASTERISK)) ⨟ one k.R-PAREN
 
+-- the kind of a production's node
 unfoldable pub kind : Production → ℕ
 kind RULE-DECL = k.RULE-DECL
 kind RULE-MODS = k.RULE-MODS

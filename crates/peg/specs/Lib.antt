@@ -6,5 +6,8 @@ pub mod Ford
 pub mod Render
 pub mod Buffer
 pub mod Answer
+pub mod Remaining
 pub mod Merge
+pub mod Spelled
 pub mod Table
+pub mod Cases

@@ -1,13 +1,16 @@
--- Acceptance: Ford's PEG over the productions, on the ids of the rows that are no trivia. `begin`, `end` and `recover` are left out.
+-- Acceptance: "For acceptance PEG over the module's productions decides (there `begin`, `end` and `recover` are left out, `cached` is its part, and
+-- `if_next` is its part where its token is next and nothing elsewhere)". The relation on the module's combinators, over the ids of the rows that are
+-- no trivia; specs/Ford has the published rules, and proofs/Published that the two are one.
 use Prim.Native.Nat.{ℕ}
 use mathlib.Core.Path.{_≡_}
 use mathlib.Core.List.{List, [], _∷_}
-use mathlib.Core.Bool.{Bool, true, false}
-use Rattle.peg.specs.Prog.{Production, Prog, eat, unless, ifnext, opt, many, then, _⨟_, _/_, last, recover, node, memo}
-use Rattle.peg.specs.Grammar.{grammar}
+use mathlib.Core.Bool.{true, false}
 use Rattle.kinds.specs.Sets.{trivial}
+use Rattle.peg.specs.Prog.{Production, RULE-DECL, Prog, eat, unless, ifnext, opt, many, then, _⨟_, _/_, last, recover, node, memo}
+use Rattle.peg.specs.Grammar.{grammar}
 use Rattle.peg.specs.Run.{Next, end, other, hit, sought}
 
+-- failure, or the rows that are left
 pub data Res : Type 0 where
   no : Res
   yes : List ℕ → Res
@@ -43,3 +46,11 @@ pub data Peg : Prog → List ℕ → Res → Type 0 where
 abbrev pub strip : List ℕ → List ℕ
 strip [] = []
 strip (i ∷ is) = elim (trivial i) [ true ↦ strip is | false ↦ i ∷ strip is ]
+
+-- "The PEG accepts every item when the rows, trivia aside, are a run of none or more `rule_decl` from first to last."
+pub data Rules : List ℕ → Type 0 where
+  no-more : Rules []
+  one-rule : {r r′ : List ℕ} → Peg (node RULE-DECL) r (yes r′) → Rules r′ → Rules r
+
+abbrev pub Accepts : List ℕ → Type 0
+Accepts ids = Rules (strip ids)

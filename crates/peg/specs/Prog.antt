@@ -1,10 +1,19 @@
--- The combinators of the module as a data type, and the names of the productions.
+-- The module's combinators as a data type, and the names of its productions ("Closures as productions: named functions, or a table and one
+-- interpreter").
 use Prim.Native.Nat.{ℕ}
 use mathlib.Core.List.{List}
 
+-- "the productions from `rule_decl` down to `pattern_ident_tuple`"
 pub data Production : Type 0 where
-  RULE-DECL RULE-MODS RULE-TAGS META-BLK META-DEF PATTERNS-BLK PATTERN-DEF PATTERN-MODS PATTERN-MOD HEX-PATTERN HEX-SUB-PATTERN HEX-ALTERNATIVE HEX-JUMP CONDITION-BLK BOOLEAN-EXPR BOOLEAN-TERM EXPR FUNC-CALL RANGE TERM PRIMARY-EXPR FOR-EXPR OF-EXPR WITH-EXPR WITH-DECLS WITH-DECL QUANTIFIER ITERABLE BOOLEAN-EXPR-TUPLE EXPR-TUPLE PATTERN-IDENT-TUPLE : Production
+  RULE-DECL RULE-MODS RULE-TAGS META-BLK META-DEF : Production
+  PATTERNS-BLK PATTERN-DEF PATTERN-MODS PATTERN-MOD : Production
+  HEX-PATTERN HEX-SUB-PATTERN HEX-ALTERNATIVE HEX-JUMP : Production
+  CONDITION-BLK BOOLEAN-EXPR BOOLEAN-TERM EXPR FUNC-CALL RANGE TERM PRIMARY-EXPR : Production
+  FOR-EXPR OF-EXPR WITH-EXPR WITH-DECLS WITH-DECL QUANTIFIER : Production
+  ITERABLE BOOLEAN-EXPR-TUPLE EXPR-TUPLE PATTERN-IDENT-TUPLE : Production
 
+-- `expect_d` with its set and the names that it enters; `not`; `if_next`; `opt`; a repetition; `then`; the last alternative of an `alt`; one step
+-- after another; an alternative before others; `recover`; a production; a `cached` production
 infixr 20 _⨟_
 infixr 15 _/_
 pub data Prog : Type 0 where

@@ -1,19 +1,20 @@
--- A reading in document 01's numbers: events of four numbers, error records, and the forms.
+-- A reading in document 01's numbers ("Rows, events, error records"): events of four numbers, error records, the forms, and the rooms taken.
 use Prim.Native.Nat.{ℕ, zero, suc, _-_, _+_, _*_}
-use mathlib.Core.List.{List, [], _∷_, _++_, map}
-use mathlib.Core.Bool.{Bool, true, false, _&&_, _||_, not}
-use lib.Dec.{eqb, ltb, leb}
+use mathlib.Core.List.{List, [], _∷_, _++_}
+use mathlib.Core.Bool.{true, false}
+use lib.Dec.{eqb, ltb}
 use lib.ListN.{length, getD, take, drop}
 use Rattle.kinds.specs.Kinds as k
 use Rattle.utf8.specs.Utf8.{utf8}
-use Rattle.peg.specs.Run.{State, Draft, Limits, Event, opened, leaf, closed, bad, Choice, wanted, unwanted, stray, Mode, ok, failed, stopped, Stop, spent, deep, read}
+use Rattle.peg.specs.Run.{State, Draft, Limits, Event, opened, leaf, closed, bad, Choice, wanted, unwanted, stray, Mode, ok, failed, stopped, spent, deep}
 
+-- source bytes, and the rows' ids and ends; a row starts where the one before ends
 pub record Source : Type 0 where
   pub bytes : List ℕ
   pub ids : List ℕ
   pub ends : List ℕ
 
--- the place where row n begins and where it ends, its id and its text; rows are counted from the end, and 0 is the source's end
+-- where row n ends and where it begins, its id and its text. Rows are counted from the end, and 0 is "the source's end with an UNKNOWN id".
 abbrev pub ends-at : Source → ℕ → ℕ
 ends-at x n = getD (x .ends) (length (x .ids) - n) (length (x .bytes))
 
@@ -26,44 +27,55 @@ id-at x n = getD (x .ids) (length (x .ids) - n) k.UNKNOWN
 abbrev pub text-at : Source → ℕ → List ℕ
 text-at x n = take (ends-at x n - starts-at x n) (drop (starts-at x n) (x .bytes))
 
--- a node from row n to before row m
+-- "A node's span runs from its first row's start to its last row's end; with no row it is zero-length at the next row's start, or at the source's
+-- end.": where it ends, from row n to before row m
 abbrev pub span-end : Source → ℕ → ℕ → ℕ
 span-end x n m = elim (eqb n m) [ true ↦ starts-at x n | false ↦ ends-at x (suc m) ]
 
--- forms
+-- FORMS, "tested in this order"
+
+-- "then 3 end of file; 2 text over 15 bytes; 1 otherwise"
 abbrev pub form-found : Limits → List ℕ → ℕ
 form-found L [] = 3
 form-found L (b ∷ bs) = elim (ltb (L .quote) (suc (length bs))) [ true ↦ 2 | false ↦ 1 ]
 
+-- "Expected: if the id is UNKNOWN, 6 text starts with `/*`, 7 with `"`, 8 with `/`"
 abbrev pub form-slash : List ℕ → ℕ
 form-slash [] = 8
 form-slash (b ∷ bs) = elim (eqb b 42) [ true ↦ 6 | false ↦ 8 ]
 
 abbrev pub form-unknown : Limits → List ℕ → ℕ
 form-unknown L [] = form-found L []
-form-unknown L (b ∷ bs) = elim (eqb b 47) [ true ↦ form-slash bs | false ↦ elim (eqb b 34) [ true ↦ 7 | false ↦ form-found L (b ∷ bs) ] ]
+form-unknown L (b ∷ bs) =
+    elim (eqb b 47) [ true ↦ form-slash bs | false ↦ elim (eqb b 34) [ true ↦ 7 | false ↦ form-found L (b ∷ bs) ] ]
 
 abbrev pub form-wanted : Limits → ℕ → List ℕ → ℕ
 form-wanted L i t = elim (eqb i k.UNKNOWN) [ true ↦ form-unknown L t | false ↦ form-found L t ]
 
+-- "Unexpected: 5 empty, 4 otherwise."
 abbrev pub form-unwanted : List ℕ → ℕ
 form-unwanted [] = 5
 form-unwanted (b ∷ bs) = 4
 
+-- "9 text not UTF-8"; "Form 10 looks at no text."
 abbrev pub form-of : Limits → ℕ → List ℕ → Choice → ℕ
 form-of L i t (wanted ns) = elim (utf8 t) [ true ↦ form-wanted L i t | false ↦ 9 ]
 form-of L i t unwanted = elim (utf8 t) [ true ↦ form-unwanted t | false ↦ 9 ]
 form-of L i t stray = 10
 
+-- forms 4 to 10 have no names
 abbrev pub names-of : ℕ → Choice → List ℕ
 names-of f (wanted ns) = elim (ltb f 4) [ true ↦ ns | false ↦ [] ]
 names-of f unwanted = []
 names-of f stray = []
 
--- events and records
+-- EVENTS AND RECORDS
+
+-- "An event is four numbers: sort (1 begin, 2 token, 3 end, 4 error), kind or error record index (from 0), start, end."
 abbrev pub Quad : Type 0
 Quad = ℕ × ℕ × ℕ × ℕ
 
+-- "An error record is start, end, form, count of names, then the names."
 abbrev pub Rec : Type 0
 Rec = ℕ × ℕ × ℕ × List ℕ
 
@@ -75,6 +87,7 @@ abbrev pub flat-records : List Rec → List ℕ
 flat-records [] = []
 flat-records (e ∷ es) = e .0 ∷ e .1 ∷ e .2 ∷ length (e .3) ∷ e .3 ++ flat-records es
 
+-- how many errors
 abbrev pub bads : List Event → ℕ
 bads [] = 0
 bads (opened n ∷ es) = bads es
@@ -82,7 +95,8 @@ bads (leaf a n ∷ es) = bads es
 bads (closed a n m ∷ es) = bads es
 bads (bad n c ∷ es) = suc (bads es)
 
--- from the last event to the first; the stack holds kind and end of the nodes whose closing was met, and b is how many records are before
+-- written from the last event to the first: the stack holds kind and end of the nodes whose closing was met, so that a begin has them "at both
+-- events"; b is how many records are before
 abbrev pub Page : Type 0
 Page = List (ℕ × ℕ) × List Quad
 
@@ -110,10 +124,11 @@ records L x (leaf a n ∷ es) l = records L x es l
 records L x (closed a n m ∷ es) l = records L x es l
 records L x (bad n c ∷ es) l = records L x es (record-of L x n c ∷ l)
 
--- what stands inside SOURCE_FILE
+-- what is written inside SOURCE_FILE
 abbrev pub inside : Source → List Event → List Quad
 inside x o = (render x 0 o ([], [])) .1
 
+-- "outcome, rows covered, counts of events and error records, fuel left", with the lists themselves
 pub record Reading : Type 0 where
   pub outcome : ℕ
   pub covered : ℕ
@@ -121,6 +136,7 @@ pub record Reading : Type 0 where
   pub events : List Quad
   pub errors : List Rec
 
+-- "Outcome 0 is done, 1 out of fuel, 2 too deep."
 abbrev pub outcome-of : Mode → ℕ
 outcome-of ok = 0
 outcome-of failed = 0
@@ -128,12 +144,22 @@ outcome-of (stopped spent) = 1
 outcome-of (stopped deep) = 2
 
 abbrev pub rendered : Limits → Source → State → Reading
-rendered L x s = record { outcome = outcome-of (s .mode); covered = length (x .ids) - length (s .rest); left = s .fuel; events = (1, k.SOURCE-FILE, 0, length (x .bytes)) ∷ inside x (s .out) ++ ((3, k.SOURCE-FILE, 0, length (x .bytes)) ∷ []); errors = records L x (s .out) [] }
+rendered L x s =
+    record {
+      outcome = outcome-of (s .mode);
+      covered = length (x .ids) - length (s .rest);
+      left = s .fuel;
+      events =
+          (1, k.SOURCE-FILE, 0, length (x .bytes)) ∷ inside x (s .out) ++ ((3, k.SOURCE-FILE, 0, length (x .bytes)) ∷ []);
+      errors = records L x (s .out) [];
+    }
 
--- rooms: what a draft takes, the SOURCE_FILE begin event with it. A record takes its room when it is chosen.
+-- ROOMS: what a draft takes, the SOURCE_FILE begin event with it. "A record takes its room when it is chosen"
+
 abbrev pub size-of : Limits → Source → ℕ → Choice → ℕ
 size-of L x n c = 4 + length (names-of (form-of L (id-at x n) (text-at x n) c) c)
 
+-- the records of the errors that stand written, and of those that are chosen
 abbrev pub said : Limits → Source → List Event → ℕ
 said L x [] = 0
 said L x (opened n ∷ es) = said L x es
@@ -156,10 +182,11 @@ moments-of L x (d ∷ ds) = used L x d ∷ moments-of L x ds
 abbrev pub moments : Limits → Source → State → List (ℕ × ℕ)
 moments L x s = (4 * suc (suc (length (s .out))), said L x (s .out)) ∷ moments-of L x (s .drafts)
 
+-- 7 where the events exceed their room, else 8 where the records do, else 0
 abbrev pub exceeds : ℕ → ℕ → ℕ × ℕ → ℕ
 exceeds e r m = elim (ltb e (m .0)) [ true ↦ 7 | false ↦ elim (ltb r (m .1)) [ true ↦ 8 | false ↦ 0 ] ]
 
--- the first moment at which a room is exceeded
+-- "the event list would at some moment exceed its room, 8 not before": the oldest such moment decides, and it stands last
 abbrev pub over : ℕ → ℕ → List (ℕ × ℕ) → ℕ
 over e r [] = 0
 over e r (m ∷ ms) = elim (over e r ms) [ zero ↦ exceeds e r m | suc n ↦ suc n ]

@@ -1,0 +1,68 @@
+//! Writes the numbers of docs/KINDS.md as Rust, so that the page stays the only place that says them.
+
+use std::fmt::Write;
+use std::path::{Path, PathBuf};
+use std::{env, fs};
+
+fn main() {
+    let page = env::var_os("STABLEGLOW_KINDS").map(PathBuf::from).unwrap_or_else(|| {
+        Path::new(&env::var_os("CARGO_MANIFEST_DIR").unwrap()).join("../../docs/KINDS.md")
+    });
+    println!("cargo:rerun-if-env-changed=STABLEGLOW_KINDS");
+    println!("cargo:rerun-if-changed={}", page.display());
+    let text = fs::read_to_string(&page).unwrap_or_else(|e| panic!("{}: {e}", page.display()));
+    let (ids, kinds, names) = (rows(&text, "Ids"), rows(&text, "Kinds"), rows(&text, "Names"));
+    let mut out = String::new();
+    constants(&mut out, "id", "IDS", &ids);
+    constants(&mut out, "kind", "KINDS", &kinds);
+    constants(&mut out, "name", "NAMES", &names);
+    macro_of(&mut out, &ids, &kinds);
+    let place = Path::new(&env::var_os("OUT_DIR").unwrap()).join("kinds.rs");
+    fs::write(place, out).unwrap();
+}
+
+/// The cells of the table under a heading; the numbers must stand in order from 0.
+fn rows(text: &str, heading: &str) -> Vec<Vec<String>> {
+    let title = format!("## {heading}");
+    let part = text.lines().skip_while(|l| *l != title).skip(1).take_while(|l| !l.starts_with("## "));
+    let cells = part.filter(|l| l.starts_with("| ") && !l.starts_with("| number"));
+    let rows: Vec<Vec<String>> =
+        cells.map(|l| l.trim_matches('|').split('|').map(|c| c.trim().to_string()).collect()).collect();
+    for (i, row) in rows.iter().enumerate() {
+        assert_eq!(row[0], i.to_string(), "{heading} out of order");
+    }
+    assert!(!rows.is_empty(), "no table under {heading}");
+    rows
+}
+
+fn constants(out: &mut String, module: &str, list: &str, rows: &[Vec<String>]) {
+    let all: Vec<&str> = rows.iter().map(|r| r[1].as_str()).collect();
+    writeln!(out, "pub const {list}: &[&str] = &{all:?};").unwrap();
+    writeln!(out, "pub mod {module} {{").unwrap();
+    for row in rows {
+        let constant = row[1].replace(' ', "_").to_uppercase();
+        writeln!(out, "    pub const {constant}: u32 = {};", row[0]).unwrap();
+    }
+    writeln!(out, "}}").unwrap();
+}
+
+/// A macro that hands the page to another one: enums cannot be made of constants.
+fn macro_of(out: &mut String, ids: &[Vec<String>], kinds: &[Vec<String>]) {
+    writeln!(out, "#[macro_export]\nmacro_rules! page {{ ($then:ident) => {{ $then! {{ ids {{").unwrap();
+    for id in ids {
+        writeln!(out, "{} {},", id[1], id[0]).unwrap();
+    }
+    writeln!(out, "}} kinds {{").unwrap();
+    for kind in kinds.iter().filter(|k| k[2] != "-") {
+        let id: usize = kind[2].parse().unwrap();
+        writeln!(out, "{} {} {},", kind[1], kind[0], ids[id][1]).unwrap();
+    }
+    writeln!(out, "}} nodes {{").unwrap();
+    for kind in kinds.iter().filter(|k| k[2] == "-") {
+        writeln!(out, "{} {},", kind[1], kind[0]).unwrap();
+    }
+    writeln!(out, "}} }} }} }}").unwrap();
+    let of: Vec<String> = kinds.iter().map(|k| k[2].replace('-', "u32::MAX")).collect();
+    writeln!(out, "/// The id of each kind; a node has none.").unwrap();
+    writeln!(out, "pub const ID_OF_KIND: &[u32] = &[{}];", of.join(", ")).unwrap();
+}

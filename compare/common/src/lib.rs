@@ -1,0 +1,172 @@
+//! What every side is asked and what it answers, in the numbers of document 01 and docs/KINDS.md.
+
+pub mod input;
+pub mod listing;
+
+/// Ids, kinds and names, written by the build from docs/KINDS.md.
+pub mod kinds {
+    include!(concat!(env!("OUT_DIR"), "/kinds.rs"));
+
+    /// Trivia may stand between any two rows.
+    pub fn is_trivia(id: u32) -> bool {
+        matches!(id, id::WHITESPACE | id::NEWLINE | id::COMMENT)
+    }
+}
+
+use kinds::kind;
+
+pub type Event = [u32; 4];
+
+pub const BEGIN: u32 = 1;
+pub const TOKEN: u32 = 2;
+pub const END: u32 = 3;
+pub const ERROR: u32 = 4;
+
+/// One call of the reader. The lists may differ in length or fail to tile: that is for the refusals to say.
+#[derive(Clone, Debug, PartialEq, Eq, Hash)]
+pub struct Question {
+    pub source: Vec<u8>,
+    pub ids: Vec<u32>,
+    pub starts: Vec<u32>,
+    pub ends: Vec<u32>,
+    pub fuel: u32,
+    /// Words of scratch, then numbers of room for events and for error records.
+    pub scratch: usize,
+    pub event_room: usize,
+    pub error_room: usize,
+}
+
+impl Question {
+    /// A question whose rows tile the source, with room for any reading that a comparison makes.
+    pub fn new(rows: &[(u32, Vec<u8>)], fuel: u32) -> Self {
+        let (mut source, mut ids, mut starts, mut ends) = (vec![], vec![], vec![], vec![]);
+        for (id, text) in rows {
+            ids.push(*id);
+            starts.push(source.len() as u32);
+            source.extend_from_slice(text);
+            ends.push(source.len() as u32);
+        }
+        let scratch = scratch_words(ids.len());
+        let event_room = 4 * (64 * (ids.len() + 1)).max(16_384);
+        let error_room = (32 * (ids.len() + 1)).max(4_096);
+        Self { source, ids, starts, ends, fuel, scratch, event_room, error_room }
+    }
+
+    /// The rows with their texts, if the lists are equally long and lie in the source.
+    pub fn rows(&self) -> Option<Vec<(u32, Vec<u8>)>> {
+        let places = self.starts.iter().zip(&self.ends);
+        let rows = self.ids.iter().zip(places);
+        let alike = self.ids.len() == self.starts.len() && self.ids.len() == self.ends.len();
+        let read = |(id, (s, e)): (&u32, (&u32, &u32))| {
+            Some((*id, self.source.get(*s as usize..*e as usize)?.to_vec()))
+        };
+        alike.then(|| rows.map(read).collect())?
+    }
+}
+
+/// The words of scratch that refusal 6 asks for, as document 01 spells them.
+#[allow(clippy::manual_div_ceil)]
+pub fn scratch_words(rows: usize) -> usize {
+    (2 * (rows + 1) + 63) / 64
+}
+
+/// What the reader gives back, and what it leaves in the lent buffers, which held `LENT` everywhere.
+#[derive(Clone, Debug, PartialEq, Eq)]
+pub struct Reply {
+    pub refusal: u32,
+    /// Outcome, rows covered, counts of events and of error records, fuel left.
+    pub answer: [u32; 5],
+    pub scratch: Vec<u64>,
+    pub events: Vec<u32>,
+    pub errors: Vec<u32>,
+}
+
+/// What the merger gives back: refusal, count of events, and its room, which held `LENT` everywhere.
+#[derive(Clone, Debug, PartialEq, Eq)]
+pub struct Merged {
+    pub refusal: u32,
+    pub count: u32,
+    pub room: Vec<u32>,
+}
+
+/// The content of lent cells before a call: neither zero nor anything that a reader writes.
+pub const LENT: u32 = 0xA5A5_A5A5;
+pub const LENT_WORD: u64 = 0xA5A5_A5A5_A5A5_A5A5;
+
+/// Anything that reads as document 01 says: the model, and the library through its C face.
+pub trait Side {
+    fn read(&self, question: &Question) -> Reply;
+    fn merge(&self, events: &[u32], room: usize) -> Merged;
+}
+
+/// A reading without its buffers: all that can be asked of the Rust.
+#[derive(Clone, Debug, PartialEq, Eq)]
+pub struct Reading {
+    pub raw: Vec<Event>,
+    pub merged: Vec<Event>,
+    pub records: Vec<Record>,
+    pub outcome: u32,
+    pub rows: u32,
+    pub fuel: u32,
+}
+
+#[derive(Clone, Debug, PartialEq, Eq)]
+pub struct Record {
+    pub start: u32,
+    pub end: u32,
+    pub form: u32,
+    pub names: Vec<u32>,
+}
+
+pub fn events_of(numbers: &[u32]) -> Vec<Event> {
+    numbers.chunks_exact(4).map(|e| [e[0], e[1], e[2], e[3]]).collect()
+}
+
+/// Takes `count` error records out of the numbers that hold them.
+pub fn records_of(numbers: &[u32], count: usize) -> Vec<Record> {
+    let mut rest = numbers;
+    let mut records = Vec::new();
+    for _ in 0..count {
+        let (head, tail) = rest.split_at(4);
+        let (names, after) = tail.split_at(head[3] as usize);
+        records.push(Record { start: head[0], end: head[1], form: head[2], names: names.to_vec() });
+        rest = after;
+    }
+    records
+}
+
+/// Asks a side for a reading and its merged list. A refusal is handed back as its number.
+pub fn reading_of(side: &dyn Side, question: &Question) -> Result<Reading, u32> {
+    let reply = side.read(question);
+    if reply.refusal != 0 {
+        return Err(reply.refusal);
+    }
+    let [outcome, rows, events, errors, fuel] = reply.answer;
+    let raw = &reply.events[..4 * events as usize];
+    let merged = side.merge(raw, raw.len());
+    assert_eq!(merged.refusal, 0, "the merger refuses what the reader wrote");
+    Ok(Reading {
+        raw: events_of(raw),
+        merged: events_of(&merged.room[..4 * merged.count as usize]),
+        records: records_of(&reply.errors, errors as usize),
+        outcome,
+        rows,
+        fuel,
+    })
+}
+
+/// Decision 1: the Rust has no empty ERROR nodes. Each ERROR begin directly followed by its end is
+/// taken out, inside out, and nothing else.
+pub fn strip_empty_errors(events: &[Event]) -> Vec<Event> {
+    let mut kept: Vec<Event> = Vec::new();
+    for event in events {
+        let closes = event[0] == END && event[1] == kind::ERROR;
+        match kept.last() {
+            Some(last) if closes && last[0] == BEGIN && last[1] == kind::ERROR => {
+                kept.pop();
+            }
+            _ => kept.push(*event),
+        }
+    }
+    kept
+}

@@ -1,0 +1,77 @@
+//! Stableglow itself, through its C face.
+
+use common::{Merged, Question, Reply, Side, LENT, LENT_WORD};
+
+extern "C" {
+    fn stableglow_read(
+        source: *const u8,
+        source_len: usize,
+        ids: *const u32,
+        ids_len: usize,
+        starts: *const u32,
+        starts_len: usize,
+        ends: *const u32,
+        ends_len: usize,
+        fuel: u32,
+        scratch: *mut u64,
+        scratch_len: usize,
+        events: *mut u32,
+        events_len: usize,
+        errors: *mut u32,
+        errors_len: usize,
+        answer: *mut u32,
+    ) -> u32;
+
+    fn stableglow_merge(
+        events: *const u32,
+        events_len: usize,
+        room: *mut u32,
+        room_len: usize,
+        count: *mut u32,
+    ) -> u32;
+}
+
+pub struct Library;
+
+impl Side for Library {
+    fn read(&self, q: &Question) -> Reply {
+        let mut scratch = vec![LENT_WORD; q.scratch];
+        let mut events = vec![LENT; q.event_room];
+        let mut errors = vec![LENT; q.error_room];
+        // The answer's cells are the face's own, so they are written whatever comes.
+        let mut answer = [LENT; 5];
+        // SAFETY: every pointer comes with the length of the slice that it was taken from, the slices do
+        // not overlap, and the answer has the five cells that the face writes.
+        let refusal = unsafe {
+            stableglow_read(
+                q.source.as_ptr(),
+                q.source.len(),
+                q.ids.as_ptr(),
+                q.ids.len(),
+                q.starts.as_ptr(),
+                q.starts.len(),
+                q.ends.as_ptr(),
+                q.ends.len(),
+                q.fuel,
+                scratch.as_mut_ptr(),
+                scratch.len(),
+                events.as_mut_ptr(),
+                events.len(),
+                errors.as_mut_ptr(),
+                errors.len(),
+                answer.as_mut_ptr(),
+            )
+        };
+        Reply { refusal, answer, scratch, events, errors }
+    }
+
+    fn merge(&self, events: &[u32], room: usize) -> Merged {
+        let mut room = vec![LENT; room];
+        let mut count = [LENT];
+        // SAFETY: as above.
+        let refusal = unsafe {
+            stableglow_merge(events.as_ptr(), events.len(), room.as_mut_ptr(), room.len(), count.as_mut_ptr())
+        };
+        Merged { refusal, count: count[0], room }
+    }
+}

@@ -1,0 +1,86 @@
+//! The Rust's own parser and merger, built unchanged over stand-ins, asked in document 01's numbers.
+
+mod message;
+mod stand_in;
+
+// The layout of the Rust's crate, as far as its four files name it.
+include!(concat!(env!("OUT_DIR"), "/modules.rs"));
+pub use stand_in::Span;
+pub mod ast {
+    pub use crate::stand_in::AST;
+}
+pub mod tokenizer {
+    pub use crate::stand_in::{Token, TokenId, Tokenizer};
+}
+
+use common::{BEGIN, END, ERROR, Event, Question, Reading, Record, TOKEN};
+use cst::error_merger::ErrorMerger;
+
+/// What the probe saw of one reading.
+pub struct Probed {
+    pub events: Vec<cst::Event>,
+    pub out_of_fuel: bool,
+    pub rows: usize,
+    pub fuel: usize,
+}
+
+/// Reads rows that tile the source. Answers outcomes 0 and 1 alone: the Rust has no limit of depth.
+pub fn read(question: &Question) -> Reading {
+    let spans = question.starts.iter().zip(&question.ends).map(|(s, e)| Span(*s..*e));
+    let rows: Vec<tokenizer::Token> =
+        question.ids.iter().zip(spans).map(|(id, span)| tokenizer::Token::new(*id, span)).collect();
+    let probed = parser::Parser::probe(&question.source, &rows, question.fuel as usize);
+    let (raw, records) = with_records(probed.events.iter().cloned(), &question.source);
+    let (merged, again) = with_records(ErrorMerger::new(probed.events.into_iter()), &question.source);
+    assert_eq!(records, again, "merging leaves errors alone");
+    Reading {
+        raw,
+        merged,
+        records,
+        outcome: u32::from(probed.out_of_fuel),
+        rows: probed.rows as u32,
+        fuel: probed.fuel as u32,
+    }
+}
+
+/// The Rust's merger on any list; an error keeps its index as its message.
+pub fn merge(events: &[Event]) -> Vec<Event> {
+    let given = events.iter().map(|[sort, what, start, end]| {
+        let span = Span(*start..*end);
+        let kind = || stand_in::SyntaxKind::ALL[*what as usize];
+        match *sort {
+            BEGIN => cst::Event::Begin { kind: kind(), span },
+            END => cst::Event::End { kind: kind(), span },
+            TOKEN => cst::Event::Token { kind: kind(), span },
+            _ => cst::Event::Error { message: what.to_string(), span },
+        }
+    });
+    numbers(ErrorMerger::new(given), |index, _| index.parse().unwrap())
+}
+
+/// Events as numbers, and a record for each message, in the order of their events.
+fn with_records(events: impl Iterator<Item = cst::Event>, source: &[u8]) -> (Vec<Event>, Vec<Record>) {
+    let mut records = Vec::new();
+    let events = numbers(events, |message, span| {
+        let (form, names) = message::apart(message, &source[span.range()]);
+        records.push(Record { start: span.0.start, end: span.0.end, form, names });
+        records.len() as u32 - 1
+    });
+    (events, records)
+}
+
+fn numbers(
+    events: impl Iterator<Item = cst::Event>,
+    mut index: impl FnMut(&str, &Span) -> u32,
+) -> Vec<Event> {
+    let number = |event| {
+        let (sort, what, span) = match event {
+            cst::Event::Begin { kind, span } => (BEGIN, kind as u32, span),
+            cst::Event::Token { kind, span } => (TOKEN, kind as u32, span),
+            cst::Event::End { kind, span } => (END, kind as u32, span),
+            cst::Event::Error { message, span } => (ERROR, index(&message, &span), span),
+        };
+        [sort, what, span.0.start, span.0.end]
+    };
+    events.map(number).collect()
+}

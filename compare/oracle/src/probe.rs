@@ -1,0 +1,24 @@
+//! Stands where the parser declares its tests, since a module within may set its fuel and see its state.
+//! That module is private, so the parser's public type hands the probe out.
+
+use super::{Parser, ParserImpl, State};
+use crate::Probed;
+use crate::tokenizer::{Token, Tokenizer};
+
+impl Parser<'_> {
+    /// Reads the given rows with the given fuel by the parser's own iterator.
+    pub fn probe(source: &[u8], rows: &[Token], fuel: usize) -> Probed {
+        let mut parser = ParserImpl::from(Tokenizer::with_rows(source, rows));
+        parser.fuel = fuel;
+        let mut events = Vec::new();
+        let mut seen = false;
+        while let Some(event) = parser.next() {
+            events.push(event);
+            seen |= matches!(parser.state, State::OutOfFuel);
+        }
+        let covered = parser.tokens.current_token_index();
+        // The iterator leaves the state of a stopped item behind at once if the item wrote nothing, and
+        // then it took no row either. Nothing but a stop leaves rows uncovered.
+        Probed { events, out_of_fuel: seen || covered < rows.len(), rows: covered, fuel: parser.fuel }
+    }
+}

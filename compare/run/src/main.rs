@@ -1,0 +1,144 @@
+//! Puts the sides beside each other: see README.md.
+
+mod cases;
+mod differences;
+mod judge;
+mod minimise;
+mod tally;
+
+use common::{events_of, Question, Side};
+use generate::rng::Rng;
+use generate::{case, Sort, SORTS};
+use model::Model;
+use std::collections::HashSet;
+use std::hash::{DefaultHasher, Hash, Hasher};
+use std::path::Path;
+use std::{env, panic, process, thread};
+use tally::Tally;
+
+const USAGE: &str = "run cases FOLDER | run compare COUNT [SEED [SORT]] | run merge COUNT [SEED] | \
+    run differences | run show SORT SEED NUMBER";
+
+fn main() {
+    // The Rust goes down one call per node.
+    let working = thread::Builder::new().stack_size(1 << 30).spawn(work).unwrap();
+    if let Err(message) = working.join().unwrap() {
+        eprintln!("{message}");
+        process::exit(1);
+    }
+}
+
+fn work() -> Result<(), String> {
+    let args: Vec<String> = env::args().skip(1).collect();
+    let words: Vec<&str> = args.iter().map(String::as_str).collect();
+    let number = |text: &str| text.replace('_', "").parse::<u64>().map_err(|e| format!("{text}: {e}"));
+    match words[..] {
+        ["cases", folder] => stored_and_small(Path::new(folder)),
+        ["compare", count] => compare(number(count)?, 1, None),
+        ["compare", count, seed] => compare(number(count)?, number(seed)?, None),
+        ["compare", count, seed, sort] => compare(number(count)?, number(seed)?, Some(named(sort)?)),
+        ["merge", count] => merges(number(count)?, 1),
+        ["merge", count, seed] => merges(number(count)?, number(seed)?),
+        ["differences"] => differences::tell(),
+        ["show", sort, seed, at] => {
+            print!("{}", minimise::show(&case(named(sort)?, number(seed)?, number(at)?)));
+            Ok(())
+        }
+        _ => Err(USAGE.to_string()),
+    }
+}
+
+fn named(name: &str) -> Result<Sort, String> {
+    let sorts = SORTS.map(|(sort, _)| sort);
+    sorts.into_iter().find(|s| format!("{s:?}").to_lowercase() == name).ok_or(format!("no sort {name}"))
+}
+
+#[cfg(feature = "library")]
+fn library() -> Option<&'static dyn Side> {
+    Some(&library::Library)
+}
+
+#[cfg(not(feature = "library"))]
+fn library() -> Option<&'static dyn Side> {
+    None
+}
+
+fn stored_and_small(folder: &Path) -> Result<(), String> {
+    for (name, side) in [("model", Some(&Model as &dyn Side)), ("library", library())] {
+        let Some(side) = side else { continue };
+        let count = cases::stored(folder, side).map_err(|e| format!("{name}: {e}"))?;
+        cases::small(side).map_err(|e| format!("{name}: {e}"))?;
+        println!("{name}: {count} stored cases, P1 to P9 and the sizes agree");
+    }
+    Ok(())
+}
+
+fn compare(count: u64, seed: u64, only: Option<Sort>) -> Result<(), String> {
+    // A panic of the Rust is a difference, told with its case.
+    panic::set_hook(Box::new(|_| {}));
+    let round: Vec<usize> = (0..SORTS.len())
+        .filter(|i| only.is_none_or(|s| s == SORTS[*i].0))
+        .flat_map(|i| vec![i; SORTS[i].1])
+        .collect();
+    let mut tallies = vec![Tally::default(); SORTS.len()];
+    let mut made = vec![0; SORTS.len()];
+    let mut distinct = HashSet::new();
+    for n in 0..count {
+        let i = round[n as usize % round.len()];
+        let question = case(SORTS[i].0, seed, made[i]);
+        match judge::judge(&question, library()) {
+            Ok(seen) => tallies[i].add(&seen),
+            Err(message) => return Err(differing(SORTS[i].0, seed, made[i], &question, &message)),
+        }
+        made[i] += 1;
+        distinct.insert(hash(&question));
+    }
+    report(&tallies, distinct.len());
+    Ok(())
+}
+
+fn hash(question: &Question) -> u64 {
+    let mut hasher = DefaultHasher::new();
+    question.hash(&mut hasher);
+    hasher.finish()
+}
+
+fn differing(sort: Sort, seed: u64, number: u64, question: &Question, message: &str) -> String {
+    let small = minimise::minimise(question, |q| judge::judge(q, library()).is_err());
+    let now = judge::judge(&small, library()).err().unwrap_or_default();
+    format!("{sort:?} {seed} {number}: {message}\nsmallest: {now}\n{}", minimise::show(&small))
+}
+
+fn report(tallies: &[Tally], distinct: usize) {
+    println!("{}", tally::HEAD);
+    let mut all = Tally::default();
+    for ((sort, _), tally) in SORTS.iter().zip(tallies).filter(|(_, t)| t.cases > 0) {
+        println!("{:<11}{tally}", format!("{sort:?}"));
+        all.join(tally);
+    }
+    println!("{:<11}{all}\n{}\n{distinct} distinct cases, no difference", "all", all.forms());
+}
+
+/// The merger alone: the Rust's on lists with a reader's spans, the library's on any numbers.
+fn merges(count: u64, seed: u64) -> Result<(), String> {
+    let mut refused = 0;
+    for n in 0..count {
+        let rng = &mut Rng::new(seed, n);
+        let list = generate::merge::list(true, rng);
+        let ours = Model.merge(&list.concat(), 4 * list.len());
+        let rust = oracle::merge(&list);
+        if events_of(&ours.room[..4 * ours.count as usize]) != rust {
+            return Err(format!("merge {seed} {n}: {list:?} becomes {ours:?}, in the Rust {rust:?}"));
+        }
+        let (numbers, room) = generate::merge::wild(rng);
+        refused += u64::from(Model.merge(&numbers, room).refusal != 0);
+        if let Some(library) = library() {
+            judge::same_merges(&numbers, room, library)
+                .map_err(|e| format!("merge {seed} {n}: {numbers:?}: {e}"))?;
+        }
+    }
+    println!(
+        "{count} lists merged as the Rust does; {count} wild ones, {refused} of them refused, no difference"
+    );
+    Ok(())
+}

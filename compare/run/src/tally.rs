@@ -1,0 +1,76 @@
+//! Counts of a run, by sort of case.
+
+use crate::judge::Seen;
+use std::fmt::{Display, Formatter, Result};
+
+#[derive(Clone, Default)]
+pub struct Tally {
+    pub cases: usize,
+    compared: usize,
+    out_of_fuel: usize,
+    too_deep: usize,
+    refused: [usize; 9],
+    outside_utf8: usize,
+    accepted: usize,
+    with_errors: usize,
+    with_empty_errors: usize,
+    forms: [usize; 11],
+}
+
+pub const HEAD: &str = "sort           cases  with Rust  no fuel  too deep  refused  \
+    not same UTF-8  accepted  with error  empty ERROR";
+
+impl Tally {
+    pub fn add(&mut self, seen: &Seen) {
+        self.cases += 1;
+        self.compared += usize::from(seen.compared);
+        self.out_of_fuel += usize::from(seen.outcome == 1);
+        self.too_deep += usize::from(seen.outcome == 2);
+        self.refused[seen.refusal as usize] += 1;
+        self.outside_utf8 += usize::from(seen.outside_utf8);
+        self.accepted += usize::from(seen.accepted);
+        self.with_errors += usize::from(!seen.forms.is_empty());
+        self.with_empty_errors += usize::from(seen.has_empty_errors);
+        seen.forms.iter().for_each(|f| self.forms[*f as usize] += 1);
+    }
+
+    pub fn join(&mut self, other: &Tally) {
+        self.cases += other.cases;
+        self.compared += other.compared;
+        self.out_of_fuel += other.out_of_fuel;
+        self.too_deep += other.too_deep;
+        self.outside_utf8 += other.outside_utf8;
+        self.accepted += other.accepted;
+        self.with_errors += other.with_errors;
+        self.with_empty_errors += other.with_empty_errors;
+        self.refused.iter_mut().zip(other.refused).for_each(|(a, b)| *a += b);
+        self.forms.iter_mut().zip(other.forms).for_each(|(a, b)| *a += b);
+    }
+
+    pub fn forms(&self) -> String {
+        format!(
+            "error records by form 1..10: {:?}\nrefusals 1..8: {:?}",
+            &self.forms[1..],
+            &self.refused[1..]
+        )
+    }
+}
+
+impl Display for Tally {
+    fn fmt(&self, f: &mut Formatter) -> Result {
+        let refused: usize = self.refused[1..].iter().sum();
+        write!(
+            f,
+            "{:>8} {:>10} {:>8} {:>9} {:>8} {:>15} {:>9} {:>11} {:>12}",
+            self.cases,
+            self.compared,
+            self.out_of_fuel,
+            self.too_deep,
+            refused,
+            self.outside_utf8,
+            self.accepted,
+            self.with_errors,
+            self.with_empty_errors,
+        )
+    }
+}
