@@ -1,0 +1,256 @@
+-- Laws of the merger: the promise leaves one outcome; what is no ERROR begin and no ERROR end stays, in its order; every ERROR end has its begin's
+-- span; a list with no two neighbouring ERROR nodes, whose ERROR ends have their begins' spans, is its own finished list; neighbours that stand in
+-- their order are joined from the first one's start to the last one's end.
+use Prim.Native.Nat.{ℕ, zero, suc, _%_, _≤_}
+use mathlib.Core.Path.{_≡_, refl, ap, ap₂, sym, _∙_}
+use mathlib.Core.List.{List, [], _∷_}
+use mathlib.Core.Bool.{Bool, true, false, _&&_, _||_}
+use lib.Dec.{eqb}
+use lib.ListN.{length}
+use borrow.Author.Tests.{eqb-true, eq-eqb}
+use native.Mathlib.Nat.{min-eq-left, max-eq-right}
+use native.Mathlib.Omega.{arith}
+use Rattle.peg.specs.Render.{Quad, flat}
+use Rattle.peg.specs.Merge.{quads, error-of, Span, Mark, opens, joins, closes, keeps, ended, marked, marks, paired, reach, error-event, merge, finished, Returned, merging}
+use Rattle.merger.specs.Answer.{returning}
+use Rattle.merger.specs.declared.Merged.{Merged}
+use Rattle.merger.specs.declared.Merged.the-variants.{Malformed, Unpaired, Full, Events}
+use Rattle.merger.proofs.Bools.{never, and-left, and-right, sort-of, kind-of}
+
+-- ONE OUTCOME
+pick : Bool → Merged → Merged → Merged
+pick true a b = a
+pick false a b = b
+
+answer-of : Returned → Merged
+answer-of z = pick (eqb (z .number) 0) (Events (z .count)) (pick (eqb (z .number) 9) Malformed (pick (eqb (z .number) 10) Unpaired Full))
+
+answer-back : (r : Merged) (l : List ℕ) → answer-of (returning r l) ≡ r
+unfolding pick answer-of
+answer-back Malformed l = refl
+answer-back Unpaired l = refl
+answer-back Full l = refl
+answer-back (Events n) l = refl
+
+room-back : (r : Merged) (l : List ℕ) → returning r l .room ≡ l
+room-back Malformed l = refl
+room-back Unpaired l = refl
+room-back Full l = refl
+room-back (Events n) l = refl
+
+pub one-outcome : (events lent : List ℕ) (r r′ : Merged) (l l′ : List ℕ) → returning r l ≡ merging events lent → returning r′ l′ ≡ merging events lent → (r ≡ r′) × (l ≡ l′)
+one-outcome events lent r r′ l l′ p q =
+    let same : returning r l ≡ returning r′ l′ = p ∙ sym q in
+    (sym (answer-back r l) ∙ ap answer-of same ∙ answer-back r′ l′, sym (room-back r l) ∙ ap (λ (z : Returned). z .room) same ∙ room-back r′ l′)
+
+-- WHAT STAYS
+abbrev pub when : Bool → Quad → List Quad → List Quad
+when true e es = e ∷ es
+when false e es = es
+
+abbrev pub only : (Quad → Bool) → List Quad → List Quad
+only p [] = []
+only p (e ∷ es) = when (p e) e (only p es)
+
+kept : List Mark → List Quad
+kept [] = []
+kept (opens z ∷ ms) = kept ms
+kept (joins z ∷ ms) = kept ms
+kept (closes ∷ ms) = kept ms
+kept (keeps e ∷ ms) = e ∷ kept ms
+
+kept-ended : (ms : List Mark) → kept (ended ms) ≡ kept ms
+unfolding kept
+kept-ended [] = refl
+kept-ended (opens z ∷ ms) = refl
+kept-ended (joins z ∷ ms) = refl
+kept-ended (closes ∷ ms) = refl
+kept-ended (keeps e ∷ ms) = refl
+
+-- p holds of no ERROR begin and no ERROR end
+module _ (p : Quad → Bool) (begin : (e : Quad) → error-of 1 e ≡ true → p e ≡ false) (end : (e : Quad) → error-of 3 e ≡ true → p e ≡ false) where
+  dropped : (e : Quad) (es : List Quad) → p e ≡ false → only p (e ∷ es) ≡ only p es
+  dropped e es h = ap (λ (t : Bool). when t e (only p es)) h
+
+  of-merge : (ms : List Mark) (st : List Span) → only p (merge ms st) ≡ only p (kept ms)
+  unfolding kept
+  of-merge [] st = refl
+  of-merge (opens z ∷ ms) st = let y = reach ms 0 z in dropped (error-event 1 y) (merge ms (y ∷ st)) (begin (error-event 1 y) refl) ∙ of-merge ms (y ∷ st)
+  of-merge (joins z ∷ ms) st = of-merge ms st
+  of-merge (closes ∷ ms) [] = of-merge ms []
+  of-merge (closes ∷ ms) (z ∷ st) = dropped (error-event 3 z) (merge ms st) (end (error-event 3 z) refl) ∙ of-merge ms st
+  of-merge (keeps e ∷ ms) st = ap (when (p e) e) (of-merge ms st)
+
+  of-marks : (es : List Quad) → only p (kept (marks es)) ≡ only p es
+  unfolding kept
+  of-marks [] = refl
+  of-marks (e ∷ es) = go (error-of 1 e) (error-of 3 e) refl refl (of-marks es)
+    where
+      go : (a b : Bool) → error-of 1 e ≡ a → error-of 3 e ≡ b → only p (kept (marks es)) ≡ only p es → only p (kept (marked a b e (marks es))) ≡ only p (e ∷ es)
+      go true b h g r = r ∙ sym (dropped e es (begin e h))
+      go false true h g r = ap (only p) (kept-ended (marks es)) ∙ r ∙ sym (dropped e es (end e g))
+      go false false h g r = ap (when (p e) e) r
+
+  pub stays : (l : List ℕ) → only p (finished l) ≡ only p (quads l)
+  stays l = of-merge (marks (quads l)) [] ∙ of-marks (quads l)
+
+-- token and error events
+abbrev pub leaf : Quad → Bool
+leaf e = eqb (e .0) 2 || eqb (e .0) 4
+
+pub leaves-stay : (l : List ℕ) → only leaf (finished l) ≡ only leaf (quads l)
+leaves-stay = stays leaf (no 1 refl) (no 3 refl)
+  where
+    no : (s : ℕ) → eqb s 2 || eqb s 4 ≡ false → (e : Quad) → error-of s e ≡ true → leaf e ≡ false
+    no s c e h = ap (λ (n : ℕ). eqb n 2 || eqb n 4) (sort-of s e h) ∙ c
+
+-- SPANS
+-- every ERROR end has the span of its begin; st has those of the nodes that are open
+abbrev pub closing : Quad → (List Span → Bool) → List Span → Bool
+closing e f [] = false
+closing e f (z ∷ st) = eqb (e .2) (z .0) && eqb (e .3) (z .1) && f st
+
+abbrev pub spanned-by : Bool → Bool → Quad → (List Span → Bool) → List Span → Bool
+spanned-by true t e f st = f ((e .2, e .3) ∷ st)
+spanned-by false true e f st = closing e f st
+spanned-by false false e f st = f st
+
+abbrev pub spanned : List Quad → List Span → Bool
+spanned [] st = true
+spanned (e ∷ es) st = spanned-by (error-of 1 e) (error-of 3 e) e (spanned es) st
+
+-- what is kept is no ERROR begin and no ERROR end
+Plain : List Mark → Type 0
+Plain [] = Unit
+Plain (opens z ∷ ms) = Plain ms
+Plain (joins z ∷ ms) = Plain ms
+Plain (closes ∷ ms) = Plain ms
+Plain (keeps e ∷ ms) = (error-of 1 e ≡ false) × (error-of 3 e ≡ false) × Plain ms
+
+plain-ended : (ms : List Mark) → Plain ms → Plain (ended ms)
+unfolding Plain
+plain-ended [] h = h
+plain-ended (opens z ∷ ms) h = h
+plain-ended (joins z ∷ ms) h = h
+plain-ended (closes ∷ ms) h = h
+plain-ended (keeps e ∷ ms) h = h
+
+plain : (es : List Quad) → Plain (marks es)
+unfolding Plain
+plain [] = tt
+plain (e ∷ es) = go (error-of 1 e) (error-of 3 e) refl refl (plain es)
+  where
+    go : (a b : Bool) → error-of 1 e ≡ a → error-of 3 e ≡ b → Plain (marks es) → Plain (marked a b e (marks es))
+    go true b h g r = r
+    go false true h g r = plain-ended (marks es) r
+    go false false h g r = (h, g, r)
+
+both : (a b c : Bool) → a ≡ true → b ≡ true → c ≡ true → a && b && c ≡ true
+both a b c p q r = ap (λ (t : Bool). t && b && c) p ∙ ap (λ (t : Bool). true && t && c) q ∙ r
+
+spanned-merge : (ms : List Mark) (st : List Span) → paired ms (length st) ≡ true → Plain ms → spanned (merge ms st) st ≡ true
+unfolding Plain
+spanned-merge [] st h p = refl
+spanned-merge (opens z ∷ ms) st h p = spanned-merge ms (reach ms 0 z ∷ st) h p
+spanned-merge (joins z ∷ ms) [] h p = never h
+spanned-merge (joins z ∷ ms) (y ∷ st) h p = spanned-merge ms (y ∷ st) h p
+spanned-merge (closes ∷ ms) [] h p = never h
+spanned-merge (closes ∷ ms) (z ∷ st) h p = both (eqb (z .0) (z .0)) (eqb (z .1) (z .1)) (spanned (merge ms st) st) (eq-eqb (z .0) (z .0) refl) (eq-eqb (z .1) (z .1) refl) (spanned-merge ms st h p)
+spanned-merge (keeps e ∷ ms) st h p =
+    ap (λ (t : Bool). spanned-by t (error-of 3 e) e (spanned (merge ms st)) st) (p .0)
+    ∙ ap (λ (t : Bool). spanned-by false t e (spanned (merge ms st)) st) (p .1)
+    ∙ spanned-merge ms st h (p .2)
+
+pub ends-have-spans : (l : List ℕ) → paired (marks (quads l)) 0 ≡ true → spanned (finished l) [] ≡ true
+ends-have-spans l h = spanned-merge (marks (quads l)) [] h (plain (quads l))
+
+-- NO NEIGHBOURS
+abbrev pub apart : List Mark → Bool
+apart [] = true
+apart (opens z ∷ ms) = apart ms
+apart (joins z ∷ ms) = false
+apart (closes ∷ ms) = apart ms
+apart (keeps e ∷ ms) = apart ms
+
+reach-apart : (ms : List Mark) (h : ℕ) (z : Span) → apart ms ≡ true → reach ms h z ≡ z
+reach-apart [] h z a = refl
+reach-apart (opens y ∷ ms) h z a = reach-apart ms (suc h) z a
+reach-apart (joins y ∷ ms) h z a = never a
+reach-apart (closes ∷ ms) zero z a = refl
+reach-apart (closes ∷ ms) (suc h) z a = reach-apart ms h z a
+reach-apart (keeps e ∷ ms) h z a = reach-apart ms h z a
+
+ended-apart : (ms : List Mark) → apart (ended ms) ≡ true → (ended ms ≡ closes ∷ ms) × (apart ms ≡ true)
+ended-apart [] a = (refl, refl)
+ended-apart (opens z ∷ ms) a = never a
+ended-apart (joins z ∷ ms) a = never a
+ended-apart (closes ∷ ms) a = (refl, a)
+ended-apart (keeps e ∷ ms) a = (refl, a)
+
+error-is : (s : ℕ) (e : Quad) → error-of s e ≡ true → error-event s (e .2, e .3) ≡ e
+error-is s e h =
+    ap₂ (λ (a b : ℕ). (a, b, e .2, e .3)) (sym (sort-of s e h)) (sym (kind-of s e h))
+
+-- an ERROR end with the span z
+end-is : (z : Span) (e : Quad) (t : Bool) → error-of 3 e ≡ true → eqb (e .2) (z .0) && eqb (e .3) (z .1) && t ≡ true → (error-event 3 z ≡ e) × (t ≡ true)
+end-is z e t h s =
+    let ab = and-left (eqb (e .2) (z .0) && eqb (e .3) (z .1)) t s in
+    let a = eqb-true (e .2) (z .0) (and-left (eqb (e .2) (z .0)) (eqb (e .3) (z .1)) ab) in
+    let b = eqb-true (e .3) (z .1) (and-right (eqb (e .2) (z .0)) (eqb (e .3) (z .1)) ab) in
+    (ap₂ (λ (i j : ℕ). error-event 3 (i, j)) (sym a) (sym b) ∙ error-is 3 e h, and-right (eqb (e .2) (z .0) && eqb (e .3) (z .1)) t s)
+
+same : (es : List Quad) (st : List Span) → apart (marks es) ≡ true → spanned es st ≡ true → merge (marks es) st ≡ es
+same [] st a s = refl
+same (e ∷ es) st a s = go (error-of 1 e) (error-of 3 e) st refl refl a s (same es)
+  where
+    go : (p q : Bool) (st : List Span) → error-of 1 e ≡ p → error-of 3 e ≡ q → apart (marked p q e (marks es)) ≡ true → spanned-by p q e (spanned es) st ≡ true
+        → ((st : List Span) → apart (marks es) ≡ true → spanned es st ≡ true → merge (marks es) st ≡ es) → merge (marked p q e (marks es)) st ≡ e ∷ es
+    go true q st h g a s r =
+        ap (λ (y : Span). error-event 1 y ∷ merge (marks es) (y ∷ st)) (reach-apart (marks es) 0 (e .2, e .3) a)
+        ∙ ap₂ (λ (f : Quad) (fs : List Quad). f ∷ fs) (error-is 1 e h) (r ((e .2, e .3) ∷ st) a s)
+    go false true [] h g a s r = never s
+    go false true (z ∷ st) h g a s r =
+        let c = ended-apart (marks es) a in
+        let i = end-is z e (spanned es st) g s in
+        ap (λ (ms : List Mark). merge ms (z ∷ st)) (c .0) ∙ ap₂ (λ (f : Quad) (fs : List Quad). f ∷ fs) (i .0) (r st (c .1) (i .1))
+    go false false st h g a s r = ap (λ (fs : List Quad). e ∷ fs) (r st a s)
+
+flat-quads : (l : List ℕ) → length l % 4 ≡ 0 → flat (quads l) ≡ l
+flat-quads [] h = refl
+flat-quads (a ∷ []) h = absurd (omega arith)
+flat-quads (a ∷ b ∷ []) h = absurd (omega arith)
+flat-quads (a ∷ b ∷ c ∷ []) h = absurd (omega arith)
+flat-quads (a ∷ b ∷ c ∷ d ∷ l) h = ap (λ (t : List ℕ). a ∷ b ∷ c ∷ d ∷ t) (flat-quads l (omega arith))
+
+pub unchanged : (l : List ℕ) → length l % 4 ≡ 0 → apart (marks (quads l)) ≡ true → spanned (quads l) [] ≡ true → flat (finished l) ≡ l
+unchanged l h a s = ap flat (same (quads l) [] a s) ∙ flat-quads l h
+
+-- NEIGHBOURS IN THEIR ORDER, as a reader writes them: each node that is joined starts no earlier than the one before it ends. Then the span runs from
+-- the first one's start to the last one's end
+abbrev pub ordered : List Mark → ℕ → Span → Type 0
+ordered [] h z = z .0 ≤ z .1
+ordered (opens y ∷ ms) h z = ordered ms (suc h) z
+ordered (joins y ∷ ms) zero z = (z .0 ≤ z .1) × (z .1 ≤ y .0) × (y .0 ≤ y .1) × ordered ms zero (z .0, y .1)
+ordered (joins y ∷ ms) (suc h) z = ordered ms (suc h) z
+ordered (closes ∷ ms) zero z = z .0 ≤ z .1
+ordered (closes ∷ ms) (suc h) z = ordered ms h z
+ordered (keeps e ∷ ms) h z = ordered ms h z
+
+abbrev pub first-to-last : List Mark → ℕ → Span → Span
+first-to-last [] h z = z
+first-to-last (opens y ∷ ms) h z = first-to-last ms (suc h) z
+first-to-last (joins y ∷ ms) zero z = first-to-last ms zero (z .0, y .1)
+first-to-last (joins y ∷ ms) (suc h) z = first-to-last ms (suc h) z
+first-to-last (closes ∷ ms) zero z = z
+first-to-last (closes ∷ ms) (suc h) z = first-to-last ms h z
+first-to-last (keeps e ∷ ms) h z = first-to-last ms h z
+
+pub in-order : (ms : List Mark) (h : ℕ) (z : Span) → ordered ms h z → reach ms h z ≡ first-to-last ms h z
+in-order [] h z o = refl
+in-order (opens y ∷ ms) h z o = in-order ms (suc h) z o
+in-order (joins y ∷ ms) zero z o =
+    ap (reach ms zero) (ap₂ (λ (a b : ℕ). (a, b)) (min-eq-left (omega (arith, o .0, o .1))) (max-eq-right (omega (arith, o .1, o .2)))) ∙ in-order ms zero (z .0, y .1) (o .3)
+in-order (joins y ∷ ms) (suc h) z o = in-order ms (suc h) z o
+in-order (closes ∷ ms) zero z o = refl
+in-order (closes ∷ ms) (suc h) z o = in-order ms h z o
+in-order (keeps e ∷ ms) h z o = in-order ms h z o

@@ -1,0 +1,9 @@
+pub mod Bools
+pub mod Lists
+pub mod Listing
+pub mod Reading
+pub mod Counting
+pub mod Turning
+pub mod Drafting
+pub mod Answering
+pub mod Laws

@@ -1,0 +1,79 @@
+-- The next mark: which mark the event at a place is, with the event after it where the two are joined.
+use Prim.Native.Nat.{ℕ, _+_, _-_, _≤_, _<_}
+use mathlib.Core.Path.{_≡_, refl, ap, sym, _∙_}
+use mathlib.Core.List.{List, [], _∷_}
+use mathlib.Core.Bool.{Bool, true, false, _&&_}
+use lib.Dec.{eqb}
+use lib.ListN.{length, drop}
+use borrow.Author.Tests.{eq-eqb, ne-eqb}
+use native.Mathlib.Omega.{arith}
+use Rattle.kinds.specs.Kinds as k
+use Rattle.peg.specs.Render.{Quad}
+use Rattle.peg.specs.Merge.{quads, Mark, opens, joins, closes, keeps, ended, marked, marks, error-of}
+use Rattle.merger.specs.Events.{quad-at, rest}
+use Rattle.merger.proofs.Bools.{sort-of}
+use Rattle.merger.proofs.Lists.{quads-at, quads-end}
+
+-- OF EVENTS
+opened : (e : Quad) (es : List Quad) → error-of 1 e ≡ true → marks (e ∷ es) ≡ opens (e .2, e .3) ∷ marks es
+opened e es h = ap (λ (t : Bool). marked t (error-of 3 e) e (marks es)) h
+
+kept : (e : Quad) (es : List Quad) → error-of 1 e ≡ false → error-of 3 e ≡ false → marks (e ∷ es) ≡ keeps e ∷ marks es
+kept e es h g = ap (λ (t : Bool). marked t (error-of 3 e) e (marks es)) h ∙ ap (λ (t : Bool). marked false t e (marks es)) g
+
+not-begin : (e : Quad) → error-of 3 e ≡ true → error-of 1 e ≡ false
+not-begin e h = ap (λ (t : Bool). t && eqb (e .1) k.ERROR) (ne-eqb (e .0) 1 (λ q. omega (arith, sort-of 3 e h)))
+
+shut : (e : Quad) (es : List Quad) → error-of 3 e ≡ true → marks (e ∷ es) ≡ ended (marks es)
+shut e es h = ap (λ (t : Bool). marked t (error-of 3 e) e (marks es)) (not-begin e h) ∙ ap (λ (t : Bool). marked false t e (marks es)) h
+
+-- an end before what is no begin
+closed : (e : Quad) (es : List Quad) → error-of 1 e ≡ false → ended (marks (e ∷ es)) ≡ closes ∷ marks (e ∷ es)
+closed e es h = ap (λ (t : Bool). ended (marked t (error-of 3 e) e (marks es))) h ∙ go (error-of 3 e) (marks es) ∙ ap (λ (t : Bool). closes ∷ marked t (error-of 3 e) e (marks es)) (sym h)
+  where
+    go : (t : Bool) (ms : List Mark) → ended (marked false t e ms) ≡ closes ∷ marked false t e ms
+    go false ms = refl
+    go true [] = refl
+    go true (opens z ∷ ms) = refl
+    go true (joins z ∷ ms) = refl
+    go true (closes ∷ ms) = refl
+    go true (keeps f ∷ ms) = refl
+
+-- the code's test
+pub of-sort : (e : Quad) (s : ℕ) → e .0 ≡ s → eqb (e .1) k.ERROR ≡ error-of s e
+of-sort e s h = sym (ap (λ (t : Bool). t && eqb (e .1) k.ERROR) (eq-eqb (e .0) s h))
+
+pub of-other : (e : Quad) (s : ℕ) → (e .0 ≡ s → ⊥) → false ≡ error-of s e
+of-other e s h = sym (ap (λ (t : Bool). t && eqb (e .1) k.ERROR) (ne-eqb (e .0) s h))
+
+-- AT A PLACE: e is the event there
+module _ (l : List ℕ) (at : ℕ) (more : at + 4 ≤ length l) (e : Quad) (is : e ≡ quad-at l at) where
+  here : rest l at ≡ marks (e ∷ quads (drop (at + 4) l))
+  here = ap marks (quads-at l at more) ∙ ap (λ (f : Quad). marks (f ∷ quads (drop (at + 4) l))) (sym is)
+
+  pub opens-at : error-of 1 e ≡ true → rest l at ≡ opens (e .2, e .3) ∷ rest l (at + 4)
+  opens-at h = here ∙ opened e (quads (drop (at + 4) l)) h
+
+  pub keeps-at : error-of 1 e ≡ false → error-of 3 e ≡ false → rest l at ≡ keeps e ∷ rest l (at + 4)
+  keeps-at h g = here ∙ kept e (quads (drop (at + 4) l)) h g
+
+  no-begin : error-of 1 e ≡ false → ended (rest l at) ≡ closes ∷ rest l at
+  no-begin h = ap ended here ∙ closed e (quads (drop (at + 4) l)) h ∙ ap (λ (ms : List Mark). closes ∷ ms) (sym here)
+
+pub rest-end : (l : List ℕ) (at : ℕ) → length l - at < 4 → rest l at ≡ []
+rest-end l at h = ap marks (quads-end l at h)
+
+-- an end at a place, e the event after it
+module _ (l : List ℕ) (at : ℕ) (more : at + 4 ≤ length l) (end : error-of 3 (quad-at l at) ≡ true) where
+  ended-at : rest l at ≡ ended (rest l (at + 4))
+  ended-at = here l at more (quad-at l at) refl ∙ shut (quad-at l at) (quads (drop (at + 4) l)) end
+
+  pub closes-last : length l - (at + 4) < 4 → rest l at ≡ closes ∷ rest l (at + 4)
+  closes-last h = ended-at ∙ ap ended (rest-end l (at + 4) h) ∙ ap (λ (ms : List Mark). closes ∷ ms) (sym (rest-end l (at + 4) h))
+
+  module _ (next : (at + 4) + 4 ≤ length l) (e : Quad) (is : e ≡ quad-at l (at + 4)) where
+    pub joins-at : error-of 1 e ≡ true → rest l at ≡ joins (e .2, e .3) ∷ rest l ((at + 4) + 4)
+    joins-at h = ended-at ∙ ap ended (opens-at l (at + 4) next e is h)
+
+    pub closes-at : error-of 1 e ≡ false → rest l at ≡ closes ∷ rest l (at + 4)
+    closes-at h = ended-at ∙ no-begin l (at + 4) next e is h

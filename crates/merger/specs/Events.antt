@@ -1,0 +1,37 @@
+-- Events and marks of the code as those of the definition, and what reading and writing one means.
+use Prim.Native.Nat.{ℕ, _+_, _≤_}
+use mathlib.Core.Path.{_≡_}
+use mathlib.Core.List.{List, _∷_}
+use lib.ListN.{length, getD, drop, set}
+use Rattle.peg.specs.Render.{Quad}
+use Rattle.peg.specs.Merge as D
+use Rattle.merger.specs.declared.marks.Event.{Event}
+use Rattle.merger.specs.declared.marks.Step.{Step}
+use Rattle.merger.specs.declared.marks.Mark.{Mark}
+use Rattle.merger.specs.declared.marks.Mark.the-variants.{Opens, Joins, Closes, Keeps}
+
+abbrev pub quadOf : Event → Quad
+quadOf e = (e .sort, e .kind, e .start, e .end)
+
+abbrev pub markOf : Mark → D.Mark
+markOf (Opens s e) = D.opens (s, e)
+markOf (Joins s e) = D.joins (s, e)
+markOf Closes = D.closes
+markOf (Keeps e) = D.keeps (quadOf e)
+
+-- the event whose four numbers start at a place
+abbrev pub quad-at : List ℕ → ℕ → Quad
+quad-at l at = (getD l at 0, getD l (at + 1) 0, getD l (at + 2) 0, getD l (at + 3) 0)
+
+abbrev pub put-at : List ℕ → ℕ → Quad → List ℕ
+put-at l at e = set (set (set (set l at (e .0)) (at + 1) (e .1)) (at + 2) (e .2)) (at + 3) (e .3)
+
+-- the marks from a place on
+abbrev pub rest : List ℕ → ℕ → List D.Mark
+rest l at = D.marks (D.quads (drop at l))
+
+-- the first of them is read
+pub record Reads (l : List ℕ) (at : ℕ) (r : Step) : Type 0 where
+  pub first : rest l at ≡ markOf (r .mark) ∷ rest l (r .past)
+  pub ahead : at + 4 ≤ r .past
+  pub within : r .past ≤ length l

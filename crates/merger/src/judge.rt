@@ -1,0 +1,86 @@
+// Refusals 9 and 10, and the size of the finished list.
+use crate::marks::Mark;
+use crate::marks::mark_at;
+ghost use mathlib.Core.Path.{_≡_};
+ghost use Prim.Native.Nat.{_<_, _^_};
+ghost use Rattle.peg.specs.Merge as D;
+ghost use Rattle.merger.specs.Events.{markOf};
+ghost use Rattle.merger.specs.Count.{tallied, counted};
+
+pub enum Size {
+    Unpaired,
+    Events(usize),
+}
+
+// Of the marks so far: how many ERROR nodes are open and how many events are left; or that an ERROR end had none open.
+pub enum Tally {
+    Unpaired,
+    Open(usize, usize),
+}
+
+// Whether the list is no case of refusal 9.
+pub fn well_formed(events: &[u32]) -> bool
+    ensures { λ r. ⌜ r ≡ D.well-formed (now (events .entry)) ⌝ }
+{
+    if events.len() % 4 != 0 {
+        return false;
+    }
+    let mut at: usize = 0;
+    while at < events.len() {
+        let sort = events[at];
+        if sort < 1 {
+            return false;
+        }
+        if sort > 4 {
+            return false;
+        }
+        at += 4;
+    }
+    true
+}
+
+// A mark more in the tally.
+fn one_more(m: Mark, nodes: usize, left: usize) -> Tally
+    requires { ⌜ (nodes < 2 ^ 63) × (left < 2 ^ 63) ⌝ }
+    ensures { λ r. ⌜ r ≡ tallied (markOf m) nodes left ⌝ }
+{
+    match m {
+        Mark::Opens(_, _) => Tally::Open(nodes + 1, left + 1),
+        Mark::Joins(_, _) => if nodes == 0 {
+            Tally::Unpaired
+        } else {
+            Tally::Open(nodes, left)
+        },
+        Mark::Closes => if nodes == 0 {
+            Tally::Unpaired
+        } else {
+            Tally::Open(nodes - 1, left + 1)
+        },
+        Mark::Keeps(_) => Tally::Open(nodes, left + 1),
+    }
+}
+
+// Refusal 10, or how many events the finished list has.
+pub fn count(events: &[u32]) -> Size
+    ensures { λ r. ⌜ r ≡ counted (D.marks (D.quads (now (events .entry)))) ⌝ }
+{
+    let mut at: usize = 0;
+    let mut nodes: usize = 0;
+    let mut left: usize = 0;
+    while events.len() - at >= 4 {
+        let n = mark_at(events, at);
+        at = n.past;
+        let m = n.mark;
+        let t = one_more(m, nodes, left);
+        let Tally::Open(o, l) = t else {
+            return Size::Unpaired;
+        };
+        nodes = o;
+        left = l;
+    }
+    if nodes == 0 {
+        Size::Events(left)
+    } else {
+        Size::Unpaired
+    }
+}

@@ -1,0 +1,127 @@
+-- Rows that are expected: taken up, or the state fails. Assumes nothing.
+use Prim.Native.Nat.{ℕ, suc, _+_, _≤_, _<_}
+use mathlib.Core.Path.{_≡_, refl, sym, ap, subst, _∙_}
+use mathlib.Core.List.{List, [], _∷_}
+use mathlib.Core.Bool.{Bool, true, false}
+use native.Mathlib.Nat.{le-refl}
+use native.Mathlib.Omega.{arith}
+use lib.ListN.{length, getD, take, drop}
+use lib.Seq.{take-take}
+use Rattle.kinds.specs.Sets.{setOf, pick}
+use Rattle.peg.specs.Run as P
+use Rattle.peg.specs.Run.{Mode, ok, failed, stopped, Next, end, other, hit}
+use Rattle.peg.specs.Buffer.{four}
+use Rattle.peg.specs.Render.{Source}
+use Rattle.reader.specs.declared.state.State.{State}
+use Rattle.reader.specs.declared.state.Mark.{Mark}
+use Rattle.reader.specs.Change.{withPos, withMode, markOf, gone}
+use Rattle.reader.specs.Means.{Bufs, bufs, Past, Means, Stands, Lines, modeOf}
+use Rattle.reader.specs.Did.{Ok, Wf, Did, Events, Plain, Put, Peeked}
+use Rattle.reader.proofs.Core.{Like, like-same, like-at, alike, idle, then, ok-put, wf-put, caps-put}
+use Rattle.reader.proofs.Sticky.{Sticks, sticky, sticky-trans, sticky-trivia, sticky-take, sticky-fail, sticky-refused}
+use Rattle.reader.proofs.Taken.{took, ok-took}
+use Rattle.reader.proofs.Next.{if-ok-yes}
+use Rattle.reader.proofs.Parts.{retold, not-ok, turned, went, gone-wf, opt-on, opt-back}
+
+-- steps on events alone, from laws on any step
+pub not-okE : (f : P.Reader) {x : Source} {s : State} {ev : List ℕ} → ((p : Past) → Sticks p x (P.if-ok f)) → Ok (length (x .ids)) s → s .evcap ≤ length ev → (s .mode ≡ 0 → ⊥) → Events (P.if-ok f) x s s ev ev
+not-okE f F w h n = record { did = λ er sc v. not-ok f F v n; ok = w; fits = h; first = refl; grows = le-refl _ }
+
+module _ (S N : List ℕ) {x : Source} {s : State} (good : s .mode ≡ 0) where
+  eats-is : (z : Next) → P.next S (drop (s .pos) (x .ids)) ≡ z → {p : Past} {b : Bufs} (a : P.State) → Means p x s b a → P.eats S N a ≡ P.eat-row N z a
+  eats-is z q a m = if-ok-yes (P.eat-at S N) a (m .mode ∙ ap modeOf good) ∙ ap (λ (l : List ℕ). P.eat-row N (P.next S l) a) (m .rest) ∙ ap (λ (n : Next). P.eat-row N n a) q
+
+  -- no such row
+  pub eat-misses : {r : State} {ev : List ℕ} (z : Next) → P.next S (drop (s .pos) (x .ids)) ≡ z → ((a : P.State) → P.eat-row N z a ≡ P.turn failed (P.expected N a)) → s .evcap ≤ length ev → Plain (λ a. P.turn failed (P.expected N a)) x s r → Events (P.eats S N) x s r ev ev
+  eat-misses {r} {ev} z q e h y =
+      record
+        { did = λ er sc w.
+            retold (P.eats S N) (λ p a n. refl) (λ p. sticky-fail p x N) (λ p. sticky p x .at-eat S N) (λ p a m. sticky p x .at-eat S N a) (λ p a t i j. sym (eats-is z q a (t .means i) ∙ e a))
+              (idle w (λ p a t. like-same refl)) (y .did (bufs ev er sc) w)
+        ; ok = y .ok
+        ; fits = omega (arith, y .evcap)
+        ; first = y .first
+        ; grows = omega (arith, y .still)
+        }
+
+  -- such a row
+  pub eat-takes : (k at st : ℕ) {s₁ r : State} {ev ev₁ ev₂ : List ℕ} → Lines (x .ids) (x .ends) → Ok (length (x .ids)) s → Peeked (x .ids) (s .pos) at → at < length (x .ids) → P.next S (drop (s .pos) (x .ids)) ≡ hit k (drop (suc at) (x .ids)) → st ≡ getD (0 ∷ x .ends) at 0
+      → Events P.trivia x s s₁ ev ev₁ → Put (four 2 k st (getD (x .ends) at 0)) s₁ r ev₁ ev₂ → Events (P.eats S N) x s (withPos (at + 1) r) ev ev₂
+  eat-takes k at st {s₁} {r} {ev} {ev₁} {ev₂} l w pk h q e t v =
+      let u = subst (λ (j : ℕ). Put (four 2 k j (getD (x .ends) at 0)) s₁ r ev₁ ev₂) e v in
+      let caps = caps-put u in
+      let g : s₁ .first ≤ at = omega (arith, t .first, w .0 .since, pk .ahead) in
+      record
+        { did = λ er sc y.
+            let T = t .did er sc y in
+            record
+              { does = λ p a z. alike (like-at z (sticky-trans p x a (P.trivia a) (P.take k (drop (suc at) (x .ids)) (P.trivia a)) (sticky-trivia p x a) (sticky-take p x k (drop (suc at) (x .ids)) (P.trivia a))) (sticky p x .at-eat S N a) (λ i. like-same (sym (eats-is (hit k (drop (suc at) (x .ids))) q a (z .means i))))) (took k at l h (T .wf) u (T .does p a z))
+              ; wf = (ok-took (length (x .ids)) at u g h (T .wf .0), wf-put u x er sc (T .wf) .1)
+              ; room = λ i. T .room (u .room i)
+              ; first = ap (λ (c : State). c .first) (u .is) ∙ T .first
+              ; ahead = omega (arith, pk .ahead)
+              ; grows = omega (arith, T .grows, u .grows)
+              ; kept = sym (take-take (s .ev) (s₁ .ev) ev₂ (T .grows)) ∙ ap (take (s .ev)) (u .kept) ∙ take-take (s .ev) (s₁ .ev) ev₁ (T .grows) ∙ T .kept
+              }
+        ; ok = ok-took (length (x .ids)) at u g h (t .ok)
+        ; fits = omega (arith, t .fits, caps .0, u .long)
+        ; first = ap (λ (c : State). c .first) (u .is) ∙ t .first
+        ; grows = omega (arith, t .grows, u .grows)
+        }
+
+-- a step that touches no list fails after it
+pub fails-after : (f : P.Reader) {x : Source} {s r : State} → Plain f x s r → Plain (λ a. P.turn failed (f a)) x s (withMode 1 r)
+fails-after f y = record { did = λ b w. turned 1 failed refl (y .did b w); ok = y .ok; evcap = y .evcap; ercap = y .ercap; first = y .first; place = y .place; still = y .still }
+
+-- an optional row
+module _ (f : P.Reader) {x : Source} {s r : State} {ev ev′ : List ℕ} (F : (p : Past) → Sticks p x f) (good : s .mode ≡ 0) (w : Ok (length (x .ids)) s) (y : Events (λ a. f (P.trivia a)) x s r ev ev′) where
+  pub optE-on : (r .mode ≡ 1 → ⊥) → Events (P.opts f) x s r ev ev′
+  optE-on h = record { did = λ er sc v. opt-on f F good (y .did er sc v) h; ok = y .ok; fits = y .fits; first = y .first; grows = y .grows }
+
+  pub optE-back : {m : Mark} {q : State} → m ≡ markOf s → q ≡ gone m r → r .mode ≡ 1 → Events (P.opts f) x s (withMode 0 q) ev ev′
+  optE-back {m} {q} i j h =
+      subst (λ (u : State). Events (P.opts f) x s (withMode 0 u) ev ev′) (sym (j ∙ ap (λ (k : Mark). gone k r) i))
+        (record
+          { did = λ er sc v. opt-back f F good (y .did er sc v) v h
+          ; ok = (record { here = w .0 .here; since = omega (arith, y .first, w .0 .since); far-in = y .ok .0 .far-in; want-in = y .ok .0 .want-in; want-since = y .ok .0 .want-since; unwant-in = y .ok .0 .unwant-in; unwant-since = y .ok .0 .unwant-since }, y .ok .1, record { events = omega (arith, y .grows, y .ok .2 .events); since = y .ok .2 .since; errors = y .ok .2 .errors })
+          ; fits = y .fits
+          ; first = y .first
+          ; grows = le-refl _
+          })
+
+pub thenE : {f g : P.Reader} {x : Source} {s r q : State} {ev ev₁ ev₂ : List ℕ} → Events f x s r ev ev₁ → Events g x r q ev₁ ev₂ → Events (λ a. g (f a)) x s q ev ev₂
+thenE t u = record { did = λ er sc w. let T = t .did er sc w in then T (u .did er sc (T .wf)); ok = u .ok; fits = u .fits; first = u .first ∙ t .first; grows = omega (arith, t .grows, u .grows) }
+
+-- a row that must not stand there
+module _ (S : List ℕ) {x : Source} {s : State} (good : s .mode ≡ 0) where
+  refuses-is : (z : Next) → P.next S (drop (s .pos) (x .ids)) ≡ z → {p : Past} {b : Bufs} (a : P.State) → Means p x s b a → P.refuses S a ≡ P.refuse-row z a
+  refuses-is z q a m = if-ok-yes (P.refuse-at S) a (m .mode ∙ ap modeOf good) ∙ ap (λ (l : List ℕ). P.refuse-row (P.next S l) a) (m .rest) ∙ ap (λ (n : Next). P.refuse-row n a) q
+
+  pub unless-there : (k : ℕ) (is : List ℕ) {r : State} → P.next S (drop (s .pos) (x .ids)) ≡ hit k is → Plain P.unexpected x s r → Plain (P.refuses S) x s (withMode 1 r)
+  unless-there k is q y =
+      record
+        { did = λ b w.
+            retold (P.refuses S) (λ p a n. refl) (λ p. sticky-refused p x) (λ p. sticky p x .at-unless S) (λ p a m. sticky p x .at-unless S a) (λ p a t i j. sym (refuses-is (hit k is) q a (t .means i)))
+              (idle w (λ p a t. like-same refl)) (turned 1 failed refl (y .did b w))
+        ; ok = y .ok
+        ; evcap = y .evcap
+        ; ercap = y .ercap
+        ; first = y .first
+        ; place = y .place
+        ; still = y .still
+        }
+
+  pub unless-none : (z : Next) → P.next S (drop (s .pos) (x .ids)) ≡ z → ((a : P.State) → P.refuse-row z a ≡ a) → Ok (length (x .ids)) s → Plain (P.refuses S) x s s
+  unless-none z q e w =
+      record
+        { did = λ b v. idle v (λ p a t. like-at t (λ n. refl) (sticky p x .at-unless S a) (λ i. like-same (sym (refuses-is z q a (t .means i) ∙ e a))))
+        ; ok = w
+        ; evcap = refl
+        ; ercap = refl
+        ; first = refl
+        ; place = refl
+        ; still = refl
+        }
+
+pub not-okP : (f : P.Reader) {x : Source} {s : State} → ((p : Past) → Sticks p x (P.if-ok f)) → Ok (length (x .ids)) s → (s .mode ≡ 0 → ⊥) → Plain (P.if-ok f) x s s
+not-okP f F w n = record { did = λ b v. not-ok f F v n; ok = w; evcap = refl; ercap = refl; first = refl; place = refl; still = refl }

@@ -1,0 +1,48 @@
+-- Facts on lists.
+use Prim.Native.Nat.{ℕ, zero, suc, _+_, _-_, _*_, _≤_, _<_}
+use mathlib.Core.Path.{_≡_, refl, sym, ap, _∙_}
+use mathlib.Core.List.{List, [], _∷_, _++_}
+use mathlib.Core.Bool.{Bool, true, false, not}
+use native.Mathlib.Omega.{arith}
+use native.Mathlib.Numerals.{towards-suc, add-one, sub-one}
+use lib.ListN.{length, getD, take, drop, set, length-set, length-append, length-drop}
+use lib.Seq.{take-at, sets, sets-eq, length-take-le, take-set-le, take-append-le, take-set-lt}
+use Rattle.peg.specs.Buffer.{four, patch}
+
+pub getD-any : (l : List ℕ) (i d d′ : ℕ) → i < length l → getD l i d ≡ getD l i d′
+getD-any [] i d d′ h = absurd (omega arith)
+getD-any (x ∷ xs) zero d d′ h = refl
+getD-any (x ∷ xs) (suc i) d d′ h = getD-any xs i d d′ (omega arith)
+
+-- the list after four stores
+abbrev pub stored : List ℕ → ℕ → ℕ → ℕ → ℕ → ℕ → List ℕ
+stored l i a b c d = set (set (set (set l i a) (i + 1) b) (i + 2) c) (i + 3) d
+
+stored-eq : (l : List ℕ) (i a b c d : ℕ) → i + 4 ≤ length l → stored l i a b c d ≡ take i l ++ four a b c d ++ drop (i + 4) l
+stored-eq l i a b c d h = simp towards-suc (sets-eq (four a b c d) l i h ∙ simp towards-suc)
+
+pub take-four : (l : List ℕ) (i a b c d : ℕ) → i + 4 ≤ length l → take (i + 4) (stored l i a b c d) ≡ take i l ++ four a b c d
+take-four l i a b c d h =
+    ap (take (i + 4)) (stored-eq l i a b c d h)
+    ∙ take-at (take i l ++ four a b c d) (drop (i + 4) l) (i + 4) (length-append (take i l) (four a b c d) ∙ omega (arith, length-take-le i l (omega arith)))
+
+pub keep-four : (l : List ℕ) (i a b c d : ℕ) → take i (stored l i a b c d) ≡ take i l
+keep-four l i a b c d =
+    take-set-le i _ (i + 3) d (omega arith) ∙ take-set-le i _ (i + 2) c (omega arith) ∙ take-set-le i _ (i + 1) b (omega arith) ∙ take-set-le i l i a (omega arith)
+
+pub length-four : (l : List ℕ) (i a b c d : ℕ) → length (stored l i a b c d) ≡ length l
+length-four l i a b c d = simp length-set
+
+-- the entry behind the first
+pub getD-cons : (z : ℕ) (l : List ℕ) (i : ℕ) → (i ≡ 0 → ⊥) → getD l (i - 1) 0 ≡ getD (z ∷ l) i 0
+getD-cons z l zero h = absurd (h refl)
+getD-cons z l (suc i) h = ap (λ (k : ℕ). getD l k 0) (sub-one (suc i))
+
+-- what a test of `!b` tells
+pub not-yes : (b : Bool) → not b ≡ true → b ≡ false
+not-yes true e = sym e
+not-yes false e = refl
+
+pub not-no : (b : Bool) → not b ≡ false → b ≡ true
+not-no true e = refl
+not-no false e = sym e

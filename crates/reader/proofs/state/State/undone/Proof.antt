@@ -1,0 +1,19 @@
+use mathlib.Core.Path.{sym, ap}
+use mathlib.Core.Bool.{Bool}
+use borrow.Author.Tests.{eq-eqb, ne-eqb}
+use Rattle.reader.specs.Bits.{ifb}
+use Rattle.reader.specs.Change.{withMode, gone}
+use borrow.Author.Needs.{needs}
+use Rattle.reader.proofs.state.State.undone.Statement.{statement}
+use Rattle.reader.proofs.state.State.undone.Tie as tie
+use Rattle.reader.proofs.state.State.undone.Reads as reads
+use Rattle.reader.proofs.state.State.undone.Lts as lts
+
+returns : tie.Need-returns
+returns c = ap (λ (b : Bool). withMode (ifb b 0 (c .before .before .args .self .mode)) (gone (c .before .before .args .m) (c .before .before .args .self))) (sym (eq-eqb (c .before .before .args .self .mode) 1 (c .if1 .taken)))
+
+returns-2 : tie.Need-returns-2
+returns-2 c = ap (λ (b : Bool). withMode (ifb b 0 (c .before .before .args .self .mode)) (gone (c .before .before .args .m) (c .before .before .args .self))) (sym (ne-eqb (c .before .before .args .self .mode) 1 (c .if1 .left)))
+
+pub undone-spec : {M : Type 1} → statement M
+undone-spec = tie.close (tie.spec returns returns-2)

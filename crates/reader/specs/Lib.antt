@@ -1,0 +1,5 @@
+pub mod Bits
+pub mod Means
+pub mod Change
+pub mod Did
+pub mod Choice
