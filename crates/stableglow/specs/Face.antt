@@ -1,0 +1,16 @@
+-- What the exports return and leave behind, in numbers.
+use Prim.Native.Nat.{ℕ, _%_, _^_}
+use mathlib.Core.List.{List, [], _∷_}
+use Rattle.peg.specs.Merge.{Returned}
+
+-- the refusal's number, the count's cell and the room; the cell has 32 bits, and a list whose count needs more takes 64 GiB
+pub record Face : Type 0 where
+  pub number : ℕ
+  pub count : List ℕ
+  pub room : List ℕ
+
+abbrev pub face : Returned → Face
+face r = record { number = r .number; count = (r .count % 2 ^ 32) ∷ []; room = r .room }
+
+abbrev pub faced : ℕ → List ℕ → List ℕ → Face
+faced number count room = record { number = number; count = count; room = room }
