@@ -1,12 +1,12 @@
 // Writing the finished list. While an ERROR node is open, sort and kind of its begin event are known, so their cells hold a link instead: the place past
 // the begin event of the ERROR node around it, in two halves of 32 bits, since a list may be longer than a cell can count. When the node closes, the
 // link says at once which node is the innermost again, and sort and kind are written back.
-use kinds::kind::ERROR;
 use crate::marks::Event;
 use crate::marks::Mark;
 use crate::marks::mark_at;
 use crate::marks::put;
 use crate::marks::read;
+use kinds::kind::ERROR;
 ghost use mathlib.Core.Path.{_≡_};
 ghost use Prim.Native.Nat.{_*_, min, max};
 ghost use lib.ListN.{length, take, replicate};

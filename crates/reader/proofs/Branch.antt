@@ -61,8 +61,8 @@ module _ (S : List ℕ) (f : P.Reader) {x : Source} {s : State} {b : Bufs} (F : 
   branch-in e y =
       let m = good S (x .ids) s e in
       retold (P.branches S f) (λ p a n. refl) (λ p. sticky-past p x f (F p)) (λ p. sticky p x .at-ifnext S f (F p)) (λ p a t. sticky p x .at-ifnext S f (F p) a)
-        (λ p a t i j. sym (if-ok-yes (P.branch-at S f) a (t .means i .mode ∙ ap modeOf m) ∙ ap (λ (l : List ℕ). P.branch (idsOf S) f (P.next S l) a) (t .means i .rest) ∙ found (P.next S (drop (s .pos) (x .ids))) (ahead-is S (x .ids) s (P.next S (drop (s .pos) (x .ids))) m refl ∙ e) a))
-        (idle w (λ p a t. like-same refl)) y
+      (λ p a t i j. sym (if-ok-yes (P.branch-at S f) a (t .means i .mode ∙ ap modeOf m) ∙ ap (λ (l : List ℕ). P.branch (idsOf S) f (P.next S l) a) (t .means i .rest) ∙ found (P.next S (drop (s .pos) (x .ids))) (ahead-is S (x .ids) s (P.next S (drop (s .pos) (x .ids))) m refl ∙ e) a))
+      (idle w (λ p a t. like-same refl)) y
     where
       found : (z : Next) → hits z ≡ true → (a : P.State) → P.branch (idsOf S) f z a ≡ f (P.trivia a)
       found end q a = let c : _≡_ {A = ℕ} 0 1 = cc in absurd (omega arith)
@@ -73,17 +73,19 @@ module _ (S : List ℕ) (f : P.Reader) {x : Source} {s : State} {b : Bufs} (F : 
   pub branch-out : {r : State} → ahead S (x .ids) s ≡ false → Plain (P.branches S (λ a. a)) x s r → Did (P.branches S f) x s r b b
   branch-out e y =
       retold (P.branches S f) (λ p a n. refl) (λ p. sticky p x .at-ifnext S (λ a. a) (λ a n. refl)) (λ p. sticky p x .at-ifnext S f (F p)) (λ p a t. sticky p x .at-ifnext S f (F p) a)
-        (λ p a t i j. by (s .mode) a (t .means i .mode) (ap (λ (l : List ℕ). hits (P.next S l)) (t .means i .rest)) refl)
-        (idle w (λ p a t. like-same refl)) (y .did b w)
+      (λ p a t i j. by (s .mode) a (t .means i .mode) (ap (λ (l : List ℕ). hits (P.next S l)) (t .means i .rest)) refl)
+      (idle w (λ p a t. like-same refl)) (y .did b w)
     where
       passed : (z : Next) → hits z ≡ false → (a : P.State) → P.branch (idsOf S) (λ a. a) z a ≡ P.branch (idsOf S) f z a
       passed end q a = refl
       passed other q a = refl
       passed (hit k is) q a = let c : _≡_ {A = ℕ} 0 1 = cc in absurd (omega arith)
+
       in-mode : (m : Mode) (a : P.State) → (m ≡ ok → hits (P.next S (a .rest)) ≡ false) → P.branches S (λ a. a) (P.turn m a) ≡ P.branches S f (P.turn m a)
       in-mode ok a h = passed (P.next S (a .rest)) (h refl) (P.turn ok a)
       in-mode failed a h = refl
       in-mode (stopped v) a h = refl
+
       by : (n : ℕ) (a : P.State) → a .mode ≡ modeOf n → hits (P.next S (a .rest)) ≡ hits (P.next S (drop (s .pos) (x .ids))) → n ≡ s .mode → P.branches S (λ a. a) a ≡ P.branches S f a
       by zero a q r i = in-mode (a .mode) a (λ j. r ∙ ahead-is S (x .ids) s (P.next S (drop (s .pos) (x .ids))) (sym i) refl ∙ e)
       by (suc n) a q r i = in-mode (a .mode) a (λ j. absurd (no n (sym q ∙ j)))
@@ -97,27 +99,27 @@ module _ (S : List ℕ) (f : P.Reader) {x : Source} {s : State} {b : Bufs} (F : 
 module _ (S : List ℕ) {x : Source} {s : State} (w : Ok (length (x .ids)) s) where
   pub pass-names : {r : State} → s .mode ≡ 0 → P.next S (drop (s .pos) (x .ids)) ≡ other → Plain (P.expected (idsOf S)) x s r → Plain (P.branches S (λ a. a)) x s r
   pass-names e q y =
-      record
-        { did = λ b v.
+      record {
+        did = λ b v.
             retold (P.branches S (λ a. a)) (λ p a n. refl) (λ p. sticky-expected p x (idsOf S)) (λ p. sticky p x .at-ifnext S (λ a. a) (λ a n. refl)) (λ p a t. sticky p x .at-ifnext S (λ a. a) (λ a n. refl) a)
-              (λ p a t i j. sym (if-ok-yes (P.branch-at S (λ a. a)) a (t .means i .mode ∙ ap modeOf e) ∙ ap (λ (l : List ℕ). P.branch (idsOf S) (λ a. a) (P.next S l) a) (t .means i .rest) ∙ ap (λ (z : Next). P.branch (idsOf S) (λ a. a) z a) q))
-              (idle v (λ p a t. like-same refl)) (y .did b v)
-        ; ok = y .ok
-        ; evcap = y .evcap
-        ; ercap = y .ercap
-        ; first = y .first
-        ; place = y .place
-        ; still = y .still
-        }
+            (λ p a t i j. sym (if-ok-yes (P.branch-at S (λ a. a)) a (t .means i .mode ∙ ap modeOf e) ∙ ap (λ (l : List ℕ). P.branch (idsOf S) (λ a. a) (P.next S l) a) (t .means i .rest) ∙ ap (λ (z : Next). P.branch (idsOf S) (λ a. a) z a) q))
+            (idle v (λ p a t. like-same refl)) (y .did b v);
+        ok = y .ok;
+        evcap = y .evcap;
+        ercap = y .ercap;
+        first = y .first;
+        place = y .place;
+        still = y .still;
+      }
 
   pub pass-end : s .mode ≡ 0 → P.next S (drop (s .pos) (x .ids)) ≡ end → Plain (P.branches S (λ a. a)) x s s
   pass-end e q =
-      record
-        { did = λ b v. idle v (λ p a t. like-at t (λ n. refl) (sticky p x .at-ifnext S (λ a. a) (λ a n. refl) a) (λ i. like-same (sym (if-ok-yes (P.branch-at S (λ a. a)) a (t .means i .mode ∙ ap modeOf e) ∙ ap (λ (l : List ℕ). P.branch (idsOf S) (λ a. a) (P.next S l) a) (t .means i .rest) ∙ ap (λ (z : Next). P.branch (idsOf S) (λ a. a) z a) q))))
-        ; ok = w
-        ; evcap = refl
-        ; ercap = refl
-        ; first = refl
-        ; place = refl
-        ; still = refl
-        }
+      record {
+        did = λ b v. idle v (λ p a t. like-at t (λ n. refl) (sticky p x .at-ifnext S (λ a. a) (λ a n. refl) a) (λ i. like-same (sym (if-ok-yes (P.branch-at S (λ a. a)) a (t .means i .mode ∙ ap modeOf e) ∙ ap (λ (l : List ℕ). P.branch (idsOf S) (λ a. a) (P.next S l) a) (t .means i .rest) ∙ ap (λ (z : Next). P.branch (idsOf S) (λ a. a) z a) q))));
+        ok = w;
+        evcap = refl;
+        ercap = refl;
+        first = refl;
+        place = refl;
+        still = refl;
+      }

@@ -60,6 +60,7 @@ alike {p} {x} {s} {b} {a} {c} l t = record { over = t .over ∙ l .over; means =
   where
     bared : (u : P.State) → Means p x s b u → Means p x s b (bare u)
     bared u m = record { rest = m .rest; mode = m .mode; fuel = m .fuel; written = m .written; want = m .want; unwant = m .unwant; chosen = m .chosen; cache = m .cache }
+
     clad : (u : P.State) → Means p x s b (bare u) → Means p x s b u
     clad u m = record { rest = m .rest; mode = m .mode; fuel = m .fuel; written = m .written; want = m .want; unwant = m .unwant; chosen = m .chosen; cache = m .cache }
 
@@ -70,15 +71,15 @@ idle w g = record { does = λ p a t. alike (g p a t) t; wf = w; room = λ z. z; 
 -- f, then g
 pub then : {f g : P.Reader} {x : Source} {s r q : State} {b b₁ b₂ : Bufs} → Did f x s r b b₁ → Did g x r q b₁ b₂ → Did (λ a. g (f a)) x s q b b₂
 then {f} {g} {x} {s} {r} {q} {b} {b₁} {b₂} y z =
-    record
-      { does = λ p a t. z .does p (f a) (y .does p a t)
-      ; wf = z .wf
-      ; room = λ e. y .room (z .room e)
-      ; first = z .first ∙ y .first
-      ; ahead = le-trans (y .ahead) (z .ahead)
-      ; grows = le-trans (y .grows) (z .grows)
-      ; kept = sym (take-take (s .ev) (r .ev) (b₂ .events) (y .grows)) ∙ ap (take (s .ev)) (z .kept) ∙ take-take (s .ev) (r .ev) (b₁ .events) (y .grows) ∙ y .kept
-      }
+    record {
+      does = λ p a t. z .does p (f a) (y .does p a t);
+      wf = z .wf;
+      room = λ e. y .room (z .room e);
+      first = z .first ∙ y .first;
+      ahead = le-trans (y .ahead) (z .ahead);
+      grows = le-trans (y .grows) (z .grows);
+      kept = sym (take-take (s .ev) (r .ev) (b₂ .events) (y .grows)) ∙ ap (take (s .ev)) (z .kept) ∙ take-take (s .ev) (r .ev) (b₁ .events) (y .grows) ∙ y .kept;
+    }
 
 -- the same step by another name
 pub does-as : {f : P.Reader} (g : P.Reader) {x : Source} {s r : State} {b b′ : Bufs} → ((p : Past) (a : P.State) → Stands p x s b a → f a ≡ g a) → Did f x s r b b′ → Did g x s r b b′
@@ -120,18 +121,18 @@ module _ (s : State) (ev : List ℕ) where
 
   pub put-four : (a b c d : ℕ) → s .full ≡ 0 → s .ev + 4 ≤ s .evcap → s .evcap ≤ length ev → Put (four a b c d) s (withEv (s .ev + 4) s) ev (stored ev (s .ev) a b c d)
   put-four a b c d z f l =
-      record
-        { is = refl
-        ; stuck = λ n. refl
-        ; filled = λ y. z ∙ ap (λ (t : Bool). ifb t 7 0) (sym (le-ltb (s .evcap) (s .ev + 4) f))
-        ; room = λ y. z
-        ; wrote = λ y. take-four ev (s .ev) a b c d (le-trans f l)
-        ; more = λ y. refl
-        ; fits = f
-        ; grows = omega arith
-        ; long = length-four ev (s .ev) a b c d
-        ; kept = keep-four ev (s .ev) a b c d
-        }
+      record {
+        is = refl;
+        stuck = λ n. refl;
+        filled = λ y. z ∙ ap (λ (t : Bool). ifb t 7 0) (sym (le-ltb (s .evcap) (s .ev + 4) f));
+        room = λ y. z;
+        wrote = λ y. take-four ev (s .ev) a b c d (le-trans f l);
+        more = λ y. refl;
+        fits = f;
+        grows = omega arith;
+        long = length-four ev (s .ev) a b c d;
+        kept = keep-four ev (s .ev) a b c d;
+      }
 
 module _ {q : List ℕ} {s r : State} {ev ev′ : List ℕ} (u : Put q s r ev ev′) where
   pub ok-put : {n : ℕ} → Ok n s → Ok n r
@@ -159,41 +160,42 @@ module _ {q : List ℕ} {s r : State} {ev ev′ : List ℕ} (u : Put q s r ev ev
             let f = fits w m in
             let l : s .ev + 4 ≤ s .evcap = ltb-false (s .evcap) (s .ev + 4) e in
             sym (exceeds-none (p .event-room) (p .error-room) (used limits x (v ∷ a .out, a .chosen)) (omega (arith, ev-count w m, m .written .room)) (omega (arith, f .1, quiet-said x v (a .out) k)))
+
         go : Dec (s .full ≡ 0) → r .full ≡ first-of (overOf p x a) (spill p x (v ∷ a .out) (a .chosen))
         go (yes z) = u .filled z ∙ here z (ltb (s .evcap) (s .ev + 4)) refl ∙ ap (λ (i : ℕ). first-of i (spill p x (v ∷ a .out) (a .chosen))) (sym z ∙ t .over)
         go (no n) = u .stuck n ∙ t .over ∙ sym (full-first (overOf p x a) (spill p x (v ∷ a .out) (a .chosen)) (λ z. n (t .over ∙ z)))
 
     pub emitted : (s .full ≡ 0 → take (s .ev) ev ++ q ≡ buffer x (v ∷ a .out)) → Stands p x r (bufs ev′ er sc) (P.emit v a)
     emitted g =
-        record
-          { over = put-over
-          ; means = λ z.
+        record {
+          over = put-over;
+          means = λ z.
               let m = t .means (u .room z) in
               subst (λ (y : State). Means p x y (bufs ev′ er sc) (P.emit v a)) (sym (u .is))
-                (record
-                  { rest = m .rest
-                  ; mode = m .mode
-                  ; fuel = m .fuel
-                  ; written = record { is = u .wrote z ∙ g (u .room z); past = quiet-records x v (a .out) [] k ∙ m .written .past; room = m .written .room }
-                  ; want = m .want
-                  ; unwant = m .unwant
-                  ; chosen = m .chosen
-                  ; cache = m .cache
-                  })
-          }
+              (record {
+                rest = m .rest;
+                mode = m .mode;
+                fuel = m .fuel;
+                written = record { is = u .wrote z ∙ g (u .room z); past = quiet-records x v (a .out) [] k ∙ m .written .past; room = m .written .room };
+                want = m .want;
+                unwant = m .unwant;
+                chosen = m .chosen;
+                cache = m .cache;
+              });
+        }
 
   -- an event is written
   pub writes : (v : P.State → Event) → ((a : P.State) → Quiet (v a)) → {x : Source} {er sc : List ℕ} → Wf x (bufs ev er sc) s → ((p : Past) (a : P.State) → Means p x s (bufs ev er sc) a → buffer x (v a ∷ a .out) ≡ buffer x (a .out) ++ q) → Did (λ a. P.emit (v a) a) x s r (bufs ev er sc) (bufs ev′ er sc)
   writes v k {x} {er} {sc} w g =
-      record
-        { does = λ p a t. emitted w t (v a) (k a) (λ z. ap (λ (l : List ℕ). l ++ q) (t .means z .written .is) ∙ sym (g p a (t .means z)))
-        ; wf = wf-put x er sc w
-        ; room = u .room
-        ; first = ap (λ (y : State). y .first) (u .is)
-        ; ahead = omega (arith, ap (λ (y : State). y .pos) (u .is))
-        ; grows = u .grows
-        ; kept = u .kept
-        }
+      record {
+        does = λ p a t. emitted w t (v a) (k a) (λ z. ap (λ (l : List ℕ). l ++ q) (t .means z .written .is) ∙ sym (g p a (t .means z)));
+        wf = wf-put x er sc w;
+        room = u .room;
+        first = ap (λ (y : State). y .first) (u .is);
+        ahead = omega (arith, ap (λ (y : State). y .pos) (u .is));
+        grows = u .grows;
+        kept = u .kept;
+      }
 
 -- the place moves
 pub moved : (i : ℕ) {p : Past} {x : Source} {s : State} {b : Bufs} {a : P.State} → Stands p x s b a → Stands p x (withPos i s) b (P.put (drop i (x .ids)) (a .out) a)

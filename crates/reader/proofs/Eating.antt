@@ -34,15 +34,15 @@ module _ (S N : List ℕ) {x : Source} {s : State} (good : s .mode ≡ 0) where
   -- no such row
   pub eat-misses : {r : State} {ev : List ℕ} (z : Next) → P.next S (drop (s .pos) (x .ids)) ≡ z → ((a : P.State) → P.eat-row N z a ≡ P.turn failed (P.expected N a)) → s .evcap ≤ length ev → Plain (λ a. P.turn failed (P.expected N a)) x s r → Events (P.eats S N) x s r ev ev
   eat-misses {r} {ev} z q e h y =
-      record
-        { did = λ er sc w.
+      record {
+        did = λ er sc w.
             retold (P.eats S N) (λ p a n. refl) (λ p. sticky-fail p x N) (λ p. sticky p x .at-eat S N) (λ p a m. sticky p x .at-eat S N a) (λ p a t i j. sym (eats-is z q a (t .means i) ∙ e a))
-              (idle w (λ p a t. like-same refl)) (y .did (bufs ev er sc) w)
-        ; ok = y .ok
-        ; fits = omega (arith, y .evcap)
-        ; first = y .first
-        ; grows = omega (arith, y .still)
-        }
+            (idle w (λ p a t. like-same refl)) (y .did (bufs ev er sc) w);
+        ok = y .ok;
+        fits = omega (arith, y .evcap);
+        first = y .first;
+        grows = omega (arith, y .still);
+      }
 
   -- such a row
   pub eat-takes : (k at st : ℕ) {s₁ r : State} {ev ev₁ ev₂ : List ℕ} → Lines (x .ids) (x .ends) → Ok (length (x .ids)) s → Peeked (x .ids) (s .pos) at → at < length (x .ids) → P.next S (drop (s .pos) (x .ids)) ≡ hit k (drop (suc at) (x .ids)) → st ≡ getD (0 ∷ x .ends) at 0
@@ -51,23 +51,23 @@ module _ (S N : List ℕ) {x : Source} {s : State} (good : s .mode ≡ 0) where
       let u = subst (λ (j : ℕ). Put (four 2 k j (getD (x .ends) at 0)) s₁ r ev₁ ev₂) e v in
       let caps = caps-put u in
       let g : s₁ .first ≤ at = omega (arith, t .first, w .0 .since, pk .ahead) in
-      record
-        { did = λ er sc y.
+      record {
+        did = λ er sc y.
             let T = t .did er sc y in
-            record
-              { does = λ p a z. alike (like-at z (sticky-trans p x a (P.trivia a) (P.take k (drop (suc at) (x .ids)) (P.trivia a)) (sticky-trivia p x a) (sticky-take p x k (drop (suc at) (x .ids)) (P.trivia a))) (sticky p x .at-eat S N a) (λ i. like-same (sym (eats-is (hit k (drop (suc at) (x .ids))) q a (z .means i))))) (took k at l h (T .wf) u (T .does p a z))
-              ; wf = (ok-took (length (x .ids)) at u g h (T .wf .0), wf-put u x er sc (T .wf) .1)
-              ; room = λ i. T .room (u .room i)
-              ; first = ap (λ (c : State). c .first) (u .is) ∙ T .first
-              ; ahead = omega (arith, pk .ahead)
-              ; grows = omega (arith, T .grows, u .grows)
-              ; kept = sym (take-take (s .ev) (s₁ .ev) ev₂ (T .grows)) ∙ ap (take (s .ev)) (u .kept) ∙ take-take (s .ev) (s₁ .ev) ev₁ (T .grows) ∙ T .kept
-              }
-        ; ok = ok-took (length (x .ids)) at u g h (t .ok)
-        ; fits = omega (arith, t .fits, caps .0, u .long)
-        ; first = ap (λ (c : State). c .first) (u .is) ∙ t .first
-        ; grows = omega (arith, t .grows, u .grows)
-        }
+            record {
+              does = λ p a z. alike (like-at z (sticky-trans p x a (P.trivia a) (P.take k (drop (suc at) (x .ids)) (P.trivia a)) (sticky-trivia p x a) (sticky-take p x k (drop (suc at) (x .ids)) (P.trivia a))) (sticky p x .at-eat S N a) (λ i. like-same (sym (eats-is (hit k (drop (suc at) (x .ids))) q a (z .means i))))) (took k at l h (T .wf) u (T .does p a z));
+              wf = (ok-took (length (x .ids)) at u g h (T .wf .0), wf-put u x er sc (T .wf) .1);
+              room = λ i. T .room (u .room i);
+              first = ap (λ (c : State). c .first) (u .is) ∙ T .first;
+              ahead = omega (arith, pk .ahead);
+              grows = omega (arith, T .grows, u .grows);
+              kept = sym (take-take (s .ev) (s₁ .ev) ev₂ (T .grows)) ∙ ap (take (s .ev)) (u .kept) ∙ take-take (s .ev) (s₁ .ev) ev₁ (T .grows) ∙ T .kept;
+            };
+        ok = ok-took (length (x .ids)) at u g h (t .ok);
+        fits = omega (arith, t .fits, caps .0, u .long);
+        first = ap (λ (c : State). c .first) (u .is) ∙ t .first;
+        grows = omega (arith, t .grows, u .grows);
+      }
 
 -- a step that touches no list fails after it
 pub fails-after : (f : P.Reader) {x : Source} {s r : State} → Plain f x s r → Plain (λ a. P.turn failed (f a)) x s (withMode 1 r)
@@ -81,13 +81,13 @@ module _ (f : P.Reader) {x : Source} {s r : State} {ev ev′ : List ℕ} (F : (p
   pub optE-back : {m : Mark} {q : State} → m ≡ markOf s → q ≡ gone m r → r .mode ≡ 1 → Events (P.opts f) x s (withMode 0 q) ev ev′
   optE-back {m} {q} i j h =
       subst (λ (u : State). Events (P.opts f) x s (withMode 0 u) ev ev′) (sym (j ∙ ap (λ (k : Mark). gone k r) i))
-        (record
-          { did = λ er sc v. opt-back f F good (y .did er sc v) v h
-          ; ok = (record { here = w .0 .here; since = omega (arith, y .first, w .0 .since); far-in = y .ok .0 .far-in; want-in = y .ok .0 .want-in; want-since = y .ok .0 .want-since; unwant-in = y .ok .0 .unwant-in; unwant-since = y .ok .0 .unwant-since }, y .ok .1, record { events = omega (arith, y .grows, y .ok .2 .events); since = y .ok .2 .since; errors = y .ok .2 .errors })
-          ; fits = y .fits
-          ; first = y .first
-          ; grows = le-refl _
-          })
+      (record {
+        did = λ er sc v. opt-back f F good (y .did er sc v) v h;
+        ok = (record { here = w .0 .here; since = omega (arith, y .first, w .0 .since); far-in = y .ok .0 .far-in; want-in = y .ok .0 .want-in; want-since = y .ok .0 .want-since; unwant-in = y .ok .0 .unwant-in; unwant-since = y .ok .0 .unwant-since }, y .ok .1, record { events = omega (arith, y .grows, y .ok .2 .events); since = y .ok .2 .since; errors = y .ok .2 .errors });
+        fits = y .fits;
+        first = y .first;
+        grows = le-refl _;
+      })
 
 pub thenE : {f g : P.Reader} {x : Source} {s r q : State} {ev ev₁ ev₂ : List ℕ} → Events f x s r ev ev₁ → Events g x r q ev₁ ev₂ → Events (λ a. g (f a)) x s q ev ev₂
 thenE t u = record { did = λ er sc w. let T = t .did er sc w in then T (u .did er sc (T .wf)); ok = u .ok; fits = u .fits; first = u .first ∙ t .first; grows = omega (arith, t .grows, u .grows) }
@@ -99,29 +99,29 @@ module _ (S : List ℕ) {x : Source} {s : State} (good : s .mode ≡ 0) where
 
   pub unless-there : (k : ℕ) (is : List ℕ) {r : State} → P.next S (drop (s .pos) (x .ids)) ≡ hit k is → Plain P.unexpected x s r → Plain (P.refuses S) x s (withMode 1 r)
   unless-there k is q y =
-      record
-        { did = λ b w.
+      record {
+        did = λ b w.
             retold (P.refuses S) (λ p a n. refl) (λ p. sticky-refused p x) (λ p. sticky p x .at-unless S) (λ p a m. sticky p x .at-unless S a) (λ p a t i j. sym (refuses-is (hit k is) q a (t .means i)))
-              (idle w (λ p a t. like-same refl)) (turned 1 failed refl (y .did b w))
-        ; ok = y .ok
-        ; evcap = y .evcap
-        ; ercap = y .ercap
-        ; first = y .first
-        ; place = y .place
-        ; still = y .still
-        }
+            (idle w (λ p a t. like-same refl)) (turned 1 failed refl (y .did b w));
+        ok = y .ok;
+        evcap = y .evcap;
+        ercap = y .ercap;
+        first = y .first;
+        place = y .place;
+        still = y .still;
+      }
 
   pub unless-none : (z : Next) → P.next S (drop (s .pos) (x .ids)) ≡ z → ((a : P.State) → P.refuse-row z a ≡ a) → Ok (length (x .ids)) s → Plain (P.refuses S) x s s
   unless-none z q e w =
-      record
-        { did = λ b v. idle v (λ p a t. like-at t (λ n. refl) (sticky p x .at-unless S a) (λ i. like-same (sym (refuses-is z q a (t .means i) ∙ e a))))
-        ; ok = w
-        ; evcap = refl
-        ; ercap = refl
-        ; first = refl
-        ; place = refl
-        ; still = refl
-        }
+      record {
+        did = λ b v. idle v (λ p a t. like-at t (λ n. refl) (sticky p x .at-unless S a) (λ i. like-same (sym (refuses-is z q a (t .means i) ∙ e a))));
+        ok = w;
+        evcap = refl;
+        ercap = refl;
+        first = refl;
+        place = refl;
+        still = refl;
+      }
 
 pub not-okP : (f : P.Reader) {x : Source} {s : State} → ((p : Past) → Sticks p x (P.if-ok f)) → Ok (length (x .ids)) s → (s .mode ≡ 0 → ⊥) → Plain (P.if-ok f) x s s
 not-okP f F w n = record { did = λ b v. not-ok f F v n; ok = w; evcap = refl; ercap = refl; first = refl; place = refl; still = refl }

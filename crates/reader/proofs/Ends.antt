@@ -50,16 +50,16 @@ ends-chosen o kind n at {x} {s} {s₁} {r} {ev} {ev′} {er} {er′} q h e shut 
     let c = e .did ev sc w in
     let y = shut er′ sc (c .wf) in
     ended o kind n at (λ a. shutA k.ERROR n (P.choose a)) (λ p a. sticky-trans p x a (P.choose a) (shutA k.ERROR n (P.choose a)) (sticky-choose p x a) (sticky-shut p x k.ERROR n (P.choose a)))
-      (λ p a m. sym (finish-not o kind n (s .mode) a h (m .mode) ∙ ap (λ (c : Bool). P.emit (P.closed k.ERROR n (length (a .rest))) (P.unless-optional c a)) q))
-      (record
-        { does = λ p a w t. y .does p (P.choose a) (λ z. w (c .room z)) (c .does p a t)
-        ; wf = y .wf
-        ; room = λ z. c .room (y .room z)
-        ; first = y .first ∙ c .first
-        ; ahead = le-trans (c .ahead) (y .ahead)
-        ; grows = le-trans (c .grows) (y .grows)
-        ; kept = λ i l g. y .kept i (le-trans l (c .grows)) (λ z. g (c .room z))
-        })
+    (λ p a m. sym (finish-not o kind n (s .mode) a h (m .mode) ∙ ap (λ (c : Bool). P.emit (P.closed k.ERROR n (length (a .rest))) (P.unless-optional c a)) q))
+    (record {
+      does = λ p a w t. y .does p (P.choose a) (λ z. w (c .room z)) (c .does p a t);
+      wf = y .wf;
+      room = λ z. c .room (y .room z);
+      first = y .first ∙ c .first;
+      ahead = le-trans (c .ahead) (y .ahead);
+      grows = le-trans (c .grows) (y .grows);
+      kept = λ i l g. y .kept i (le-trans l (c .grows)) (λ z. g (c .room z));
+    })
 
 -- an ERROR node around what is skipped
 pub swallows : (d : ℕ) (o : Bool) (S : List ℕ) {x : Source} {s s₁ s₂ r : State} {ev ev₁ ev₂ ev₃ er er′ : List ℕ} (sc : List ℕ) → Wf x (bufs ev er sc) s → Began d x s s₁ ev ev₁ → Events (P.skip-to S) x s₁ s₂ ev₁ ev₂
@@ -82,6 +82,7 @@ some-pending {p} {x} {s} {b} {a} w m n S = go (a .chosen) refl
   where
     none : a .chosen ≡ [] → s .er ≡ s .item
     none q = omega (arith, er-count w m, m .chosen .since, said-is limits x (a .out) [], ap (λ (l : List Rec). length (flat-records l)) (m .written .past), ap (held limits x) q)
+
     go : (c : List (ℕ × Choice)) → a .chosen ≡ c → P.first-names c S a ≡ a
     go [] q = absurd (n (none q))
     go (e ∷ c) q = refl
@@ -90,29 +91,29 @@ some-pending {p} {x} {s} {b} {a} w m n S = go (a .chosen) refl
 module _ (S : List ℕ) {x : Source} {s : State} where
   pub names-first : {r : State} → s .er ≡ s .item → Plain (P.expected (idsOf S)) x s r → Plain (λ a. P.first-names (a .chosen) S a) x s r
   names-first e y =
-      record
-        { did = λ b w.
+      record {
+        did = λ b w.
             retold (λ a. P.first-names (a .chosen) S a) (λ p a n. refl) (λ p. sticky-expected p x (idsOf S)) (λ p. sticky-names p x S) (λ p a m. sticky-names p x S a)
-              (λ p a t i j. sym (ap (λ (c : List (ℕ × Choice)). P.first-names c S a) (none-pending w (t .means i) e))) (idle w (λ p a t. like-same refl)) (y .did b w)
-        ; ok = y .ok
-        ; evcap = y .evcap
-        ; ercap = y .ercap
-        ; first = y .first
-        ; place = y .place
-        ; still = y .still
-        }
+            (λ p a t i j. sym (ap (λ (c : List (ℕ × Choice)). P.first-names c S a) (none-pending w (t .means i) e))) (idle w (λ p a t. like-same refl)) (y .did b w);
+        ok = y .ok;
+        evcap = y .evcap;
+        ercap = y .ercap;
+        first = y .first;
+        place = y .place;
+        still = y .still;
+      }
 
   pub names-pending : (s .er ≡ s .item → ⊥) → Ok (length (x .ids)) s → Plain (λ a. P.first-names (a .chosen) S a) x s s
   names-pending n w =
-      record
-        { did = λ b v. idle v (λ p a t. like-at t (λ i. refl) (sticky-names p x S a) (λ z. like-same (sym (some-pending v (t .means z) n S))))
-        ; ok = w
-        ; evcap = refl
-        ; ercap = refl
-        ; first = refl
-        ; place = refl
-        ; still = refl
-        }
+      record {
+        did = λ b v. idle v (λ p a t. like-at t (λ i. refl) (sticky-names p x S a) (λ z. like-same (sym (some-pending v (t .means z) n S))));
+        ok = w;
+        evcap = refl;
+        ercap = refl;
+        first = refl;
+        place = refl;
+        still = refl;
+      }
 
 -- recovery, by what stands next
 recovery-is : (d : ℕ) (o : Bool) (S : List ℕ) (n : ℕ) (a : P.State) → n < 2 → a .mode ≡ modeOf n → P.recovery d o S a ≡ P.recovered d o S (P.next S (a .rest)) (modeOf n) (P.turn ok a)
@@ -141,10 +142,10 @@ module _ (d : ℕ) (o : Bool) (S : List ℕ) {x : Source} {s : State} {b : Bufs}
     recovers : (g : P.Reader) {r : State} {b′ : Bufs} → ((p : Past) → Sticks p x g) → ((a : P.State) → P.recovered d o S z (modeOf (s .mode)) a ≡ g a) → Did g x (withMode 0 s) r b b′ → Did (P.recovery d o S) x s r b b′
     recovers g G e y =
         retold (P.recovery d o S) (λ p. sticky-turn p x ok) G (λ p. sticky p x .at-recover d o S) (λ p a m. sticky-since p x ok a (P.recovery d o S a) (sticky p x .at-recover d o S a))
-          (λ p a t i j.
-            let m = t .means i in
-            sym (recovery-is d o S (s .mode) a h (m .mode) ∙ ap (λ (l : List ℕ). P.recovered d o S (P.next S l) (modeOf (s .mode)) (P.turn ok a)) (m .rest) ∙ ap (λ (c : Next). P.recovered d o S c (modeOf (s .mode)) (P.turn ok a)) q ∙ e (P.turn ok a)))
-          (turned 0 ok refl (idle w (λ p a t. like-same refl))) y
+        (λ p a t i j.
+        let m = t .means i in
+        sym (recovery-is d o S (s .mode) a h (m .mode) ∙ ap (λ (l : List ℕ). P.recovered d o S (P.next S l) (modeOf (s .mode)) (P.turn ok a)) (m .rest) ∙ ap (λ (c : Next). P.recovered d o S c (modeOf (s .mode)) (P.turn ok a)) q ∙ e (P.turn ok a)))
+        (turned 0 ok refl (idle w (λ p a t. like-same refl))) y
 
 -- scratch that is long enough, where none is at hand
 abbrev pub enough : Source → List ℕ
@@ -189,8 +190,8 @@ module _ (d : ℕ) (o : Bool) (S : List ℕ) {x : Source} {s : State} {ev er : L
   pub recover-skips : {s₁ s₂ r : State} {ev′ er₁ er₂ : List ℕ} → s .mode < 2 → P.next S (drop (s .pos) (x .ids)) ≡ other → Plain (λ a. P.first-names (a .chosen) S a) x (withMode 0 s) s₁ → Errors P.choose x s₁ s₂ er er₁ → Both (P.swallow d o S) x s₂ r ev ev′ er₁ er₂ → Both (P.recovery d o S) x s r ev ev′ er er₂
   recover-skips k q y z u =
       both-of w h i
-        (λ sc v.
-          let N = y .did (bufs ev er sc) v in
-          let C = z .did ev sc (N .wf) in
-          let D = then N C in
-          recovers d o S v other q k (λ a. P.swallow d o S (P.choose (P.first-names (a .chosen) S a))) (λ p. sticky-swallowed p x d o S) (λ a. refl) (then D (u .did sc (D .wf))))
+      (λ sc v.
+      let N = y .did (bufs ev er sc) v in
+      let C = z .did ev sc (N .wf) in
+      let D = then N C in
+      recovers d o S v other q k (λ a. P.swallow d o S (P.choose (P.first-names (a .chosen) S a))) (λ p. sticky-swallowed p x d o S) (λ a. refl) (then D (u .did sc (D .wf))))

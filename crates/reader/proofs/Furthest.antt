@@ -66,30 +66,30 @@ module _ {x : Source} {s : State} (w : Ok (length (x .ids)) s) where
       → Plain (λ a. P.note (g a) (h a) (a .chosen) a) x s (withNames count names (withWants want unwant s))
   unfolding overOf
   noted g h want unwant count names placed named e f =
-      record
-        { did = λ b v.
-            record
-              { does = λ p a t.
-                  record
-                    { over = t .over
-                    ; means = λ z.
+      record {
+        did = λ b v.
+            record {
+              does = λ p a t.
+                  record {
+                    over = t .over;
+                    means = λ z.
                         let m = t .means z in
-                        record { rest = m .rest; mode = m .mode; fuel = m .fuel; written = m .written; want = e a (m .rest) (m .want); unwant = f a (m .rest) (m .unwant); chosen = m .chosen; cache = m .cache }
-                    }
-              ; wf = ((placed, named, w .2), v .1)
-              ; room = λ z. z
-              ; first = refl
-              ; ahead = le-refl (s .pos)
-              ; grows = le-refl (s .ev)
-              ; kept = refl
-              }
-        ; ok = (placed, named, w .2)
-        ; evcap = refl
-        ; ercap = refl
-        ; first = refl
-        ; place = refl
-        ; still = refl
-        }
+                        record { rest = m .rest; mode = m .mode; fuel = m .fuel; written = m .written; want = e a (m .rest) (m .want); unwant = f a (m .rest) (m .unwant); chosen = m .chosen; cache = m .cache };
+                  };
+              wf = ((placed, named, w .2), v .1);
+              room = λ z. z;
+              first = refl;
+              ahead = le-refl (s .pos);
+              grows = le-refl (s .ev);
+              kept = refl;
+            };
+        ok = (placed, named, w .2);
+        evcap = refl;
+        ercap = refl;
+        first = refl;
+        place = refl;
+        still = refl;
+      }
 
 -- a row that was looked at lies among the item's
 module _ {ids : List ℕ} {pos first far want unwant at : ℕ} (w : Placed (length ids) pos first far want unwant) (k : Peeked ids pos at) where
@@ -105,8 +105,8 @@ module _ {x : Source} {s : State} {at : ℕ} (w : Ok (length (x .ids)) s) (k : P
       → Plain (P.expected ns) x s (withNames count names (withWants want (s .unwant) s))
   wants ns want count names placed named e =
       noted w (λ a. P.further (length (P.skip (a .rest))) ns (a .want)) (λ a. a .unwant) want (s .unwant) count names placed named
-        (λ a r m. ap₂ (λ (i : ℕ) (o : Option (ℕ × List ℕ)). P.further i ns o) (ap (λ (l : List ℕ). length (P.skip l)) r ∙ left k) m ∙ e)
-        (λ a r m. m)
+      (λ a r m. ap₂ (λ (i : ℕ) (o : Option (ℕ × List ℕ)). P.further i ns o) (ap (λ (l : List ℕ). length (P.skip l)) r ∙ left k) m ∙ e)
+      (λ a r m. m)
 
   pub expected-nearer : (ns : List ℕ) → at + 1 < s .want → Plain (P.expected ns) x s s
   expected-nearer ns h = wants ns (s .want) (s .count) (s .names) (w .0) (w .1) (further-keep (length (x .ids)) at ns (s .want) (take (s .count) (s .names)) h (w .0 .want-in))
@@ -126,8 +126,8 @@ module _ {x : Source} {s : State} {at : ℕ} (w : Ok (length (x .ids)) s) (k : P
       → Plain P.unexpected x s (withWants (s .want) unwant s)
   unwants unwant placed e =
       noted w (λ a. a .want) (λ a. P.furthest (length (P.skip (a .rest))) (a .unwant)) (s .want) unwant (s .count) (s .names) placed (w .1)
-        (λ a r m. m)
-        (λ a r m. ap₂ P.furthest (ap (λ (l : List ℕ). length (P.skip l)) r ∙ left k) m ∙ e)
+      (λ a r m. m)
+      (λ a r m. ap₂ P.furthest (ap (λ (l : List ℕ). length (P.skip l)) r ∙ left k) m ∙ e)
 
   pub unexpected-further : s .unwant < at + 1 → Plain P.unexpected x s (withWants (s .want) (at + 1) s)
   unexpected-further h = unwants (at + 1) (unwant-at (w .0) k) (furthest-new (length (x .ids)) at (s .unwant) h (k .within))

@@ -61,11 +61,11 @@ module _ (s : State) (x : ℕ) (w : Named (s .count) (s .names)) where
       let below = below-more 85 x (take (s .count) (s .names)) (w .below) h in
       let distinct = distinct-more x (take (s .count) (s .names)) (w .distinct) (sym e) in
       let long : length (take (s .count) (s .names)) ≡ s .count = length-take-le (s .count) (s .names) (omega (arith, w .few, w .long)) in
-      record
-        { is = refl
-        ; names = more ∙ joined false e
-        ; named = record { few = omega (arith, few 85 (take (s .count) (s .names) ++ (x ∷ [])) distinct below, length-append (take (s .count) (s .names)) (x ∷ []), long); long = length-set (s .names) (s .count) x ∙ w .long; below = rw more below; distinct = rw more distinct }
-        }
+      record {
+        is = refl;
+        names = more ∙ joined false e;
+        named = record { few = omega (arith, few 85 (take (s .count) (s .names) ++ (x ∷ [])) distinct below, length-append (take (s .count) (s .names)) (x ∷ []), long); long = length-set (s .names) (s .count) x ∙ w .long; below = rw more below; distinct = rw more distinct };
+      }
 
 -- the sets: few kinds, each with an id
 abbrev named : List ℕ → Bool
@@ -138,15 +138,15 @@ module _ {ids : List ℕ} {s r : State} {k : ℕ} (g : Entering ids s r k) where
   pub entering-on : (x : ℕ) {q : State} → n.Is x ≡ nameOf (getElem? ids k) → Enters (P.join (take (r .count) (r .names)) (x ∷ [])) r q → Entering ids s q (k + 1)
   entering-on x {q} e y =
       let h = name-here ids k x e in
-      record
-        { is = y .is ∙ ap (withNames (q .count) (q .names)) (g .is)
-        ; named = y .named
-        ; rest =
+      record {
+        is = y .is ∙ ap (withNames (q .count) (q .names)) (g .is);
+        named = y .named;
+        rest =
             ap₂ (λ (l : List ℕ) (i : ℕ). P.join l (drop i ids)) (y .names) (add-one k)
             ∙ sym (join-cons (take (r .count) (r .names)) x (drop (suc k) ids))
             ∙ ap (P.join (take (r .count) (r .names))) (ap (λ (y : ℕ). y ∷ drop (suc k) ids) (sym (h .1)) ∙ sym (drop-cons ids k 0 (h .0)))
-            ∙ g .rest
-        }
+            ∙ g .rest;
+      }
 
   pub entering-all : length ids ≤ k → Enters (P.join (take (s .count) (s .names)) ids) s r
   entering-all h = record { is = g .is; names = sym (ap (P.join (take (r .count) (r .names))) (drop-of-length-le ids h)) ∙ g .rest; named = g .named }

@@ -70,28 +70,28 @@ module _ (d : ℕ) (x : Source) (s : State) (w : Ok (length (x .ids)) s) where
 
   charged : (f m : ℕ) (k : Mode → Mode) → k (modeOf (s .mode)) ≡ modeOf m → ((a : P.State) → a .fuel ≡ s .fuel → P.charge d (a .fuel) a ≡ P.turn (k (a .mode)) (P.pay f a)) → Charged (withFuel f (withMode m s))
   charged f m k q g =
-      record
-        { did = λ b v.
-            record
-              { does = λ p a t.
-                  record
-                    { over = t .over ∙ over-drafts p x a (P.charge d (a .fuel) a) (sym (charge-drafts d (a .fuel) a))
-                    ; means = λ z. let u = t .means z in subst (λ (c : P.State). Means p x (withFuel f (withMode m s)) b c) (sym (g a (u .fuel))) (paid f m (k (a .mode)) (ap k (u .mode) ∙ q) u)
-                    }
-              ; wf = v
-              ; room = λ z. z
-              ; first = refl
-              ; ahead = le-refl _
-              ; grows = le-refl _
-              ; kept = refl
-              }
-        ; ok = w
-        ; evcap = refl
-        ; ercap = refl
-        ; first = refl
-        ; place = refl
-        ; still = refl
-        }
+      record {
+        did = λ b v.
+            record {
+              does = λ p a t.
+                  record {
+                    over = t .over ∙ over-drafts p x a (P.charge d (a .fuel) a) (sym (charge-drafts d (a .fuel) a));
+                    means = λ z. let u = t .means z in subst (λ (c : P.State). Means p x (withFuel f (withMode m s)) b c) (sym (g a (u .fuel))) (paid f m (k (a .mode)) (ap k (u .mode) ∙ q) u);
+                  };
+              wf = v;
+              room = λ z. z;
+              first = refl;
+              ahead = le-refl _;
+              grows = le-refl _;
+              kept = refl;
+            };
+        ok = w;
+        evcap = refl;
+        ercap = refl;
+        first = refl;
+        place = refl;
+        still = refl;
+      }
 
   pub charges-none : s .fuel ≡ 0 → s .mode < 2 → Charged (withMode 2 s)
   charges-none z m = charged (s .fuel) 2 (P.halted spent) (halted-now spent (s .mode) m) (λ a e. charge-none d a (e ∙ z) ∙ ap (λ (f : ℕ). P.halt spent (P.pay f a)) e)
@@ -121,29 +121,29 @@ begin-like d p x a =
     let t : P.State = P.trivia a in
     let c : P.State = P.charge d (t .fuel) t in
     let e = charge-rest d (t .fuel) t in
-    record
-      { all = λ z. ap (λ (l : List ℕ). bare (P.emit (opened (length l)) c)) e
-      ; over = ap (λ (l : List ℕ). overOf p x (P.emit (opened (length l)) c)) e
-      }
+    record {
+      all = λ z. ap (λ (l : List ℕ). bare (P.emit (opened (length l)) c)) e;
+      over = ap (λ (l : List ℕ). overOf p x (P.emit (opened (length l)) c)) e;
+    }
 
 pub begins : (d st : ℕ) {x : Source} {s s₁ s₂ r : State} {ev ev₁ ev₂ : List ℕ} → Lines (x .ids) (x .ends) → Events P.trivia x s s₁ ev ev₁ → Plain (λ a. P.charge d (a .fuel) a) x s₁ s₂ → st ≡ getD (0 ∷ x .ends) (s₂ .pos) 0 → Put (four 1 0 st st) s₂ r ev₁ ev₂ → Began d x s r ev ev₂
 begins d st {x} {s} {s₁} {s₂} {r} {ev} {ev₁} {ev₂} l t c q u =
     let g : s .ev ≤ s₂ .ev = omega (arith, t .grows, c .still) in
-    record
-      { events =
-          record
-            { did = λ er sc w.
+    record {
+      events =
+          record {
+            did = λ er sc w.
                 let T = t .did er sc w in
                 let C = c .did (bufs ev₁ er sc) (T .wf) in
                 does-like (P.begin d) (λ p a. begin-like d p x a)
-                  (then (then T C) (writes u (λ a. opened (length (a .rest))) (λ a. tt) (C .wf) (λ p a m. opened-buffer st a l q (c .ok .0 .here) m)))
-            ; ok = ok-put u (c .ok)
-            ; fits = omega (arith, t .fits, c .evcap, caps-put u .0, u .long)
-            ; first = ap (λ (y : State). y .first) (u .is) ∙ c .first ∙ t .first
-            ; grows = omega (arith, u .grows)
-            }
-      ; opens = λ z. omega (arith, u .more z)
-      }
+                (then (then T C) (writes u (λ a. opened (length (a .rest))) (λ a. tt) (C .wf) (λ p a m. opened-buffer st a l q (c .ok .0 .here) m)));
+            ok = ok-put u (c .ok);
+            fits = omega (arith, t .fits, c .evcap, caps-put u .0, u .long);
+            first = ap (λ (y : State). y .first) (u .is) ∙ c .first ∙ t .first;
+            grows = omega (arith, u .grows);
+          };
+      opens = λ z. omega (arith, u .more z);
+    }
 
 -- where a node ends: where the row behind it begins
 pub span : (x : Source) (from to : ℕ) → Lines (x .ids) (x .ends) → from ≤ to → to ≤ length (x .ids) → getD (0 ∷ x .ends) to 0 ≡ span-end x (length (x .ids) - from) (length (x .ids) - to)
@@ -151,8 +151,10 @@ span x from to l h k = go (ℕ-discrete from to)
   where
     n : ℕ
     n = length (x .ids)
+
     pick : Bool → ℕ
     pick b = elim b as (λ _. ℕ) [ true ↦ starts-at x (n - from) | false ↦ ends-at x (suc (n - to)) ]
+
     go : Dec (from ≡ to) → getD (0 ∷ x .ends) to 0 ≡ pick (eqb (n - from) (n - to))
     go (yes e) =
         let i : n - (n - from) ≡ to = omega arith in
@@ -183,28 +185,28 @@ module _ (kind from at st en : ℕ) {x : Source} {s r : State} {ev ev′ : List 
 
   pub shuts : (er sc : List ℕ) → Wf x (bufs ev er sc) s → Shuts (shutA kind (length (x .ids) - from)) at x s r (bufs ev er sc) (bufs ev′ er sc)
   shuts er sc w =
-      record
-        { does = λ p a o m. emitted u w m (closed kind (length (x .ids) - from) (length (a .rest))) tt (λ y. shut-buffer a (w .0 .0 .here) (o z) (m .means z))
-        ; wf = wf-put u x er sc (w .0, record { events = simp length-set (w .1 .events); errors = w .1 .errors; scratch = w .1 .scratch })
-        ; room = u .room
-        ; first = ap (λ (y : State). y .first) (u .is)
-        ; ahead = omega (arith, ap (λ (y : State). y .pos) (u .is))
-        ; grows = u .grows
-        ; kept = λ k i g. sym (take-take k (s .ev) ev′ i) ∙ ap (take k) (u .kept) ∙ take-take k (s .ev) (patch at kind en ev) i ∙ keep-patch k at kind en ev (g z)
-        }
+      record {
+        does = λ p a o m. emitted u w m (closed kind (length (x .ids) - from) (length (a .rest))) tt (λ y. shut-buffer a (w .0 .0 .here) (o z) (m .means z));
+        wf = wf-put u x er sc (w .0, record { events = simp length-set (w .1 .events); errors = w .1 .errors; scratch = w .1 .scratch });
+        room = u .room;
+        first = ap (λ (y : State). y .first) (u .is);
+        ahead = omega (arith, ap (λ (y : State). y .pos) (u .is));
+        grows = u .grows;
+        kept = λ k i g. sym (take-take k (s .ev) ev′ i) ∙ ap (take k) (u .kept) ∙ take-take k (s .ev) (patch at kind en ev) i ∙ keep-patch k at kind en ev (g z);
+      }
 
 -- where there was no room before
 pub shuts-not : (kind n at : ℕ) {x : Source} {s : State} {b : Bufs} → (s .full ≡ 0 → ⊥) → Wf x b s → Shuts (shutA kind n) at x s s b b
 unfolding overOf
 shuts-not kind n at {x} {s} k w =
-    record
-      { does = λ p a o t.
+    record {
+      does = λ p a o t.
           let v : overOf p x a ≡ 0 → ⊥ = λ z. k (t .over ∙ z) in
-          record { over = t .over ∙ sym (sticky-mark p x (P.put (a .rest) (closed kind n (length (a .rest)) ∷ a .out) a) v); means = λ z. absurd (k z) }
-      ; wf = w
-      ; room = λ z. z
-      ; first = refl
-      ; ahead = le-refl _
-      ; grows = le-refl _
-      ; kept = λ i h g. refl
-      }
+          record { over = t .over ∙ sym (sticky-mark p x (P.put (a .rest) (closed kind n (length (a .rest)) ∷ a .out) a) v); means = λ z. absurd (k z) };
+      wf = w;
+      room = λ z. z;
+      first = refl;
+      ahead = le-refl _;
+      grows = le-refl _;
+      kept = λ i h g. refl;
+    }

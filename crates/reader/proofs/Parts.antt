@@ -46,44 +46,49 @@ not-ok f {x} {s} F w n = idle w (λ p a t. like-at t (λ i. refl) (F p a) (λ z.
 pub turned : (n : ℕ) (m : Mode) {f : P.Reader} {x : Source} {s r : State} {b b′ : Bufs} → m ≡ modeOf n → Did f x s r b b′ → Did (λ a. P.turn m (f a)) x s (withMode n r) b b′
 unfolding overOf
 turned n m e y =
-    record
-      { does = λ p a t. let u = y .does p a t in record { over = u .over; means = λ z. let v = u .means z in record { rest = v .rest; mode = e; fuel = v .fuel; written = v .written; want = v .want; unwant = v .unwant; chosen = v .chosen; cache = v .cache } }
-      ; wf = y .wf
-      ; room = y .room
-      ; first = y .first
-      ; ahead = y .ahead
-      ; grows = y .grows
-      ; kept = y .kept
-      }
+    record {
+      does = λ p a t. let u = y .does p a t in record { over = u .over; means = λ z. let v = u .means z in record { rest = v .rest; mode = e; fuel = v .fuel; written = v .written; want = v .want; unwant = v .unwant; chosen = v .chosen; cache = v .cache } };
+      wf = y .wf;
+      room = y .room;
+      first = y .first;
+      ahead = y .ahead;
+      grows = y .grows;
+      kept = y .kept;
+    }
 
 -- back to where s was, from r, which f reached; and a mode is set
 module _ {f : P.Reader} {x : Source} {s r : State} {b b′ : Bufs} (w : Wf x b s) (y : Did f x s r b b′) where
   pub gone-wf : Wf x b′ (gone (markOf s) r)
   gone-wf =
-      let W = y .wf in
-      ((record { here = w .0 .0 .here; since = omega (arith, y .first, w .0 .0 .since); far-in = W .0 .0 .far-in; want-in = W .0 .0 .want-in; want-since = W .0 .0 .want-since; unwant-in = W .0 .0 .unwant-in; unwant-since = W .0 .0 .unwant-since }
-      , W .0 .1, record { events = le-trans (y .grows) (W .0 .2 .events); since = W .0 .2 .since; errors = W .0 .2 .errors }), W .1)
+      let W = y .wf in (
+        (
+          record { here = w .0 .0 .here; since = omega (arith, y .first, w .0 .0 .since); far-in = W .0 .0 .far-in; want-in = W .0 .0 .want-in; want-since = W .0 .0 .want-since; unwant-in = W .0 .0 .unwant-in; unwant-since = W .0 .0 .unwant-since },
+          W .0 .1,
+          record { events = le-trans (y .grows) (W .0 .2 .events); since = W .0 .2 .since; errors = W .0 .2 .errors },
+        ),
+        W .1,
+      )
 
   pub went : (n : ℕ) (m : Mode) → m ≡ modeOf n → Did (λ a. P.turn m (P.back a (f a))) x s (withMode n (gone (markOf s) r)) b b′
   unfolding overOf
   went n m e =
-      record
-        { does = λ p a t.
+      record {
+        does = λ p a t.
             let u = y .does p a t in
-            record
-              { over = u .over
-              ; means = λ z.
+            record {
+              over = u .over;
+              means = λ z.
                   let v = u .means z in
                   let o = t .means (y .room z) in
-                  record { rest = o .rest; mode = e; fuel = v .fuel; written = record { is = y .kept ∙ o .written .is; past = o .written .past; room = v .written .room }; want = v .want; unwant = v .unwant; chosen = v .chosen; cache = v .cache }
-              }
-        ; wf = gone-wf
-        ; room = y .room
-        ; first = y .first
-        ; ahead = le-refl _
-        ; grows = le-refl _
-        ; kept = y .kept
-        }
+                  record { rest = o .rest; mode = e; fuel = v .fuel; written = record { is = y .kept ∙ o .written .is; past = o .written .past; room = v .written .room }; want = v .want; unwant = v .unwant; chosen = v .chosen; cache = v .cache };
+            };
+        wf = gone-wf;
+        room = y .room;
+        first = y .first;
+        ahead = le-refl _;
+        grows = le-refl _;
+        kept = y .kept;
+      }
 
   -- the same after `mark` and `rewind`
   pub rewound : {m : Mark} {q : State} (n : ℕ) (k : Mode) → k ≡ modeOf n → m ≡ markOf s → q ≡ gone m r → Did (λ a. P.turn k (P.back a (f a))) x s (withMode n q) b b′
@@ -113,14 +118,14 @@ module _ (f g : P.Reader) {x : Source} {s r : State} {b b′ : Bufs} (F : (p : P
   pub alt-on : (r .mode ≡ 1 → ⊥) → Did (P.alts f g) x s r b b′
   alt-on h =
       retold (P.alts f g) (λ p. sticky-past p x f (F p)) (λ p a n. refl) sticky-both sticky-here
-        (λ p a t i j. sym (alts-is p a (t .means i) ∙ or-else-ok g a (f (P.trivia a)) (r .mode) (y .does p a t .means j .mode) h)) y (idle (y .wf) (λ p a t. like-same refl))
+      (λ p a t i j. sym (alts-is p a (t .means i) ∙ or-else-ok g a (f (P.trivia a)) (r .mode) (y .does p a t .means j .mode) h)) y (idle (y .wf) (λ p a t. like-same refl))
 
   -- it failed, and the second part is taken from the mark
   pub alt-next : Wf x b s → r .mode ≡ 1 → {q : State} {b₂ : Bufs} → Did g x (withMode 0 (gone (markOf s) r)) q b′ b₂ → Did (P.alts f g) x s q b b₂
   unfolding overOf
   alt-next w h z =
       retold (P.alts f g) (λ p. sticky-back p x ok (λ a. f (P.trivia a)) (sticky-past p x f (F p))) G sticky-both sticky-here
-        (λ p a t i j. sym (alts-is p a (t .means i) ∙ or-else-back g a (f (P.trivia a)) (y .does p a t .means j .mode ∙ ap modeOf h))) (went w y 0 ok refl) z
+      (λ p a t i j. sym (alts-is p a (t .means i) ∙ or-else-back g a (f (P.trivia a)) (y .does p a t .means j .mode ∙ ap modeOf h))) (went w y 0 ok refl) z
 
 -- an optional part
 module _ (f : P.Reader) {x : Source} {s r : State} {b b′ : Bufs} (F : (p : Past) → Sticks p x f) (good : s .mode ≡ 0) (y : Did (λ a. f (P.trivia a)) x s r b b′) where
@@ -176,58 +181,60 @@ module _ {f : P.Reader} {x : Source} {s₀ s : State} {k₀ k : ℕ} {b₀ b : B
     -- the turn went well
     pub turns-on : r .mode ≡ 0 → Turning f x s₀ r k₀ (k - 1) b₀ b′
     turns-on m =
-        record
-          { does = λ p a₀ t.
+        record {
+          does = λ p a₀ t.
               let d = g .does p a₀ t in
               let u = y .does p (d .0) (d .1) in
               let c : P.State = f (P.trivia (d .0)) in
-              (c, u, like-trans (like-at u (sticky-loop p x f (g .sticks p) (k - 1) c) (onward p (d .0)) (λ z. like-same (sym (loop-next f k (d .0) h ∙ go-on-ok (λ t. P.loop f (k - 1) t) (d .0) c (u .means z .mode ∙ ap modeOf m))))) (d .2))
-          ; wf = y .wf
-          ; sticks = g .sticks
-          ; mode = m
-          ; room = λ z. g .room (y .room z)
-          ; first = y .first ∙ g .first
-          ; ahead = le-trans (g .ahead) (y .ahead)
-          ; grows = le-trans (g .grows) (y .grows)
-          ; kept = keeps y
-          }
+              (c, u, like-trans (like-at u (sticky-loop p x f (g .sticks p) (k - 1) c) (onward p (d .0)) (λ z. like-same (sym (loop-next f k (d .0) h ∙ go-on-ok (λ t. P.loop f (k - 1) t) (d .0) c (u .means z .mode ∙ ap modeOf m))))) (d .2));
+          wf = y .wf;
+          sticks = g .sticks;
+          mode = m;
+          room = λ z. g .room (y .room z);
+          first = y .first ∙ g .first;
+          ahead = le-trans (g .ahead) (y .ahead);
+          grows = le-trans (g .grows) (y .grows);
+          kept = keeps y;
+        }
 
     -- it failed or stopped, and is undone
     pub turns-back : (m : ℕ) → ((r .mode ≡ 1) × (m ≡ 0)) ⊎ ((2 ≤ r .mode) × (m ≡ r .mode)) → Did (P.loop f k₀) x s₀ (withMode m (gone (markOf s) r)) b₀ b′
     turns-back m c =
         let B = went (g .wf) y m (modeOf m) refl in
-        record
-          { does = λ p a₀ t.
+        record {
+          does = λ p a₀ t.
               let d = g .does p a₀ t in
               let u = y .does p (d .0) (d .1) in
-              alike (like-trans (undone p (d .0) (d .1) u) (d .2)) (B .does p (d .0) (d .1))
-          ; wf = B .wf
-          ; room = λ z. g .room (y .room z)
-          ; first = y .first ∙ g .first
-          ; ahead = g .ahead
-          ; grows = g .grows
-          ; kept = keeps y
-          }
+              alike (like-trans (undone p (d .0) (d .1) u) (d .2)) (B .does p (d .0) (d .1));
+          wf = B .wf;
+          room = λ z. g .room (y .room z);
+          first = y .first ∙ g .first;
+          ahead = g .ahead;
+          grows = g .grows;
+          kept = keeps y;
+        }
       where
         is : (a t : P.State) → t .mode ≡ modeOf (r .mode) → ((r .mode ≡ 1) × (m ≡ 0)) ⊎ ((2 ≤ r .mode) × (m ≡ r .mode)) → P.go-on (λ t. P.loop f (k - 1) t) a t ≡ P.turn (modeOf m) (P.back a t)
         is a t q (inl e) = go-on-failed (λ t. P.loop f (k - 1) t) a t (q ∙ ap modeOf (e .0)) ∙ ap (λ (n : ℕ). P.turn (modeOf n) (P.back a t)) (sym (e .1))
         is a t q (inr e) = go-on-stopped (λ t. P.loop f (k - 1) t) a t (r .mode) q (e .0) ∙ ap (λ (n : ℕ). P.turn (modeOf n) (P.back a t)) (sym (e .1))
+
         still : (p : Past) (a : P.State) → Sticky p x (f (P.trivia a)) (P.turn (modeOf m) (P.back a (f (P.trivia a))))
         still p a n = back-over p x (modeOf m) a (f (P.trivia a))
+
         undone : (p : Past) (a : P.State) → Stands p x s b a → Stands p x r b′ (f (P.trivia a)) → Like p x (P.turn (modeOf m) (P.back a (f (P.trivia a)))) (P.loop f k a)
         undone p a t u = like-at u (still p a) (onward p a) (λ z. like-same (sym (loop-next f k a h ∙ is a (f (P.trivia a)) (u .means z .mode) c)))
 
   pub turns-end : k ≤ 0 → Did (P.loop f k₀) x s₀ s b₀ b
   turns-end h =
-      record
-        { does = λ p a₀ t. let d = g .does p a₀ t in alike (like-trans (like-same (sym (none k h (d .0)))) (d .2)) (d .1)
-        ; wf = g .wf
-        ; room = g .room
-        ; first = g .first
-        ; ahead = g .ahead
-        ; grows = g .grows
-        ; kept = g .kept
-        }
+      record {
+        does = λ p a₀ t. let d = g .does p a₀ t in alike (like-trans (like-same (sym (none k h (d .0)))) (d .2)) (d .1);
+        wf = g .wf;
+        room = g .room;
+        first = g .first;
+        ahead = g .ahead;
+        grows = g .grows;
+        kept = g .kept;
+      }
     where
       none : (n : ℕ) → n ≤ 0 → (a : P.State) → P.loop f n a ≡ a
       none zero h a = refl
@@ -237,35 +244,36 @@ module _ {f : P.Reader} {x : Source} {s₀ s : State} {k₀ k : ℕ} {b₀ b : B
 pub repeats : (f : P.Reader) {x : Source} {s r : State} {b b′ : Bufs} (k : ℕ) → ((p : Past) → Sticks p x f) → Wf x b s → k ≡ length (x .ids) - s .pos + 1 → s .mode ≡ 0 → Did (P.loop f k) x s r b b′ → Did (P.loops f) x s r b b′
 repeats f {x} {s} {r} {b} k F w q good y =
     retold (P.loops f) (λ p a n. refl) (λ p. sticky-loop p x f (F p) k) (λ p. sticky p x .at-many f (F p)) (λ p a m. sticky p x .at-many f (F p) a)
-      (λ p a t i j.
-        let m = t .means i in
-        let l : k ≡ suc (length (a .rest)) = q ∙ add-one _ ∙ ap suc (sym (ap length (m .rest) ∙ length-drop (s .pos) (x .ids))) in
-        sym (if-ok-yes (P.loop-at f) a (m .mode ∙ ap modeOf good) ∙ ap (λ (n : ℕ). P.loop f n a) (sym l)))
-      (idle w (λ p a t. like-same refl)) y
+    (λ p a t i j.
+    let m = t .means i in
+    let l : k ≡ suc (length (a .rest)) = q ∙ add-one _ ∙ ap suc (sym (ap length (m .rest) ∙ length-drop (s .pos) (x .ids))) in
+    sym (if-ok-yes (P.loop-at f) a (m .mode ∙ ap modeOf good) ∙ ap (λ (n : ℕ). P.loop f n a) (sym l)))
+    (idle w (λ p a t. like-same refl)) y
 
 -- a node: begun, its body, ended
 pub node : (d kind : ℕ) (o : Bool) (f : P.Reader) → ((a : P.State) → Adds (a .out) (f a .out)) → {x : Source} → ((p : Past) → Sticks p x f) → {s s₁ s₂ r : State} {b b₁ b₂ b₃ : Bufs} (from at : ℕ) → from ≡ s₁ .pos → at ≡ s₁ .ev
     → Did (P.begin d) x s s₁ b b₁ → (s₁ .full ≡ 0 → s .ev + 4 ≤ s₁ .ev) → Did f x s₁ s₂ b₁ b₂ → Shuts (P.finish o kind (length (x .ids) - from)) at x s₂ r b₂ b₃ → Did (P.nodes d o kind f) x s r b b₃
 node d kind o f A {x} F {s} {s₁} {s₂} {r} {b} {b₁} {b₂} {b₃} from at i j y opens z e =
-    record
-      { does = λ p a t.
+    record {
+      does = λ p a t.
           let T : P.State = P.begin d a in
           let B = y .does p a t in
           let M = z .does p T B in
           let here : s₂ .full ≡ 0 → Open at (f T .out) = λ v. begun-open d at a (f T .out) (j ∙ ev-count (y .wf) (B .means (z .room v))) (A T) in
-          alike (like-at B (over p T (length (x .ids) - from)) (over p T (length (T .rest))) (λ v. like-same (ap (λ (n : ℕ). P.finish o kind n (f T)) (sym (rows T (B .means v .rest)))))) (e .does p (f T) here M)
-      ; wf = e .wf
-      ; room = λ v. y .room (z .room (e .room v))
-      ; first = e .first ∙ z .first ∙ y .first
-      ; ahead = le-trans (y .ahead) (le-trans (z .ahead) (e .ahead))
-      ; grows = le-trans (y .grows) (le-trans (z .grows) (e .grows))
-      ; kept =
+          alike (like-at B (over p T (length (x .ids) - from)) (over p T (length (T .rest))) (λ v. like-same (ap (λ (n : ℕ). P.finish o kind n (f T)) (sym (rows T (B .means v .rest)))))) (e .does p (f T) here M);
+      wf = e .wf;
+      room = λ v. y .room (z .room (e .room v));
+      first = e .first ∙ z .first ∙ y .first;
+      ahead = le-trans (y .ahead) (le-trans (z .ahead) (e .ahead));
+      grows = le-trans (y .grows) (le-trans (z .grows) (e .grows));
+      kept =
           e .kept (s .ev) (le-trans (y .grows) (z .grows)) (λ v. le-trans (opens (z .room v)) (le-of-eq (sym j)))
-          ∙ sym (take-take (s .ev) (s₁ .ev) (b₂ .events) (y .grows)) ∙ ap (take (s .ev)) (z .kept) ∙ take-take (s .ev) (s₁ .ev) (b₁ .events) (y .grows) ∙ y .kept
-      }
+          ∙ sym (take-take (s .ev) (s₁ .ev) (b₂ .events) (y .grows)) ∙ ap (take (s .ev)) (z .kept) ∙ take-take (s .ev) (s₁ .ev) (b₁ .events) (y .grows) ∙ y .kept;
+    }
   where
     over : (p : Past) (t : P.State) (n : ℕ) → Sticky p x t (P.finish o kind n (f t))
     over p t n = sticky-trans p x t (f t) (P.finish o kind n (f t)) (F p t) (sticky-finish p x o kind n (f t))
+
     rows : (t : P.State) → t .rest ≡ drop (s₁ .pos) (x .ids) → length (t .rest) ≡ length (x .ids) - from
     rows t q = ap length q ∙ length-drop (s₁ .pos) (x .ids) ∙ ap (λ (n : ℕ). length (x .ids) - n) (sym i)
 

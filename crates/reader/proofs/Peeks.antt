@@ -46,10 +46,13 @@ peeks-shift {ids} {p} {r} g h = record { ahead = omega arith; within = g .within
   where
     i : ℕ
     i = getD ids p 0
+
     is : List ℕ
     is = drop (suc p) ids
+
     cons : drop p ids ≡ i ∷ is
     cons = drop-cons ids p 0 (omega (arith, g .within, h))
+
     go : (b : Bool) → trivial i ≡ b → P.skip (drop p ids) ≡ P.skip (drop (p + 1) ids)
     go true e = ap P.skip cons ∙ skip-yes i is e ∙ ap (λ (n : ℕ). P.skip (drop n ids)) (sym (add-one p))
     go false e = absurd (omega (arith, skip-short (drop r ids), length-drop r ids, ap length (g .rest ∙ ap P.skip cons ∙ skip-no i is e), length-drop (suc p) ids, h, g .within))

@@ -54,23 +54,23 @@ skip-step S {p} {x} {s} {b} {a} i is w t h y = like-at t (sticky-trans p x a (P.
     here z =
         let o : List Event = leaf i (suc (length is)) ∷ a .out in
         let e : P.skip-to S a ≡ P.mark (P.put (P.seek S is) (P.seek-out S is o) a) = skip-is S a (i ∷ is) (h z) ∙ (λ k. P.mark (P.put (seek-on S i is y k) (seek-out-on S i is (a .out) y k) a)) in
-        record
-          { all = λ q. sym (ap bare e)
-          ; over = thin (p .event-room) (p .error-room) (overOf p x a) (used limits x (o, a .chosen)) (used limits x (P.seek-out S is o, a .chosen)) (omega (arith, seek-more S is o)) (λ q. fits w (t .means z) .1) ∙ sym (ap (overOf p x) e)
-          }
+        record {
+          all = λ q. sym (ap bare e);
+          over = thin (p .event-room) (p .error-room) (overOf p x a) (used limits x (o, a .chosen)) (used limits x (P.seek-out S is o, a .chosen)) (omega (arith, seek-more S is o)) (λ q. fits w (t .means z) .1) ∙ sym (ap (overOf p x) e);
+        }
 
 skip-none : (S : List ℕ) {p : Past} {x : Source} {s : State} {b : Bufs} {a : P.State} → Wf x b s → Stands p x s b a → (s .full ≡ 0 → P.past (P.next S (a .rest)) ≡ true) → Like p x a (P.skip-to S a)
 skip-none S {p} {x} {s} {a = a} w t e =
     like-at t (λ n. refl) (sticky-skip p x S a)
-      (λ z.
-        let q : P.skip-to S a ≡ P.mark a = λ i. P.mark (P.put (seek-end S (a .rest) (e z) i) (seek-out-end S (a .rest) (a .out) (e z) i) a) in
-        record { all = λ y. sym (ap bare q); over = sym (ap (overOf p x) q ∙ still w t) })
+    (λ z.
+    let q : P.skip-to S a ≡ P.mark a = λ i. P.mark (P.put (seek-end S (a .rest) (e z) i) (seek-out-end S (a .rest) (a .out) (e z) i) a) in
+    record { all = λ y. sym (ap bare q); over = sym (ap (overOf p x) q ∙ still w t) })
 
 module _ {S : List ℕ} {x : Source} {s₀ s : State} {ev₀ ev : List ℕ} (k : Taking (P.skip-to S) x s₀ s ev₀ ev) where
   pub skip-on : (st : ℕ) {r : State} {ev′ : List ℕ} → s .pos < length (x .ids) → P.next S (drop (s .pos) (x .ids)) ≡ other → st ≡ getD (0 ∷ x .ends) (s .pos) 0 → Put (four 2 (getD (x .ids) (s .pos) 0) st (getD (x .ends) (s .pos) 0)) s r ev ev′ → Taking (P.skip-to S) x s₀ (withPos (s .pos + 1) r) ev₀ ev′
   skip-on st h y q u =
       takes k (getD (x .ids) (s .pos) 0) st h q u
-        (λ er sc p a w t. skip-step S (getD (x .ids) (s .pos) 0) (drop (suc (s .pos)) (x .ids)) w t (λ z. t .means z .rest ∙ drop-cons (x .ids) (s .pos) 0 h) (ap P.past (ap (P.next S) (sym (drop-cons (x .ids) (s .pos) 0 h)) ∙ y)))
+      (λ er sc p a w t. skip-step S (getD (x .ids) (s .pos) 0) (drop (suc (s .pos)) (x .ids)) w t (λ z. t .means z .rest ∙ drop-cons (x .ids) (s .pos) 0 h) (ap P.past (ap (P.next S) (sym (drop-cons (x .ids) (s .pos) 0 h)) ∙ y)))
 
   pub skip-over : (z : Next) → P.past z ≡ true → P.next S (drop (s .pos) (x .ids)) ≡ z → Events (P.skip-to S) x s₀ s ev₀ ev
   skip-over z e y = taken k (λ er sc p a w t. skip-none S w t (λ i. ap (λ (l : List ℕ). P.past (P.next S l)) (t .means i .rest) ∙ ap P.past y ∙ e))

@@ -45,21 +45,21 @@ module _ (p : Past) (x : Source) where
   pub sticking : Order (Sticky p x)
   unfolding overOf
   sticking =
-      record
-        { same = λ a n. refl
-        ; trans = sticky-trans
-        ; at-turn = λ m a r n. refl
-        ; at-note = λ w u a n. refl
-        ; at-choose = sticky-choose
-        ; at-count = λ a n. refl
-        ; at-pay = λ a f e n. refl
-        ; at-keep = λ r k a n. refl
-        ; at-emit = λ e q a. sticky-mark p x (P.put (a .rest) (e ∷ a .out) a)
-        ; at-trivia = sticky-trivia
-        ; at-take = λ S a i is e h. sticky-trans a (P.trivia a) (P.take i is (P.trivia a)) (sticky-trivia a) (sticky-take i is (P.trivia a))
-        ; at-skip = sticky-skip
-        ; at-back = λ a t k. k
-        }
+      record {
+        same = λ a n. refl;
+        trans = sticky-trans;
+        at-turn = λ m a r n. refl;
+        at-note = λ w u a n. refl;
+        at-choose = sticky-choose;
+        at-count = λ a n. refl;
+        at-pay = λ a f e n. refl;
+        at-keep = λ r k a n. refl;
+        at-emit = λ e q a. sticky-mark p x (P.put (a .rest) (e ∷ a .out) a);
+        at-trivia = sticky-trivia;
+        at-take = λ S a i is e h. sticky-trans a (P.trivia a) (P.take i is (P.trivia a)) (sticky-trivia a) (sticky-take i is (P.trivia a));
+        at-skip = sticky-skip;
+        at-back = λ a t k. k;
+      }
 
   pub sticky : Kept Sticks
   sticky = ordered (Sticky p x) sticking

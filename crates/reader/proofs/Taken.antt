@@ -50,7 +50,7 @@ leaf-buffer x p i o w h =
 pub took : (i at : ℕ) {p : Past} {x : Source} {s r : State} {ev ev′ er sc : List ℕ} {a : P.State} → Lines (x .ids) (x .ends) → at < length (x .ids) → Wf x (bufs ev er sc) s → Put (four 2 i (getD (0 ∷ x .ends) at 0) (getD (x .ends) at 0)) s r ev ev′ → Stands p x s (bufs ev er sc) a → Stands p x (withPos (at + 1) r) (bufs ev′ er sc) (P.take i (drop (suc at) (x .ids)) a)
 took i at {p} {x} {s} {r} {ev} {ev′} {er} {sc} {a} l h w u t =
     subst (λ (k : ℕ). Stands p x (withPos (at + 1) r) (bufs ev′ er sc) (P.take i (drop k (x .ids)) a)) (add-one at)
-      (moved (at + 1) (emitted u w t (leaf i (suc (length (drop (at + 1) (x .ids))))) tt (λ z. ap (λ (b : List ℕ). b ++ four 2 i (getD (0 ∷ x .ends) at 0) (getD (x .ends) at 0)) (t .means z .written .is) ∙ sym (ap (λ (k : ℕ). buffer x (leaf i (suc (length (drop k (x .ids)))) ∷ a .out)) (add-one at) ∙ leaf-buffer x at i (a .out) l h))))
+    (moved (at + 1) (emitted u w t (leaf i (suc (length (drop (at + 1) (x .ids))))) tt (λ z. ap (λ (b : List ℕ). b ++ four 2 i (getD (0 ∷ x .ends) at 0) (getD (x .ends) at 0)) (t .means z .written .is) ∙ sym (ap (λ (k : ℕ). buffer x (leaf i (suc (length (drop k (x .ids)))) ∷ a .out)) (add-one at) ∙ leaf-buffer x at i (a .out) l h))))
 
 pub ok-took : {q : List ℕ} {s r : State} {ev ev′ : List ℕ} (n at : ℕ) → Put q s r ev ev′ → s .first ≤ at → at < n → Ok n s → Ok n (withPos (at + 1) r)
 ok-took n at u h k w =
@@ -94,13 +94,13 @@ trivia-step {p} {x} {s} {b} {a} i is w t h y = like-at t (sticky-trans p x a (P.
         let e : P.trivia a ≡ P.mark (P.put (P.skip is) (P.trivia-out is o) a) = trivia-ok a (i ∷ is) (h z .0) (h z .1) ∙ (λ k. P.mark (P.put (skip-yes i is y k) (out-yes i is (a .out) y k) a)) in
         let v : P.State = P.take i is a in
         let d : P.trivia v ≡ P.mark (P.put (P.skip is) (P.trivia-out is o) v) = trivia-ok v is (h z .0) refl in
-        record
-          { all = λ q. ap bare d ∙ sym (ap bare e)
-          ; over =
+        record {
+          all = λ q. ap bare d ∙ sym (ap bare e);
+          over =
               ap (overOf p x) d
               ∙ thin (p .event-room) (p .error-room) (overOf p x a) (used limits x (o, a .chosen)) (used limits x (P.trivia-out is o, a .chosen)) (omega (arith, out-more is o)) (λ q. fits w (t .means z) .1)
-              ∙ sym (ap (overOf p x) e)
-          }
+              ∙ sym (ap (overOf p x) e);
+        }
 
 -- no trivia at hand: only a moment more
 pub trivia-none : {p : Past} {x : Source} {s : State} {b : Bufs} {a : P.State} → Wf x b s → Stands p x s b a → (s .full ≡ 0 → P.trivia a ≡ P.mark a) → Like p x a (P.trivia a)
@@ -135,20 +135,20 @@ pub record Taking (g : P.Reader) (x : Source) (s₀ s : State) (ev₀ ev : List 
 
 pub taking : (g : P.Reader) {x : Source} {s : State} {ev : List ℕ} → Lines (x .ids) (x .ends) → Ok (length (x .ids)) s → s .evcap ≤ length ev → Taking g x s s ev ev
 taking g l w h =
-    record
-      { does = λ er sc y p a t. (a, t, like-same refl)
-      ; wf = λ er sc y. y
-      ; lines = l
-      ; ok = w
-      ; fits = h
-      ; room = λ z. z
-      ; mode = refl
-      ; first = refl
-      ; ahead = le-refl _
-      ; grows = le-refl _
-      ; kept = refl
-      ; long = refl
-      }
+    record {
+      does = λ er sc y p a t. (a, t, like-same refl);
+      wf = λ er sc y. y;
+      lines = l;
+      ok = w;
+      fits = h;
+      room = λ z. z;
+      mode = refl;
+      first = refl;
+      ahead = le-refl _;
+      grows = le-refl _;
+      kept = refl;
+      long = refl;
+    }
 
 module _ {g : P.Reader} {x : Source} {s₀ s : State} {ev₀ ev : List ℕ} (k : Taking g x s₀ s ev₀ ev) where
   -- a row is taken up as kind i, and g goes on behind it
@@ -158,51 +158,51 @@ module _ {g : P.Reader} {x : Source} {s₀ s : State} {ev₀ ev : List ℕ} (k :
   takes i st {r} {ev′} h q v step =
       let u = subst (λ (j : ℕ). Put (four 2 i j (getD (x .ends) (s .pos) 0)) s r ev ev′) q v in
       let caps = caps-put u in
-      record
-        { does = λ er sc w p a t.
+      record {
+        does = λ er sc w p a t.
             let d = k .does er sc w p a t in
             let v = k .wf er sc w in
-            (P.take i (drop (suc (s .pos)) (x .ids)) (d .0), took i (s .pos) (k .lines) h v u (d .1), like-trans (step er sc p (d .0) v (d .1)) (d .2))
-        ; wf = λ er sc w. let v = wf-put u x er sc (k .wf er sc w) in (ok-took (length (x .ids)) (s .pos) u (k .ok .0 .since) h (k .ok), v .1)
-        ; lines = k .lines
-        ; ok = ok-took (length (x .ids)) (s .pos) u (k .ok .0 .since) h (k .ok)
-        ; fits = omega (arith, k .fits, caps .0, u .long)
-        ; room = λ z. k .room (u .room z)
-        ; mode = ap (λ (y : State). y .mode) (u .is) ∙ k .mode
-        ; first = ap (λ (y : State). y .first) (u .is) ∙ k .first
-        ; ahead = omega (arith, k .ahead)
-        ; grows = omega (arith, k .grows, u .grows)
-        ; kept = sym (take-take (s₀ .ev) (s .ev) ev′ (k .grows)) ∙ ap (take (s₀ .ev)) (u .kept) ∙ take-take (s₀ .ev) (s .ev) ev (k .grows) ∙ k .kept
-        ; long = u .long ∙ k .long
-        }
+            (P.take i (drop (suc (s .pos)) (x .ids)) (d .0), took i (s .pos) (k .lines) h v u (d .1), like-trans (step er sc p (d .0) v (d .1)) (d .2));
+        wf = λ er sc w. let v = wf-put u x er sc (k .wf er sc w) in (ok-took (length (x .ids)) (s .pos) u (k .ok .0 .since) h (k .ok), v .1);
+        lines = k .lines;
+        ok = ok-took (length (x .ids)) (s .pos) u (k .ok .0 .since) h (k .ok);
+        fits = omega (arith, k .fits, caps .0, u .long);
+        room = λ z. k .room (u .room z);
+        mode = ap (λ (y : State). y .mode) (u .is) ∙ k .mode;
+        first = ap (λ (y : State). y .first) (u .is) ∙ k .first;
+        ahead = omega (arith, k .ahead);
+        grows = omega (arith, k .grows, u .grows);
+        kept = sym (take-take (s₀ .ev) (s .ev) ev′ (k .grows)) ∙ ap (take (s₀ .ev)) (u .kept) ∙ take-take (s₀ .ev) (s .ev) ev (k .grows) ∙ k .kept;
+        long = u .long ∙ k .long;
+      }
 
   -- nothing is left of g
   pub taken : ((er sc : List ℕ) (p : Past) (a : P.State) → Wf x (bufs ev er sc) s → Stands p x s (bufs ev er sc) a → Like p x a (g a)) → Events g x s₀ s ev₀ ev
   taken rest =
-      record
-        { did = λ er sc w.
+      record {
+        did = λ er sc w.
             let v = k .wf er sc w in
-            record
-              { does = λ p a t. let d = k .does er sc w p a t in alike (like-trans (rest er sc p (d .0) v (d .1)) (d .2)) (d .1)
-              ; wf = v
-              ; room = k .room
-              ; first = k .first
-              ; ahead = k .ahead
-              ; grows = k .grows
-              ; kept = k .kept
-              }
-        ; ok = k .ok
-        ; fits = k .fits
-        ; first = k .first
-        ; grows = k .grows
-        }
+            record {
+              does = λ p a t. let d = k .does er sc w p a t in alike (like-trans (rest er sc p (d .0) v (d .1)) (d .2)) (d .1);
+              wf = v;
+              room = k .room;
+              first = k .first;
+              ahead = k .ahead;
+              grows = k .grows;
+              kept = k .kept;
+            };
+        ok = k .ok;
+        fits = k .fits;
+        first = k .first;
+        grows = k .grows;
+      }
 
 -- trivia in a row: one is taken up, none is left, or none are skipped
 module _ {x : Source} {s₀ s : State} {ev₀ ev : List ℕ} (k : Taking P.trivia x s₀ s ev₀ ev) (good : s₀ .mode ≡ 0) where
   pub trivia-on : (st : ℕ) {r : State} {ev′ : List ℕ} → s .pos < length (x .ids) → trivial (getD (x .ids) (s .pos) 0) ≡ true → st ≡ getD (0 ∷ x .ends) (s .pos) 0 → Put (four 2 (getD (x .ids) (s .pos) 0) st (getD (x .ends) (s .pos) 0)) s r ev ev′ → Taking P.trivia x s₀ (withPos (s .pos + 1) r) ev₀ ev′
   trivia-on st h y q u =
       takes k (getD (x .ids) (s .pos) 0) st h q u
-        (λ er sc p a w t. trivia-step (getD (x .ids) (s .pos) 0) (drop (suc (s .pos)) (x .ids)) w t (λ z. (t .means z .mode ∙ ap modeOf (k .mode ∙ good), t .means z .rest ∙ drop-cons (x .ids) (s .pos) 0 h)) y)
+      (λ er sc p a w t. trivia-step (getD (x .ids) (s .pos) 0) (drop (suc (s .pos)) (x .ids)) w t (λ z. (t .means z .mode ∙ ap modeOf (k .mode ∙ good), t .means z .rest ∙ drop-cons (x .ids) (s .pos) 0 h)) y)
 
   pub trivia-over : s .pos < length (x .ids) → trivial (getD (x .ids) (s .pos) 0) ≡ false → Events P.trivia x s₀ s ev₀ ev
   trivia-over h y = taken k (λ er sc p a w t. trivia-none w t (λ z. trivia-stop (getD (x .ids) (s .pos) 0) (drop (suc (s .pos)) (x .ids)) a (t .means z .mode ∙ ap modeOf (k .mode ∙ good)) (t .means z .rest ∙ drop-cons (x .ids) (s .pos) 0 h) y))

@@ -122,7 +122,14 @@ impl State {
     }
 
     // Closes a node that began at row `from`, its event before `at`: that event gets kind and end, and the end event is written.
-    pub fn shut(mut self, kind: u32, from: usize, at: usize, ends: &[u32], events: &mut [u32]) -> Self
+    pub fn shut(
+        mut self,
+        kind: u32,
+        from: usize,
+        at: usize,
+        ends: &[u32],
+        events: &mut [u32],
+    ) -> Self
         requires { ⌜ (self .pos ≤ length (now ends)) × (from ≤ self .pos) × (self .ev ≤ self .evcap) × (self .evcap ≤ length (now events)) × (self .full ≡ 0 → (4 ≤ at) × (at ≤ self .ev)) ⌝ }
         ensures { λ r. ⌜ ((bytes ids er sc : List ℕ) → Lines ids (now (ends .entry)) → Wf (source bytes ids (now (ends .entry))) (bufs (now (events .entry)) er sc) self → Shuts (shutA kind (length ids - from)) at (source bytes ids (now (ends .entry))) self r (bufs (now (events .entry)) er sc) (bufs (now (events .exit)) er sc)) ⌝ }
     {

@@ -32,7 +32,14 @@ impl State {
     }
 
     // A row of the set stands next past trivia, and is taken up; or the state fails.
-    pub fn eat(mut self, set: usize, label: Label, ids: &[u32], ends: &[u32], events: &mut [u32]) -> Self
+    pub fn eat(
+        mut self,
+        set: usize,
+        label: Label,
+        ids: &[u32],
+        ends: &[u32],
+        events: &mut [u32],
+    ) -> Self
         requires { ⌜ Lines (now ids) (now ends) × Ok (length (now ids)) self × (self .evcap ≤ length (now events)) × Proper label ⌝ }
         ensures { λ r. ⌜ ((bytes : List ℕ) → Events (P.eats (setOf set) (namesOf set label)) (source bytes (now (ids .entry)) (now (ends .entry))) self r (now (events .entry)) (now (events .exit))) ⌝ }
     {
@@ -63,7 +70,14 @@ impl State {
         self
     }
 
-    pub fn expect_d(mut self, set: usize, name: u8, ids: &[u32], ends: &[u32], events: &mut [u32]) -> Self
+    pub fn expect_d(
+        mut self,
+        set: usize,
+        name: u8,
+        ids: &[u32],
+        ends: &[u32],
+        events: &mut [u32],
+    ) -> Self
         requires { ⌜ Lines (now ids) (now ends) × Ok (length (now ids)) self × (self .evcap ≤ length (now events)) × (name < 85) ⌝ }
         ensures { λ r. ⌜ ((bytes : List ℕ) → Events (P.eats (setOf set) (name ∷ [])) (source bytes (now (ids .entry)) (now (ends .entry))) self r (now (events .entry)) (now (events .exit))) ⌝ }
     {
@@ -175,7 +189,18 @@ impl State {
     }
 
     // Ends a node. Outside optional parts an error is chosen where the node did not go well.
-    pub fn end(mut self, kind: u32, from: usize, at: usize, optional: bool, src: &[u8], ids: &[u32], ends: &[u32], events: &mut [u32], errors: &mut [u32]) -> Self
+    pub fn end(
+        mut self,
+        kind: u32,
+        from: usize,
+        at: usize,
+        optional: bool,
+        src: &[u8],
+        ids: &[u32],
+        ends: &[u32],
+        events: &mut [u32],
+        errors: &mut [u32],
+    ) -> Self
         requires { ⌜ Rows (source (now src) (now ids) (now ends)) × Ok (length (now ids)) self × (self .evcap ≤ length (now events)) × (self .ercap ≤ length (now errors)) × (from ≤ self .pos) × (self .full ≡ 0 → (4 ≤ at) × (at ≤ self .ev)) ⌝ }
         ensures { λ r. ⌜ ((sc : List ℕ) → Wf (source (now (src .entry)) (now (ids .entry)) (now (ends .entry))) (bufs (now (events .entry)) (now (errors .entry)) sc) self → Shuts (P.finish optional kind (length (now (ids .entry)) - from)) at (source (now (src .entry)) (now (ids .entry)) (now (ends .entry))) self r (bufs (now (events .entry)) (now (errors .entry)) sc) (bufs (now (events .exit)) (now (errors .exit)) sc)) ⌝ }
     {
@@ -190,7 +215,17 @@ impl State {
     }
 
     // An ERROR node around the rows up to one of the set.
-    pub fn swallow(mut self, d: usize, optional: bool, set: usize, src: &[u8], ids: &[u32], ends: &[u32], events: &mut [u32], errors: &mut [u32]) -> Self
+    pub fn swallow(
+        mut self,
+        d: usize,
+        optional: bool,
+        set: usize,
+        src: &[u8],
+        ids: &[u32],
+        ends: &[u32],
+        events: &mut [u32],
+        errors: &mut [u32],
+    ) -> Self
         requires { ⌜ Rows (source (now src) (now ids) (now ends)) × Ok (length (now ids)) self × (self .evcap ≤ length (now events)) × (self .ercap ≤ length (now errors)) ⌝ }
         ensures { λ r. ⌜ Both (P.swallow d optional (setOf set)) (source (now (src .entry)) (now (ids .entry)) (now (ends .entry))) self r (now (events .entry)) (now (events .exit)) (now (errors .entry)) (now (errors .exit)) ⌝ }
     {
@@ -198,7 +233,17 @@ impl State {
         let from = self.pos;
         let at = self.ev;
         self = self.skip_to(set, ids, ends, events);
-        self.end(kind::ERROR, from, at, optional, src, ids, ends, events, errors)
+        self.end(
+            kind::ERROR,
+            from,
+            at,
+            optional,
+            src,
+            ids,
+            ends,
+            events,
+            errors,
+        )
     }
 
     // Where no error of the item is pending, the set's names are entered first.
@@ -213,7 +258,17 @@ impl State {
     }
 
     // Goes on at a row of the set, in good order; what stands before it goes into an ERROR node.
-    pub fn recover(mut self, d: usize, optional: bool, set: usize, src: &[u8], ids: &[u32], ends: &[u32], events: &mut [u32], errors: &mut [u32]) -> Self
+    pub fn recover(
+        mut self,
+        d: usize,
+        optional: bool,
+        set: usize,
+        src: &[u8],
+        ids: &[u32],
+        ends: &[u32],
+        events: &mut [u32],
+        errors: &mut [u32],
+    ) -> Self
         requires { ⌜ Rows (source (now src) (now ids) (now ends)) × Ok (length (now ids)) self × (self .evcap ≤ length (now events)) × (self .ercap ≤ length (now errors)) ⌝ }
         ensures { λ r. ⌜ Both (P.recovery d optional (setOf set)) (source (now (src .entry)) (now (ids .entry)) (now (ends .entry))) self r (now (events .entry)) (now (events .exit)) (now (errors .entry)) (now (errors .exit)) ⌝ }
     {
