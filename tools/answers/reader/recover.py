@@ -16,7 +16,7 @@ N=f'({{first-names}} .ensures {X} ({{pre}} .1) ({{peek}} .ensures))'
 LOW='(omega (arith, {if1} .left))'
 HAS=f'(next-has {S} ({{peek}} .ensures) ({{if2}} .left) (sym (not-no _ ({{if3}} .left)) ∙ {{contains}} .ensures))'
 LACKS=f'(next-lacks {S} ({{peek}} .ensures) ({{if2}} .left) (sym (not-yes _ ({{if3}} .taken)) ∙ {{contains}} .ensures))'
-ANS={'returns':f'recover-stopped {A} {G} ({{if1}} .taken)',
+ANS={'returns':f'recover-stopped {A} {G} (omega (arith, {{if1}} .taken))',
 'peek-requires':'{pre} .1 .0 .here',
 'returns-2':f'recover-end {A} {G} {LOW} (next-end {S} ({{peek}} .ensures) ({{if2}} .taken))',
 'first-names-requires':'({pre} .1 .1, omega (arith, {pre} .0 .lines .few, {if2} .left))',

@@ -19,7 +19,7 @@ use Rattle.reader.proofs.state.State.first_names.Reads as first-names-r
 use Rattle.reader.proofs.state.State.swallow.Reads as swallow-reads
 
 returns : tie.Need-returns
-returns c = recover-stopped (c .before .before .before .before .before .before .before .args .d) (c .before .before .before .before .before .before .before .args .optional) (setOf (c .before .before .before .before .before .before .before .args .set)) (c .before .before .before .before .before .before .before .pre .1) (c .before .before .before .before .before .before .before .pre .2) (c .before .before .before .before .before .before .before .pre .3) (c .if1 .taken)
+returns c = recover-stopped (c .before .before .before .before .before .before .before .args .d) (c .before .before .before .before .before .before .before .args .optional) (setOf (c .before .before .before .before .before .before .before .args .set)) (c .before .before .before .before .before .before .before .pre .1) (c .before .before .before .before .before .before .before .pre .2) (c .before .before .before .before .before .before .before .pre .3) (omega (arith, c .if1 .taken))
 
 peek-requires : tie.Need-peek-requires
 peek-requires c κs = c .before .before .before .before .before .before .before .pre .1 .0 .here
