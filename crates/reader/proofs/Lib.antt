@@ -20,3 +20,6 @@ pub mod Records
 pub mod Forms
 pub mod Pending
 pub mod Choose
+pub mod Judging
+pub mod Judged
+pub mod Scripts

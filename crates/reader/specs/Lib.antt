@@ -3,3 +3,5 @@ pub mod Means
 pub mod Change
 pub mod Did
 pub mod Choice
+pub mod Judge
+pub mod Script

@@ -1,0 +1,9 @@
+pub mod Either
+pub mod Rest
+pub mod Pieces
+pub mod Digits
+pub mod Fields
+pub mod Written
+pub mod Records
+pub mod Lent
+pub mod Small

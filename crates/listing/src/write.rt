@@ -1,0 +1,245 @@
+// The lines of the listing, each written at the front of a room. A room of 4,096 bytes holds any line:
+// 85 names of at most 32 bytes, each with a comma, and the other fields.
+ghost use Prim.Native.Nat.{_+_, _*_, _≤_, _<_, min};
+ghost use mathlib.Core.Path.{_≡_};
+ghost use mathlib.Core.List.{[], _∷_, map};
+ghost use lib.ListN.{length, getD};
+ghost use Rattle.kinds.specs.Spelling.{kindText, nameText, Spelled};
+ghost use Rattle.listing.specs.Numbers.{decimal};
+ghost use Rattle.listing.specs.Listing.{led, joined, lineWith, headLine, refusalLine, unreadLine, resultLine, nodeLine, namesOf, errorLine, eventLine};
+ghost use Rattle.listing.specs.Written.{Put, Stands};
+
+fn put_byte(b: u8, room: &mut [u8], at: usize) -> usize
+    requires { ⌜ at < length (now room) ⌝ }
+    ensures { λ r. ⌜ Put (b ∷ []) at (now (room .entry)) (now (room .exit)) r ⌝ }
+{
+    room[at] = b;
+    at + 1
+}
+
+fn put(text: &[u8], room: &mut [u8], at: usize) -> usize
+    requires { ⌜ at + length (now text) ≤ length (now room) ⌝ }
+    ensures { λ r. ⌜ Put (now (text .entry)) at (now (room .entry)) (now (room .exit)) r ⌝ }
+{
+    let mut end = at;
+    let mut i = 0;
+    while i < text.len() {
+        end = put_byte(text[i], room, end);
+        i += 1;
+    }
+    end
+}
+
+fn put_decimal(n: u64, room: &mut [u8], at: usize) -> usize
+    requires { ⌜ at + length (decimal n) ≤ length (now room) ⌝ }
+    ensures { λ r. ⌜ Put (decimal n) at (now (room .entry)) (now (room .exit)) r ⌝ }
+{
+    if n < 10 {
+        return put_byte(48 + n as u8, room, at);
+    }
+    let end = put_decimal(n / 10, room, at);
+    put_byte(48 + (n % 10) as u8, room, end)
+}
+
+fn put_number(n: u64, room: &mut [u8], at: usize) -> usize
+    requires { ⌜ at + 21 ≤ length (now room) ⌝ }
+    ensures { λ r. ⌜ Put (9 ∷ decimal n) at (now (room .entry)) (now (room .exit)) r ⌝ }
+    ensures { λ r. ⌜ r ≤ at + 21 ⌝ }
+{
+    let end = put_byte(b'\t', room, at);
+    put_decimal(n, room, end)
+}
+
+fn put_numbers(numbers: &[u64], room: &mut [u8], at: usize) -> usize
+    requires { ⌜ at + 21 * length (now numbers) ≤ length (now room) ⌝ }
+    ensures { λ r. ⌜ Put (led 9 (map decimal (now (numbers .entry)))) at (now (room .entry)) (now (room .exit)) r ⌝ }
+    ensures { λ r. ⌜ r ≤ at + 21 * length (now (numbers .entry)) ⌝ }
+{
+    let mut end = at;
+    let mut i = 0;
+    while i < numbers.len() {
+        end = put_number(numbers[i], room, end);
+        i += 1;
+    }
+    end
+}
+
+fn put_kind(kind: u32, room: &mut [u8], at: usize) -> usize
+    requires { ⌜ at + 32 ≤ length (now room) ⌝ }
+    ensures { λ r. ⌜ Put (kindText kind) at (now (room .entry)) (now (room .exit)) r ⌝ }
+    ensures { λ r. ⌜ r ≤ at + 32 ⌝ }
+{
+    let mut text = [0u8; 32];
+    let k = kinds::spell_kind(kind, &mut text);
+    put(&text[..k], room, at)
+}
+
+fn put_name(name: u32, room: &mut [u8], at: usize) -> usize
+    requires { ⌜ at + 32 ≤ length (now room) ⌝ }
+    ensures { λ r. ⌜ Put (nameText name) at (now (room .entry)) (now (room .exit)) r ⌝ }
+    ensures { λ r. ⌜ r ≤ at + 32 ⌝ }
+{
+    let mut text = [0u8; 32];
+    let k = kinds::spell_name(name, &mut text);
+    put(&text[..k], room, at)
+}
+
+// Names, a comma in front of each.
+fn put_more_names(names: &[u32], room: &mut [u8], at: usize) -> usize
+    requires { ⌜ at + 33 * length (now names) ≤ length (now room) ⌝ }
+    ensures { λ r. ⌜ Put (led 44 (map nameText (now (names .entry)))) at (now (room .entry)) (now (room .exit)) r ⌝ }
+    ensures { λ r. ⌜ r ≤ at + 33 * length (now (names .entry)) ⌝ }
+{
+    let mut end = at;
+    let mut i = 0;
+    while i < names.len() {
+        let next = put_byte(b',', room, end);
+        end = put_name(names[i], room, next);
+        i += 1;
+    }
+    end
+}
+
+// The names joined by commas, or a dash.
+fn put_names(names: &[u32], room: &mut [u8], at: usize) -> usize
+    requires { ⌜ at + 33 * length (now names) < length (now room) ⌝ }
+    ensures { λ r. ⌜ Put (joined (map nameText (now (names .entry)))) at (now (room .entry)) (now (room .exit)) r ⌝ }
+    ensures { λ r. ⌜ r ≤ at + 33 * length (now (names .entry)) + 1 ⌝ }
+{
+    if names.len() == 0 {
+        return put_byte(b'-', room, at);
+    }
+    let end = put_name(names[0], room, at);
+    put_more_names(&names[1..], room, end)
+}
+
+// A line whose fields are all numbers.
+fn numbers_line(letter: u8, numbers: &[u64], room: &mut [u8]) -> usize
+    requires { ⌜ 2 + 21 * length (now numbers) ≤ length (now room) ⌝ }
+    ensures { λ r. ⌜ Spelled (lineWith letter (map decimal (now (numbers .entry)))) (now (room .entry)) (now (room .exit)) r ⌝ }
+{
+    let letter_end = put_byte(letter, room, 0);
+    let end = put_numbers(numbers, room, letter_end);
+    put_byte(b'\n', room, end)
+}
+
+pub fn head_line(room: &mut [u8; 4096]) -> usize
+    ensures { λ r. ⌜ Spelled headLine (now (room .entry)) (now (room .exit)) r ⌝ }
+{
+    numbers_line(b'L', &[1], room)
+}
+
+pub fn refusal_line(refusal: u32, room: &mut [u8; 4096]) -> usize
+    ensures { λ r. ⌜ Spelled (refusalLine refusal) (now (room .entry)) (now (room .exit)) r ⌝ }
+{
+    numbers_line(b'F', &[refusal as u64], room)
+}
+
+pub fn unread_line(number: u64, room: &mut [u8; 4096]) -> usize
+    ensures { λ r. ⌜ Spelled (unreadLine number) (now (room .entry)) (now (room .exit)) r ⌝ }
+{
+    numbers_line(b'N', &[number], room)
+}
+
+pub fn result_line(outcome: u32, rows: u32, fuel: u32, room: &mut [u8; 4096]) -> usize
+    ensures { λ r. ⌜ Spelled (resultLine outcome rows fuel) (now (room .entry)) (now (room .exit)) r ⌝ }
+{
+    numbers_line(b'R', &[outcome as u64, rows as u64, fuel as u64], room)
+}
+
+fn node_line(letter: u8, kind: u32, start: u32, end: u32, room: &mut [u8]) -> usize
+    requires { ⌜ 4096 ≤ length (now room) ⌝ }
+    ensures { λ r. ⌜ Spelled (nodeLine letter kind start end) (now (room .entry)) (now (room .exit)) r ⌝ }
+{
+    let letter_end = put_byte(letter, room, 0);
+    let tab_end = put_byte(b'\t', room, letter_end);
+    let kind_end = put_kind(kind, room, tab_end);
+    let numbers_end = put_numbers(&[start as u64, end as u64], room, kind_end);
+    put_byte(b'\n', room, numbers_end)
+}
+
+// The number at a place of the list, or 0 past its end.
+fn number_at(list: &[u32], at: usize) -> u32
+    ensures { λ r. ⌜ r ≡ getD (now (list .entry)) at 0 ⌝ }
+{
+    if at < list.len() {
+        return list[at];
+    }
+    0
+}
+
+fn least(a: usize, b: usize) -> usize
+    ensures { λ r. ⌜ r ≡ min a b ⌝ }
+{
+    if a < b { a } else { b }
+}
+
+// The names of the error record that the list begins with.
+fn names_of(list: &[u32]) -> &[u32]
+    ensures { λ r. ⌜ now r ≡ namesOf (now (list .entry)) ⌝ }
+    ensures { λ r. ⌜ length (now r) ≤ 85 ⌝ }
+{
+    let from = least(list.len(), 4);
+    let count = least(number_at(list, 3) as usize, 85);
+    let to = from + least(list.len() - from, count);
+    &list[from..to]
+}
+
+// The line of the error record that the list begins with.
+fn error_line(list: &[u32], room: &mut [u8]) -> usize
+    requires { ⌜ 4096 ≤ length (now room) ⌝ }
+    ensures { λ r. ⌜ Spelled (errorLine (now (list .entry))) (now (room .entry)) (now (room .exit)) r ⌝ }
+{
+    let start = number_at(list, 0) as u64;
+    let end = number_at(list, 1) as u64;
+    let form = number_at(list, 2) as u64;
+    let letter_end = put_byte(b'X', room, 0);
+    let numbers_end = put_numbers(&[form, start, end], room, letter_end);
+    let tab_end = put_byte(b'\t', room, numbers_end);
+    let names_end = put_names(names_of(list), room, tab_end);
+    put_byte(b'\n', room, names_end)
+}
+
+// Where the error record with the given number, from 0, stands in the list.
+fn record_place(list: &[u32], number: u32) -> usize
+    ensures { λ r. ⌜ Stands (now (list .entry)) number r ⌝ }
+{
+    let mut at = 0;
+    let mut i = 0;
+    while i < number {
+        let rest = &list[at..];
+        at += least(rest.len(), 4 + number_at(rest, 3) as usize);
+        i += 1;
+    }
+    at
+}
+
+fn put_event(sort: u32, second: u32, start: u32, end: u32, errors: &[u32], room: &mut [u8]) -> usize
+    requires { ⌜ 4096 ≤ length (now room) ⌝ }
+    ensures { λ r. ⌜ Spelled (eventLine (now (errors .entry)) sort second start end) (now (room .entry)) (now (room .exit)) r ⌝ }
+{
+    match sort {
+        1 => node_line(b'B', second, start, end, room),
+        2 => node_line(b'T', second, start, end, room),
+        3 => node_line(b'E', second, start, end, room),
+        4 => {
+            let at = record_place(errors, second);
+            error_line(&errors[at..], room)
+        }
+        _ => 0,
+    }
+}
+
+// The line of an event, given with the error records. A sort that is none has no line.
+pub fn event_line(
+    sort: u32,
+    second: u32,
+    start: u32,
+    end: u32,
+    errors: &[u32],
+    room: &mut [u8; 4096],
+) -> usize
+    ensures { λ r. ⌜ Spelled (eventLine (now (errors .entry)) sort second start end) (now (room .entry)) (now (room .exit)) r ⌝ }
+{
+    put_event(sort, second, start, end, errors, room)
+}
