@@ -4,6 +4,8 @@
 A check prints the lines that a proof starts with, one need after another, and the record of what is known at each need
 nests in the record of the place before it, so that facts lie many `.before` deep. An answer names a fact by its place
 alone: {peek} is the path to what is known of the call of `peek`, {if1} to the first test, {pre} and {args} to the entry.
+An answer that is a pair opens the definitions that its second part names. tools/short.py and tools/rules.py write the answers
+of whole shapes of code; a cycle of functions has its proof from tools/cycproof.py.
 WHERE in an answers file is the function's folder below proofs/ (default: state/State/NAME), USES its further imports."""
 import os
 import re
@@ -14,6 +16,7 @@ import sys
 from pathlib import Path
 
 ROOT = Path(__file__).resolve().parent.parent
+sys.path.insert(0, str(ROOT / "tools"))
 
 
 def dev(crate, *words):
@@ -59,17 +62,19 @@ def path(records, place, thing):
     return f"{text} .{thing}"
 
 
-def filled(lines, answers, records, needs):
+def filled(lines, answers, default, records, needs):
     out = []
     for block in lines.split("\n\n"):
         need = re.search(r"^(\S+) : tie\.Need-(\S+?)((?: \S+)*)$", block, flags=re.M)
         held = re.search(r"^abbrev (\S+) : tie", block, flags=re.M)
         if need:
             name, place = need.group(1), needs[need.group(2)]
-            answer = answers.get(name, "search needs")
-            answer = re.sub(r"\{([A-Za-z][\w·-]*)\}", lambda m: path(records, place, m.group(1)), answer)
+            answer, opens = answers.get(name, default), ""
+            if isinstance(answer, tuple):
+                answer, opens = answer[0], f"unfolding {answer[1]}\n"
+            answer = re.sub(r"\{([A-Za-z«][\w·»-]*)\}", lambda m: path(records, place, m.group(1)), answer)
             left = re.search(rf"^{re.escape(name)} (c(?: κs)?) =", block, flags=re.M).group(1)
-            block = f"{name} : tie.Need-{need.group(2)}{need.group(3)}\n{name} {left} = {answer}"
+            block = f"{name} : tie.Need-{need.group(2)}{need.group(3)}\n{opens}{name} {left} = {answer}"
         elif held:
             block = re.sub(r"=\s+\?$", "= " + answers[held.group(1)], block)
         out.append(block)
@@ -96,7 +101,7 @@ def main():
         uses = asked[name].get("USES", "")
         if "use borrow.Author.Needs" not in lines:
             uses += "use borrow.Author.Needs.{needs}\n"
-        (folder / "Proof.antt").write_text(uses + filled(lines, asked[name]["ANS"], *places(lts)), encoding="utf-8")
+        (folder / "Proof.antt").write_text(uses + filled(lines, asked[name]["ANS"], asked[name].get("DEFAULT", "search needs"), *places(lts)), encoding="utf-8")
 
 
 if __name__ == "__main__":

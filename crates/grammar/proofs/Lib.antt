@@ -1,0 +1,3 @@
+pub mod Exec
+pub mod Shapes
+pub mod Blocks
