@@ -1,20 +1,18 @@
 -- What a line reads to, by the place where each of its fields ends; and the line that begins at a place. Assumes nothing.
-use Prim.Native.Nat.{ℕ, zero, suc, _+_, _-_, _≤_, _<_}
+use Prim.Native.Nat.{ℕ, _+_, _-_, _≤_, _<_}
 use mathlib.Core.Path.{_≡_, refl, sym, ap, _∙_}
 use mathlib.Core.List.{List, [], _∷_}
 use mathlib.Core.Bool.{Bool, true, false, cond}
 use mathlib.Core.Option.{Option, none, some}
 use native.Mathlib.Omega.{arith}
-use borrow.Author.Tests.{le-leb, lt-leb, eq-eqb, ne-eqb}
-use lib.Dec.{leb, eqb}
+use borrow.Author.Tests.{le-leb, lt-leb, ne-eqb}
+use lib.Dec.{eqb}
 use lib.ListN.{length, getD, drop, drop-of-length-le}
 use lib.Seq.{take-suc}
 use Rattle.listing.specs.Numbers.{number}
 use Rattle.listing.specs.Lines.{parted, behind, isLetter, sourceFrom, sourceOf, rowFrom, rowOf, fieldsOf, plainOf, lineOf, unended, firstOf, nextOf, Piece}
 use Rattle.listing.specs.Read.{numberOf}
-use Rattle.listing.specs.declared.read.Line.{Line}
 use Rattle.listing.specs.declared.read.Line.the-variants as line
-use Rattle.listing.specs.declared.read.Next.{Next}
 use Rattle.listing.specs.declared.read.Next.the-variants as next
 use Rattle.listing.specs.declared.read.Number.{Number}
 use Rattle.listing.specs.declared.read.Number.the-variants as n

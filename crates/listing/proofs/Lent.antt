@@ -10,7 +10,7 @@ use borrow.Author.Tests.{eq-eqb}
 use lib.Dec.{leb, eqb}
 use lib.ListN.{length, drop, length-drop}
 use Rattle.listing.specs.Numbers.{number}
-use Rattle.listing.specs.Lines.{onto, parted, isLetter, sourceFrom, sourceOf, rowFrom, rowOf, fieldsOf, plainOf, lineOf, firstOf, nextOf}
+use Rattle.listing.specs.Lines.{onto, parted, sourceFrom, sourceOf, rowFrom, rowOf, fieldsOf, plainOf, lineOf, firstOf, nextOf}
 use Rattle.listing.specs.declared.read.Line.{Line}
 use Rattle.listing.specs.declared.read.Line.the-variants as line
 use Rattle.listing.specs.declared.read.Next.{Next}

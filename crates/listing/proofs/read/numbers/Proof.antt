@@ -27,7 +27,12 @@ enum-told-2 : tie.Need-enum-told-2
 enum-told-2 c = search needs
 
 returns-2 : tie.Need-returns-2
-returns-2 c = rw (told (c .before .before .before .before .before .before .before .before .before .before .args .id .now) (c .before .before .before .before .before .before .read-number .ensures) (some _) (c .before .before .before .before .id .given .1), told (c .before .before .before .before .before .before .before .before .before .before .args .start .now) (c .before .before .read-number2 .ensures) none (c .enum-told2 .given .1))
+returns-2 c =
+    let at-read-number2 = c .before .before in
+    let at-id = at-read-number2 .before .before in
+    let at-read-number = at-id .before .before in
+    let entry = at-read-number .before .before .before .before in
+    rw (told (entry .args .id .now) (at-read-number .read-number .ensures) (some _) (at-id .id .given .1), told (entry .args .start .now) (at-read-number2 .read-number2 .ensures) none (c .enum-told2 .given .1))
 
 read-number-requires-3 : tie.Need-read-number-requires-3
 read-number-requires-3 c κs = search needs
@@ -40,18 +45,31 @@ enum-told-3 c = search needs
 
 returns-3 : tie.Need-returns-3
 returns-3 c =
+    let at-read-number3 = c .before .before in
+    let at-start = at-read-number3 .before .before in
+    let at-read-number2 = at-start .before .before in
+    let at-id = at-read-number2 .before .before in
+    let at-read-number = at-id .before .before in
+    let entry = at-read-number .before .before .before .before in
     rw (
-      told (c .before .before .before .before .before .before .before .before .before .before .before .before .before .before .args .id .now) (c .before .before .before .before .before .before .before .before .before .before .read-number .ensures) (some _) (c .before .before .before .before .before .before .before .before .id .given .1),
-      told (c .before .before .before .before .before .before .before .before .before .before .before .before .before .before .args .start .now) (c .before .before .before .before .before .before .read-number2 .ensures) (some _) (c .before .before .before .before .start .given .1),
-      told (c .before .before .before .before .before .before .before .before .before .before .before .before .before .before .args .end .now) (c .before .before .read-number3 .ensures) none (c .enum-told3 .given .1),
+      told (entry .args .id .now) (at-read-number .read-number .ensures) (some _) (at-id .id .given .1),
+      told (entry .args .start .now) (at-read-number2 .read-number2 .ensures) (some _) (at-start .start .given .1),
+      told (entry .args .end .now) (at-read-number3 .read-number3 .ensures) none (c .enum-told3 .given .1),
     )
 
 returns-4 : tie.Need-returns-4
 returns-4 c =
+    let at-end = c .before in
+    let at-read-number3 = at-end .before .before in
+    let at-start = at-read-number3 .before .before in
+    let at-read-number2 = at-start .before .before in
+    let at-id = at-read-number2 .before .before in
+    let at-read-number = at-id .before .before in
+    let entry = at-read-number .before .before .before .before in
     rw (
-      told (c .before .before .before .before .before .before .before .before .before .before .before .before .before .before .before .args .id .now) (c .before .before .before .before .before .before .before .before .before .before .before .read-number .ensures) (some _) (c .before .before .before .before .before .before .before .before .before .id .given .1),
-      told (c .before .before .before .before .before .before .before .before .before .before .before .before .before .before .before .args .start .now) (c .before .before .before .before .before .before .before .read-number2 .ensures) (some _) (c .before .before .before .before .before .start .given .1),
-      told (c .before .before .before .before .before .before .before .before .before .before .before .before .before .before .before .args .end .now) (c .before .before .before .read-number3 .ensures) (some _) (c .before .end .given .1),
+      told (entry .args .id .now) (at-read-number .read-number .ensures) (some _) (at-id .id .given .1),
+      told (entry .args .start .now) (at-read-number2 .read-number2 .ensures) (some _) (at-start .start .given .1),
+      told (entry .args .end .now) (at-read-number3 .read-number3 .ensures) (some _) (at-end .end .given .1),
     )
 
 pub numbers-spec : {M : Type 1} → statement M

@@ -28,7 +28,11 @@ piece-end-requires-3 : tie.Need-piece-end-requires-3
 piece-end-requires-3 c κs = search needs
 
 returns-3 : tie.Need-returns-3
-returns-3 c = row-long (c .before .before .before .before .before .piece-end .ensures) (omega arith) (c .before .before .before .piece-end2 .ensures) (omega arith) (c .before .piece-end3 .ensures) (c .if3 .taken)
+returns-3 c =
+    let at-piece-end3 = c .before in
+    let at-piece-end2 = at-piece-end3 .before .before in
+    let at-piece-end = at-piece-end2 .before .before in
+    row-long (at-piece-end .piece-end .ensures) (omega arith) (at-piece-end2 .piece-end2 .ensures) (omega arith) (at-piece-end3 .piece-end3 .ensures) (c .if3 .taken)
 
 sub-numbers : tie.Need-sub-numbers
 sub-numbers c = search needs
@@ -61,7 +65,12 @@ numbers-requires : tie.Need-numbers-requires
 numbers-requires c κs = search needs
 
 returns-4 : tie.Need-returns-4
-returns-4 c = c .numbers .ensures ∙ row-three (c .before .before .before .before .before .before .before .before .before .piece-end .ensures) (omega arith) (c .before .before .before .before .before .before .before .piece-end2 .ensures) (omega arith) (c .before .before .before .before .before .piece-end3 .ensures) (c .before .before .before .before .if3 .left)
+returns-4 c =
+    let at-if3 = c .before .before .before .before in
+    let at-piece-end3 = at-if3 .before in
+    let at-piece-end2 = at-piece-end3 .before .before in
+    let at-piece-end = at-piece-end2 .before .before in
+    c .numbers .ensures ∙ row-three (at-piece-end .piece-end .ensures) (omega arith) (at-piece-end2 .piece-end2 .ensures) (omega arith) (at-piece-end3 .piece-end3 .ensures) (at-if3 .if3 .left)
 
 pub row-spec : {M : Type 1} → statement M
 row-spec =

@@ -41,12 +41,22 @@ enum-told : tie.Need-enum-told
 enum-told c = search needs
 
 returns-3 : tie.Need-returns-3
-returns-3 c = source-two (c .before .before .before .before .before .before .before .piece-end .ensures) (omega arith) (c .before .before .before .before .before .piece-end2 .ensures) (c .before .before .before .before .if2 .left) (c .before .before .read-number .ensures) none (c .enum-told .given .1)
+returns-3 c =
+    let at-read-number = c .before .before in
+    let at-if2 = at-read-number .before .before in
+    let at-piece-end2 = at-if2 .before in
+    let at-piece-end = at-piece-end2 .before .before in
+    source-two (at-piece-end .piece-end .ensures) (omega arith) (at-piece-end2 .piece-end2 .ensures) (at-if2 .if2 .left) (at-read-number .read-number .ensures) none (c .enum-told .given .1)
 
 returns-4 : tie.Need-returns-4
 returns-4 c =
-    named (c .before .before .before .before .before .before .before .before .piece-end .ensures .forward)
-    ∙ source-two (c .before .before .before .before .before .before .before .before .piece-end .ensures) (omega arith) (c .before .before .before .before .before .before .piece-end2 .ensures) (c .before .before .before .before .before .if2 .left) (c .before .before .before .read-number .ensures) (some _) (c .before .fuel .given .1)
+    let at-fuel = c .before in
+    let at-read-number = at-fuel .before .before in
+    let at-if2 = at-read-number .before .before in
+    let at-piece-end2 = at-if2 .before in
+    let at-piece-end = at-piece-end2 .before .before in
+    named (at-piece-end .piece-end .ensures .forward)
+    ∙ source-two (at-piece-end .piece-end .ensures) (omega arith) (at-piece-end2 .piece-end2 .ensures) (at-if2 .if2 .left) (at-read-number .read-number .ensures) (some _) (at-fuel .fuel .given .1)
 
 pub source-spec : {M : Type 1} → statement M
 source-spec =

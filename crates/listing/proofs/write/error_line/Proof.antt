@@ -49,10 +49,20 @@ same-length c = search needs
 
 returns : tie.Need-returns
 returns c =
+    let at-put-byte3 = c .before .before in
+    let at-put-names = at-put-byte3 .before .before .before .before in
+    let at-names-of = at-put-names .before .before in
+    let at-put-byte2 = at-names-of .before .before .before in
+    let at-put-numbers = at-put-byte2 .before .before .before .before in
+    let at-put-byte = at-put-numbers .before .before .before .before .before in
+    let at-number-at3 = at-put-byte .before .before in
+    let at-number-at2 = at-number-at3 .before in
+    let at-number-at = at-number-at2 .before in
+    let entry = at-number-at .before .before .before in
     spelled
-    (put-as (error-text (c .before .before .before .before .before .before .before .before .before .before .before .before .before .before .before .before .before .before .before .before .before .before .before .before .before .before .before .args .list .now) (c .before .before .before .before .before .before .before .before .before .before .before .before .before .before .before .before .before .before .before .before .before .before .number-at3 .ensures) (c .before .before .before .before .before .before .before .before .before .before .before .before .before .before .before .before .before .before .before .before .before .before .before .before .number-at .ensures) (c .before .before .before .before .before .before .before .before .before .before .before .before .before .before .before .before .before .before .before .before .before .before .before .number-at2 .ensures) (c .before .before .before .before .before .before .before .before .names-of .ensures .0))
-    (joins (c .before .before .before .before .before .before .before .before .before .before .before .before .before .before .before .before .before .before .before .before .put-byte .ensures)
-    (joins (joins (c .before .before .before .before .before .before .before .before .before .before .before .before .before .before .before .put-numbers .ensures .0) (joins (c .before .before .before .before .before .before .before .before .before .before .before .put-byte2 .ensures) (c .before .before .before .before .before .before .put-names .ensures .0))) (c .before .before .put-byte3 .ensures))))
+    (put-as (error-text (entry .args .list .now) (at-number-at3 .number-at3 .ensures) (at-number-at .number-at .ensures) (at-number-at2 .number-at2 .ensures) (at-names-of .names-of .ensures .0))
+    (joins (at-put-byte .put-byte .ensures)
+    (joins (joins (at-put-numbers .put-numbers .ensures .0) (joins (at-put-byte2 .put-byte2 .ensures) (at-put-names .put-names .ensures .0))) (at-put-byte3 .put-byte3 .ensures))))
 
 pub error-line-spec : {M : Type 1} → statement M
 error-line-spec =

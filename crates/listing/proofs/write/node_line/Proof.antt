@@ -27,9 +27,14 @@ same-length c = search needs
 
 returns : tie.Need-returns
 returns c =
+    let at-put-byte3 = c .before .before in
+    let at-put-numbers = at-put-byte3 .before .before .before .before in
+    let at-put-kind = at-put-numbers .before .before .before .before .before in
+    let at-put-byte2 = at-put-kind .before .before .before .before in
+    let at-put-byte = at-put-byte2 .before .before .before .before in
     spelled
-    (joins (c .before .before .before .before .before .before .before .before .before .before .before .before .before .before .before .before .before .before .before .put-byte .ensures)
-    (joins (c .before .before .before .before .before .before .before .before .before .before .before .before .before .before .before .put-byte2 .ensures) (joins (joins (c .before .before .before .before .before .before .before .before .before .before .before .put-kind .ensures .0) (c .before .before .before .before .before .before .put-numbers .ensures .0)) (c .before .before .put-byte3 .ensures))))
+    (joins (at-put-byte .put-byte .ensures)
+    (joins (at-put-byte2 .put-byte2 .ensures) (joins (joins (at-put-kind .put-kind .ensures .0) (at-put-numbers .put-numbers .ensures .0)) (at-put-byte3 .put-byte3 .ensures))))
 
 pub node-line-spec : {M : Type 1} → statement M
 node-line-spec =

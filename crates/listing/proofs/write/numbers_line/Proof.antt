@@ -17,7 +17,11 @@ same-length : tie.Need-same-length
 same-length c = search needs
 
 returns : tie.Need-returns
-returns c = spelled (joins (c .before .before .before .before .before .before .before .before .before .before .put-byte .ensures) (joins (c .before .before .before .before .before .before .put-numbers .ensures .0) (c .before .before .put-byte2 .ensures)))
+returns c =
+    let at-put-byte2 = c .before .before in
+    let at-put-numbers = at-put-byte2 .before .before .before .before in
+    let at-put-byte = at-put-numbers .before .before .before .before in
+    spelled (joins (at-put-byte .put-byte .ensures) (joins (at-put-numbers .put-numbers .ensures .0) (at-put-byte2 .put-byte2 .ensures)))
 
 pub numbers-line-spec : {M : Type 1} → statement M
 numbers-line-spec =

@@ -33,8 +33,11 @@ loop-less c = search needs
 
 loop-again : tie.Need-loop-again Inv-loop μ-loop
 loop-again c =
-    running-on (c .before .before .before .before .before .before .loop .inv) (c .before .before .before .before .before .loop-test .taken) (sym (rw add-one (take-suc _ _ 0 (c .before .before .before .before .before .loop-test .taken)))) (c .before .before .put-byte .ensures)
-    (omega (arith, c .before .before .put-byte .ensures .count))
+    let at-put-byte = c .before .before in
+    let at-loop-test = at-put-byte .before .before .before in
+    let at-loop = at-loop-test .before in
+    running-on (at-loop .loop .inv) (at-loop-test .loop-test .taken) (sym (rw add-one (take-suc _ _ 0 (at-loop-test .loop-test .taken)))) (at-put-byte .put-byte .ensures)
+    (omega (arith, at-put-byte .put-byte .ensures .count))
 
 same-length : tie.Need-same-length Inv-loop μ-loop
 same-length c = c .before .loop .inv .as-long

@@ -29,19 +29,31 @@ shared-slice-read-put-name : tie.Need-shared-slice-read-put-name Inv-loop μ-loo
 shared-slice-read-put-name c = omega (arith, c .before .before .before .before .before .loop-test .taken)
 
 put-name-requires : tie.Need-put-name-requires Inv-loop μ-loop
-put-name-requires c κs = omega (arith, c .before .before .before .before .before .before .before .before .before .before .pre, c .before .before .before .before .before .before .before .loop .inv, c .before .before .before .before .before .before .loop-test .taken, c .before .before .before .before .put-byte .ensures .count, c .before .before .before .before .put-byte .kept .1 .0)
+put-name-requires c κs =
+    let at-put-byte = c .before .before .before .before in
+    let at-loop-test = at-put-byte .before .before in
+    let at-loop = at-loop-test .before in
+    let entry = at-loop .before .before .before in
+    omega (arith, entry .pre, at-loop .loop .inv, at-loop-test .loop-test .taken, at-put-byte .put-byte .ensures .count, at-put-byte .put-byte .kept .1 .0)
 
 add-i : tie.Need-add-i Inv-loop μ-loop
-add-i c = omega (arith, c .before .before .before .before .before .before .before .before .before .before .before .before .before .good .0 .0, c .before .before .before .before .before .before .before .before .before .loop-test .taken)
+add-i c =
+    let at-loop-test = c .before .before .before .before .before .before .before .before .before in
+    let entry = at-loop-test .before .before .before .before in
+    omega (arith, entry .good .0 .0, at-loop-test .loop-test .taken)
 
 loop-less : tie.Need-loop-less Inv-loop μ-loop
 loop-less c = omega (arith, c .before .before .before .before .before .before .before .before .before .loop-test .taken)
 
 loop-again : tie.Need-loop-again Inv-loop μ-loop
 loop-again c =
-    running-on (c .before .before .before .before .before .before .before .before .before .before .loop .inv) (c .before .before .before .before .before .before .before .before .before .loop-test .taken) (led-on 44 nameText _ _ (c .before .before .before .before .before .before .before .before .before .loop-test .taken))
-    (joins (c .before .before .before .before .before .before .before .put-byte .ensures) (c .before .before .put-name .ensures .0))
-    (omega (arith, c .before .before .before .before .before .before .before .put-byte .ensures .count, c .before .before .put-name .ensures .1))
+    let at-put-name = c .before .before in
+    let at-put-byte = at-put-name .before .before .before .before .before in
+    let at-loop-test = at-put-byte .before .before in
+    let at-loop = at-loop-test .before in
+    running-on (at-loop .loop .inv) (at-loop-test .loop-test .taken) (led-on 44 nameText _ _ (at-loop-test .loop-test .taken))
+    (joins (at-put-byte .put-byte .ensures) (at-put-name .put-name .ensures .0))
+    (omega (arith, at-put-byte .put-byte .ensures .count, at-put-name .put-name .ensures .1))
 
 same-length : tie.Need-same-length Inv-loop μ-loop
 same-length c = c .before .loop .inv .as-long

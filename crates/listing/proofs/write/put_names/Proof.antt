@@ -16,7 +16,11 @@ same-length : tie.Need-same-length
 same-length c = search needs
 
 returns : tie.Need-returns
-returns c = (put-as (joined-none nameText (c .before .before .before .before .before .before .before .args .names .now) (c .before .before .before .before .if1 .taken)) (c .before .before .put-byte .ensures), omega (arith, c .before .before .put-byte .ensures .count))
+returns c =
+    let at-put-byte = c .before .before in
+    let at-if1 = at-put-byte .before .before in
+    let entry = at-if1 .before .before .before in
+    (put-as (joined-none nameText (entry .args .names .now) (at-if1 .if1 .taken)) (at-put-byte .put-byte .ensures), omega (arith, at-put-byte .put-byte .ensures .count))
 
 shared-slice-read-put-name : tie.Need-shared-slice-read-put-name
 shared-slice-read-put-name c = search needs
@@ -40,10 +44,14 @@ same-length-2 : tie.Need-same-length-2
 same-length-2 c = search needs
 
 returns-2 : tie.Need-returns-2
-returns-2 c = (
-  put-as (joined-some nameText (c .before .before .before .before .before .before .before .before .before .before .before .before .before .args .names .now) (c .before .before .before .before .before .before .before .before .before .before .if1 .left)) (joins (c .before .before .before .before .before .before .before .put-name .ensures .0) (c .before .before .put-more-names .ensures .0)),
-  omega (arith, c .before .before .before .before .before .before .before .before .before .before .if1 .left, c .before .before .before .before .before .before .before .put-name .ensures .1, c .before .before .put-more-names .ensures .1, ap length (rest-is (c .before .before .before .before .before .before .before .before .before .before .before .before .before .args .names .now) 1), length-drop 1 (c .before .before .before .before .before .before .before .before .before .before .before .before .before .args .names .now)),
-)
+returns-2 c =
+    let at-put-more-names = c .before .before in
+    let at-put-name = at-put-more-names .before .before .before .before .before in
+    let at-if1 = at-put-name .before .before .before in
+    let entry = at-if1 .before .before .before in (
+      put-as (joined-some nameText (entry .args .names .now) (at-if1 .if1 .left)) (joins (at-put-name .put-name .ensures .0) (at-put-more-names .put-more-names .ensures .0)),
+      omega (arith, at-if1 .if1 .left, at-put-name .put-name .ensures .1, at-put-more-names .put-more-names .ensures .1, ap length (rest-is (entry .args .names .now) 1), length-drop 1 (entry .args .names .now)),
+    )
 
 pub put-names-spec : {M : Type 1} → statement M
 put-names-spec =

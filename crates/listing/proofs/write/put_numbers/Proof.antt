@@ -37,8 +37,11 @@ loop-less c = search needs
 
 loop-again : tie.Need-loop-again Inv-loop μ-loop
 loop-again c =
-    running-on (c .before .before .before .before .before .before .loop .inv) (c .before .before .before .before .before .loop-test .taken) (led-on 9 decimal _ _ (c .before .before .before .before .before .loop-test .taken)) (c .before .before .put-number .ensures .0)
-    (c .before .before .put-number .ensures .1)
+    let at-put-number = c .before .before in
+    let at-loop-test = at-put-number .before .before .before in
+    let at-loop = at-loop-test .before in
+    running-on (at-loop .loop .inv) (at-loop-test .loop-test .taken) (led-on 9 decimal _ _ (at-loop-test .loop-test .taken)) (at-put-number .put-number .ensures .0)
+    (at-put-number .put-number .ensures .1)
 
 same-length : tie.Need-same-length Inv-loop μ-loop
 same-length c = c .before .loop .inv .as-long

@@ -49,7 +49,11 @@ loop-less : tie.Need-loop-less Inv-loop μ-loop
 loop-less c = search needs
 
 loop-again : tie.Need-loop-again Inv-loop μ-loop
-loop-again c = passing-on (c .before .before .before .before .loop .inv) (c .before .before .before .loop-test .taken) (c .before .number-at .ensures) (c .least .ensures)
+loop-again c =
+    let at-number-at = c .before in
+    let at-loop-test = at-number-at .before .before in
+    let at-loop = at-loop-test .before in
+    passing-on (at-loop .loop .inv) (at-loop-test .loop-test .taken) (at-number-at .number-at .ensures) (c .least .ensures)
 
 returns : tie.Need-returns Inv-loop μ-loop
 returns c = passed (c .before .loop .inv) (c .loop-test .left)
