@@ -91,56 +91,9 @@ module _ (d : ℕ) (call : Bool → Production → P.Reader) where
   guarded-idle (node b) o t n a h e = absurd t
   guarded-idle (memo b) o t n a h e = if-ok-no (P.memo-at (kind b) (λ t. call o b t)) n a h e
 
--- a line, part by part
-abbrev pub reads : ℕ → Bool → Prog → P.Reader
-reads d o p a = P.exec d (λ o b u. P.run d o b u) p o a
-
-module _ (d : ℕ) (o : Bool) {x : Source} {s r : State} {b b′ : Bufs} where
-  pub seq : (p q : Prog) {t : State} {b″ : Bufs} → Did (reads d o p) x s r b b′ → Did (reads d o q) x r t b′ b″ → Did (reads d o (p ⨟ q)) x s t b b″
-  seq p q y z = core.then y z
-
-  -- the rest of the line is left out where the state is not in good order
-  pub stop : (p q : Prog) → T (guarded q) → (r .mode ≡ 0 → ⊥) → Did (reads d o p) x s r b b′ → Did (reads d o (p ⨟ q)) x s r b b′
-  stop p q t n y = halts (reads d o q) (λ c. sticky-exec c x d p o) (λ c. sticky-exec c x d q o) (guarded-idle d (λ o b u. P.run d o b u) q o t) n y
-
--- a repetition whose turns touch events alone
-pub record Rounds (f : P.Reader) (x : Source) (s₀ s : State) (k₀ k : ℕ) (ev₀ ev : List ℕ) : Type 0 where
-  pub each : (er sc : List ℕ) → Wf x (bufs ev₀ er sc) s₀ → Turning f x s₀ s k₀ k (bufs ev₀ er sc) (bufs ev er sc)
-  pub ok : Ok (length (x .ids)) s
-  pub fits : s .evcap ≤ length ev
-  pub mode : s .mode ≡ 0
-  pub start : s₀ .mode ≡ 0
-  pub many : k₀ ≡ length (x .ids) - s₀ .pos + 1
-  pub sticks : (p : Past) → Sticks p x f
-  pub first : s .first ≡ s₀ .first
-  pub grows : s₀ .ev ≤ s .ev
-  pub long : length ev ≡ length ev₀
-
-pub rounds : (f : P.Reader) {x : Source} {s : State} (k : ℕ) {ev : List ℕ} → ((p : Past) → Sticks p x f) → Ok (length (x .ids)) s → s .evcap ≤ length ev → s .mode ≡ 0 → k ≡ length (x .ids) - s .pos + 1 → Rounds f x s s k k ev ev
-rounds f k F w h m q = record { each = λ er sc y. turning f k F y m; ok = w; fits = h; mode = m; start = m; many = q; sticks = F; first = refl; grows = le-refl _; long = refl }
-
 pub undone-mode : (n : ℕ) → (n ≡ 0 → ⊥) → ((n ≡ 1) × (ifb (eqb n 1) 0 n ≡ 0)) ⊎ ((2 ≤ n) × (ifb (eqb n 1) 0 n ≡ n))
 undone-mode n h = go (ℕ-discrete n 1)
   where
     go : Dec (n ≡ 1) → ((n ≡ 1) × (ifb (eqb n 1) 0 n ≡ 0)) ⊎ ((2 ≤ n) × (ifb (eqb n 1) 0 n ≡ n))
     go (yes e) = inl (e, ap (λ (c : Bool). ifb c 0 n) (eq-eqb n 1 e))
     go (no e) = inr (omega (arith, h, e), ap (λ (c : Bool). ifb c 0 n) (ne-eqb n 1 e))
-
-module _ {f : P.Reader} {x : Source} {s₀ s : State} {k₀ k : ℕ} {ev₀ ev : List ℕ} (g : Rounds f x s₀ s k₀ k ev₀ ev) where
-  module _ {r : State} {ev′ : List ℕ} (h : 0 < k) (y : Events (λ a. f (P.trivia a)) x s r ev ev′) where
-    pub rounds-on : r .mode ≡ 0 → length ev′ ≡ length ev → Rounds f x s₀ r k₀ (k - 1) ev₀ ev′
-    rounds-on m l = record { each = λ er sc w. let G = g .each er sc w in turns-on G h (y .did er sc (G .wf)) m; ok = y .ok; fits = y .fits; mode = m; start = g .start; many = g .many; sticks = g .sticks; first = y .first ∙ g .first; grows = le-trans (g .grows) (y .grows); long = l ∙ g .long }
-
-    pub rounds-back : {m : Mark} {q : State} → (r .mode ≡ 0 → ⊥) → m ≡ markOf s → q ≡ undoneTo m r → Events (P.loops f) x s₀ q ev₀ ev′
-    rounds-back {m} {q} n i j =
-        subst (λ (u : State). Events (P.loops f) x s₀ u ev₀ ev′) (sym (j ∙ ap (λ (c : Mark). undoneTo c r) i))
-          (record
-            { did = λ er sc w. let G = g .each er sc w in repeats f k₀ (g .sticks) w (g .many) (g .start) (turns-back G h (y .did er sc (G .wf)) (ifb (eqb (r .mode) 1) 0 (r .mode)) (undone-mode (r .mode) n))
-            ; ok = (record { here = g .ok .0 .here; since = omega (arith, y .first, g .ok .0 .since); far-in = y .ok .0 .far-in; want-in = y .ok .0 .want-in; want-since = y .ok .0 .want-since; unwant-in = y .ok .0 .unwant-in; unwant-since = y .ok .0 .unwant-since }, y .ok .1, record { events = le-trans (y .grows) (y .ok .2 .events); since = y .ok .2 .since; errors = y .ok .2 .errors })
-            ; fits = y .fits
-            ; first = y .first ∙ g .first
-            ; grows = g .grows
-            })
-
-  pub rounds-end : k ≤ 0 → Events (P.loops f) x s₀ s ev₀ ev
-  rounds-end h = record { did = λ er sc w. repeats f k₀ (g .sticks) w (g .many) (g .start) (turns-end (g .each er sc w) h); ok = g .ok; fits = g .fits; first = g .first; grows = g .grows }

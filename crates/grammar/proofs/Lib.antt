@@ -1,3 +1,4 @@
 pub mod Exec
-pub mod Shapes
-pub mod Blocks
+pub mod Cycle
+pub mod Known
+pub mod Lines

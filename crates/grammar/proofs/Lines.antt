@@ -1,0 +1,196 @@
+-- The table's rows: what the code makes of one, and what it stands for, by tests that antt computes over all rows. Assumes nothing.
+use Prim.Native.Nat.{ℕ, zero, suc, _+_, _*_, _≤_, _<_}
+use mathlib.Core.Path.{_≡_, refl, sym, ap, subst, _∙_}
+use mathlib.Core.Bool.{Bool, true, false}
+use mathlib.Core.Logic.{_⊎_, inl, inr}
+use mathlib.Core.List.{List, [], _∷_}
+use native.Mathlib.Omega.{arith}
+use native.Mathlib.Decide.{ℕ-discrete}
+use borrow.Author.Tests.{eqb-true, ltb-true, eq-eqb, ne-eqb}
+use lib.Dec.{eqb, ltb}
+use lib.ListN.{getD, List·getD-eq-default}
+use Rattle.kinds.specs.Kinds as k
+use Rattle.kinds.specs.Sets.{setOf}
+use Rattle.kinds.proofs.Tables.{both, both-left, both-right, all, all-sound}
+use Rattle.peg.specs.Prog.{Prog, node}
+use Rattle.peg.specs.Grammar.{grammar, kind}
+use Rattle.peg.specs.Run as P
+use Rattle.peg.specs.Render.{Source}
+use Rattle.peg.proofs.Every.{productions}
+use Rattle.reader.specs.declared.state.State.{State}
+use Rattle.reader.specs.declared.names.Label.{Label}
+use Rattle.reader.specs.declared.names.Label.the-variants.{Ids, As}
+use Rattle.reader.specs.Means.{Bufs}
+use Rattle.reader.specs.Did.{Did, Proper, namesOf}
+use Rattle.reader.specs.Bits.{ifb}
+use Rattle.grammar.specs.declared.parts.Part.{Part}
+use Rattle.grammar.specs.declared.parts.Part.the-variants.{Eat, Unless, Recover, Node, Memo, Seq, Then, When, Many, Opt, Last, Alt}
+use Rattle.grammar.specs.Rows.{size}
+use Rattle.grammar.specs.Table.{cellOf, labelOf, reads, made, partOf, production, progOf, prog, Line, Cached}
+
+-- a row by its three numbers
+module _ (i : ℕ) {n a b : ℕ} (e : n ≡ cellOf (3 * i)) (f : a ≡ cellOf (3 * i + 1)) (g : b ≡ cellOf (3 * i + 2)) where
+  whole : made n a b ≡ partOf i
+  unfolding partOf
+  whole = λ j. made (e j) (f j) (g j)
+
+  pub row-of : (m : ℕ) → n ≡ m → made m a b ≡ partOf i
+  row-of m h = sym (ap (λ (c : ℕ). made c a b) h) ∙ whole
+
+  pub row-else : 11 ≤ n → Alt a b ≡ partOf i
+  row-else h = sym (List·getD-eq-default (Eat a b ∷ Unless a ∷ Recover a ∷ Node a b ∷ Memo a b ∷ Seq a b ∷ Then a ∷ When a b ∷ Many a ∷ Opt a ∷ Last a ∷ []) (Alt a b) h) ∙ whole
+
+-- a number that is none of those before
+pub past : (m : ℕ) {n : ℕ} → m ≤ n → (n ≡ m → ⊥) → m + 1 ≤ n
+past m h q = omega (arith, h, q)
+
+-- a list of one value for each number below a bound
+abbrev each : {A : Type 0} → (ℕ → A) → ℕ → List A
+each f zero = []
+each f (suc n) = f n ∷ each f n
+
+first : {A : Type 0} {x y : A} {l m : List A} → _≡_ {A = List A} (x ∷ l) (y ∷ m) → x ≡ y
+first {A} {x} e = ap (λ (l : List A). getD l 0 x) e
+
+rest : {A : Type 0} {x y : A} {l m : List A} → _≡_ {A = List A} (x ∷ l) (y ∷ m) → l ≡ m
+rest {A} {x} {y} {l} e = ap (λ (l : List A). elim l [ [] ↦ [] | z ∷ zs ↦ zs ]) e
+
+-- two functions that give the same lists
+pub same-at : {A : Type 0} (f g : ℕ → A) (n : ℕ) → each f n ≡ each g n → (i : ℕ) → i < n → f i ≡ g i
+same-at f g zero e i h = absurd (omega arith)
+same-at {A} f g (suc n) e i h = go (ℕ-discrete i n) (same-at f g n (rest e) i)
+  where
+    go : Dec (i ≡ n) → (i < n → f i ≡ g i) → f i ≡ g i
+    go (yes q) below = ap f q ∙ first e ∙ sym (ap g q)
+    go (no q) below = below (omega (arith, q))
+
+-- what a row stands for, by the rows that it names
+stands : each prog size ≡ each (λ i. progOf prog (partOf i)) size
+unfolding prog partOf cellOf production productions
+stands = refl
+
+pub row-stands : (i : ℕ) → i < size → prog i ≡ progOf prog (partOf i)
+row-stands i h = same-at prog (λ j. progOf prog (partOf j)) size stands i h
+
+abbrev pub either : Bool → Bool → Bool
+either true b = true
+either false b = b
+
+-- the rows that a row names stand before it; a name is one, a production's kind and line belong together
+abbrev pub sound : ℕ → Part → Bool
+sound i (Eat s n) = ltb n 86
+sound i (Unless s) = true
+sound i (Recover s) = true
+sound i (Node a j) = both (eqb (kind (production a)) a) (ltb j size)
+sound i (Memo a j) = both (either (eqb a k.EXPR) (eqb a k.TERM)) (both (eqb (kind (production a)) a) (ltb j size))
+sound i (Seq j h) = both (ltb j i) (ltb h i)
+sound i (Then j) = ltb j i
+sound i (When s j) = ltb j i
+sound i (Many j) = ltb j i
+sound i (Opt j) = ltb j i
+sound i (Last j) = ltb j i
+sound i (Alt j h) = both (ltb j h) (ltb h i)
+
+tested : all (λ i. sound i (partOf i)) size ≡ true
+unfolding prog partOf cellOf production productions kind
+tested = refl
+
+abbrev pub Sound : ℕ → Part → Type 0
+Sound i (Eat s n) = n < 86
+Sound i (Unless s) = Unit
+Sound i (Recover s) = Unit
+Sound i (Node a j) = (kind (production a) ≡ a) × (j < size)
+Sound i (Memo a j) = Cached a × (kind (production a) ≡ a) × (j < size)
+Sound i (Seq j h) = (j < i) × (h < i)
+Sound i (Then j) = j < i
+Sound i (When s j) = j < i
+Sound i (Many j) = j < i
+Sound i (Opt j) = j < i
+Sound i (Last j) = j < i
+Sound i (Alt j h) = (j < h) × (h < i)
+
+two-facts : {A B : Type 0} {a b : Bool} → (a ≡ true → A) → (b ≡ true → B) → both a b ≡ true → A × B
+two-facts {A} {B} {a} {b} f g t = (f (both-left a b t), g (both-right a b t))
+
+cached : (a : ℕ) → either (eqb a k.EXPR) (eqb a k.TERM) ≡ true → Cached a
+cached a t = go (ℕ-discrete a k.EXPR)
+  where
+    go : Dec (a ≡ k.EXPR) → Cached a
+    go (yes q) = inl q
+    go (no q) = inr (eqb-true a k.TERM (sym (ap (λ (c : Bool). either c (eqb a k.TERM)) (ne-eqb a k.EXPR q)) ∙ t))
+
+sound-so : (i : ℕ) (p : Part) → sound i p ≡ true → Sound i p
+sound-so i (Eat s n) t = ltb-true n 86 t
+sound-so i (Unless s) t = tt
+sound-so i (Recover s) t = tt
+sound-so i (Node a j) t = two-facts (eqb-true _ a) (ltb-true j size) t
+sound-so i (Memo a j) t = let q = both-right (either (eqb a k.EXPR) (eqb a k.TERM)) _ t in (cached a (both-left (either (eqb a k.EXPR) (eqb a k.TERM)) _ t), eqb-true _ a (both-left (eqb (kind (production a)) a) _ q), ltb-true j size (both-right (eqb (kind (production a)) a) _ q))
+sound-so i (Seq j h) t = two-facts (ltb-true j i) (ltb-true h i) t
+sound-so i (Then j) t = ltb-true j i t
+sound-so i (When s j) t = ltb-true j i t
+sound-so i (Many j) t = ltb-true j i t
+sound-so i (Opt j) t = ltb-true j i t
+sound-so i (Last j) t = ltb-true j i t
+sound-so i (Alt j h) t = two-facts (ltb-true j h) (ltb-true h i) t
+
+pub row-sound : (i : ℕ) → i < size → {p : Part} → p ≡ partOf i → Sound i p
+row-sound i h {p} e = sound-so i p (ap (sound i) e ∙ all-sound (λ j. sound j (partOf j)) size tested i h)
+
+-- a function of the kind and the line that a row names
+abbrev called : (ℕ → ℕ → Prog) → Part → Prog
+called f (Eat s n) = prog 0
+called f (Unless s) = prog 0
+called f (Recover s) = prog 0
+called f (Node a j) = f a j
+called f (Memo a j) = f a j
+called f (Seq j h) = prog 0
+called f (Then j) = prog 0
+called f (When s j) = prog 0
+called f (Many j) = prog 0
+called f (Opt j) = prog 0
+called f (Last j) = prog 0
+called f (Alt j h) = prog 0
+
+abbrev lineOf : Part → Prog
+lineOf = called (λ a j. prog j)
+
+abbrev wanted : Part → Prog
+wanted = called (λ a j. grammar (production a))
+
+lined : each (λ i. lineOf (partOf i)) size ≡ each (λ i. wanted (partOf i)) size
+unfolding prog partOf cellOf production productions grammar
+lined = refl
+
+-- what a row is says what it stands for
+module _ (i : ℕ) (h : i < size) {p : Part} (e : p ≡ partOf i) where
+  pub stands-for : prog i ≡ progOf prog p
+  stands-for = row-stands i h ∙ ap (progOf prog) (sym e)
+
+  its-line : lineOf p ≡ wanted p
+  its-line = ap lineOf e ∙ same-at (λ j. lineOf (partOf j)) (λ j. wanted (partOf j)) size lined i h ∙ sym (ap wanted e)
+
+module _ (i : ℕ) (h : i < size) {a j : ℕ} where
+  pub node-line : Node a j ≡ partOf i → Line a j
+  node-line e = let t = row-sound i h e in record { known = t .0; line = its-line i h e; inside = t .1 }
+
+  pub memo-line : Memo a j ≡ partOf i → Line a j
+  memo-line e = let t = row-sound i h e in record { known = t .1; line = its-line i h e; inside = t .2 }
+
+module _ (d : ℕ) (o : Bool) {x : Source} {s r : State} {b b′ : Bufs} where
+  -- a row reads what it stands for
+  pub is-row : (i : ℕ) → i < size → {p : Part} → p ≡ partOf i → Did (reads d o (progOf prog p)) x s r b b′ → Did (reads d o (prog i)) x s r b b′
+  is-row i h e y = subst (λ (q : Prog). Did (reads d o q) x s r b b′) (sym (stands-for i h e)) y
+
+  -- a production's row reads its line
+  pub is-line : {a j : ℕ} → Line a j → Did (reads d o (prog j)) x s r b b′ → Did (reads d o (grammar (production a))) x s r b b′
+  is-line l y = subst (λ (q : Prog). Did (reads d o q) x s r b b′) (l .line) y
+
+  pub is-eat : (i : ℕ) → i < size → {n m : ℕ} → Eat n m ≡ partOf i → {l : Label} → l ≡ labelOf m → Did (P.eats (setOf n) (namesOf n l)) x s r b b′ → Did (reads d o (prog i)) x s r b b′
+  is-eat i h {n} e {l} f y = is-row i h e (subst (λ (q : Label). Did (P.eats (setOf n) (namesOf n q)) x s r b b′) f y)
+
+pub proper : (n : ℕ) → n < 86 → {l : Label} → l ≡ labelOf n → Proper l
+proper n h {l} e = subst (λ (q : Label). Proper q) (sym e) (go (ℕ-discrete n 85))
+  where
+    go : Dec (n ≡ 85) → Proper (labelOf n)
+    go (yes q) = subst (λ (c : Bool). Proper (ifb c Ids (As n))) (sym (eq-eqb n 85 q)) tt
+    go (no q) = subst (λ (c : Bool). Proper (ifb c Ids (As n))) (sym (ne-eqb n 85 q)) (omega (arith, h, q))

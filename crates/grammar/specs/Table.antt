@@ -1,0 +1,80 @@
+-- What a row of the table stands for: a part of a line, in the grammar's own words.
+use Prim.Native.Nat.{ℕ, zero, suc, _+_, _-_, _*_, _<_}
+use mathlib.Core.Path.{_≡_}
+use mathlib.Core.Bool.{Bool, true, false}
+use mathlib.Core.Logic.{_⊎_}
+use mathlib.Core.List.{List, [], _∷_}
+use lib.Dec.{eqb}
+use lib.ListN.{getD}
+use Rattle.kinds.specs.Kinds as k
+use Rattle.kinds.specs.Sets.{setOf}
+use Rattle.peg.specs.Prog.{Prog, Production, eat, unless, ifnext, opt, many, then, _⨟_, _/_, last, recover, node, memo, RULE-DECL}
+use Rattle.peg.specs.Grammar.{grammar, kind}
+use Rattle.peg.specs.Run as P
+use Rattle.peg.proofs.Every.{productions}
+use Rattle.reader.specs.declared.names.Label.{Label}
+use Rattle.reader.specs.declared.names.Label.the-variants.{Ids, As}
+use Rattle.reader.specs.Bits.{ifb}
+use Rattle.reader.specs.Did.{namesOf}
+use Rattle.grammar.specs.declared.parts.Part.{Part}
+use Rattle.grammar.specs.declared.parts.Part.the-variants.{Eat, Unless, Recover, Node, Memo, Seq, Then, When, Many, Opt, Last, Alt}
+use Rattle.grammar.specs.Rows.{cells, size}
+
+-- the combinator's number and its two operands
+abbrev pub made : ℕ → ℕ → ℕ → Part
+made n a b =
+    getD (Eat a b ∷ Unless a ∷ Recover a ∷ Node a b ∷ Memo a b ∷ Seq a b ∷ Then a ∷ When a b ∷ Many a ∷ Opt a ∷ Last a ∷ []) n (Alt a b)
+
+unfoldable pub cellOf : ℕ → ℕ
+cellOf k = getD cells k 0
+
+unfoldable pub partOf : ℕ → Part
+partOf i = made (cellOf (3 * i)) (cellOf (3 * i + 1)) (cellOf (3 * i + 2))
+
+-- the names that a set enters: one name, or the set's ids
+abbrev pub labelOf : ℕ → Label
+labelOf n = ifb (eqb n 85) Ids (As n)
+
+-- a production by its kind
+unfoldable pub production : ℕ → Production
+production n = getD productions (n - k.RULE-DECL) RULE-DECL
+
+-- a part, given what the rows before it stand for
+abbrev pub progOf : (ℕ → Prog) → Part → Prog
+progOf g (Eat s n) = eat (setOf s) (namesOf s (labelOf n))
+progOf g (Unless s) = unless (setOf s)
+progOf g (Recover s) = recover (setOf s)
+progOf g (Node a i) = node (production a)
+progOf g (Memo a i) = memo (production a)
+progOf g (Seq i j) = g i ⨟ g j
+progOf g (Then i) = then (g i)
+progOf g (When s i) = ifnext (setOf s) (g i)
+progOf g (Many i) = many (g i)
+progOf g (Opt i) = opt (g i)
+progOf g (Last i) = last (g i)
+progOf g (Alt i j) = g i / g j
+
+-- no part holds others more than 40 deep
+abbrev decode : ℕ → ℕ → Prog
+decode zero i = unless []
+decode (suc n) i = progOf (λ j. decode n j) (partOf i)
+
+unfoldable pub prog : ℕ → Prog
+prog i = decode 40 i
+
+-- a part of a line, where d more nodes may be opened
+abbrev pub reads : ℕ → Bool → Prog → P.Reader
+reads d o p a = P.exec d (λ o b u. P.run d o b u) p o a
+
+-- a production's kind and the row of its line
+pub record Line (a i : ℕ) : Type 0 where
+  pub known : kind (production a) ≡ a
+  pub line : prog i ≡ grammar (production a)
+  pub inside : i < size
+
+-- "`cached` (EXPR, TERM)", and the bit of a row
+abbrev pub Cached : ℕ → Type 0
+Cached a = (a ≡ k.EXPR) ⊎ (a ≡ k.TERM)
+
+abbrev pub Bit : ℕ → ℕ → ℕ → Type 0
+Bit a p i = ((a ≡ k.EXPR) × (i ≡ 2 * p)) ⊎ ((a ≡ k.TERM) × (i ≡ 2 * p + 1))

@@ -1,0 +1,248 @@
+// What reads by the table: one function for each combinator. They call one another in a cycle, and what falls is d, the nodes that
+// may still be opened, and within a line the row of the table.
+use crate::table::CELLS;
+use kinds::kind;
+use reader::cache::seen;
+use reader::names::Label;
+use reader::state::State;
+ghost use mathlib.Core.Path.{_≡_};
+ghost use mathlib.Core.Bool.{true};
+ghost use mathlib.Core.Logic.{_⊎_};
+ghost use Prim.Native.Nat.{_*_, _≤_, _<_};
+ghost use Rattle.kinds.specs.Sets.{setOf};
+ghost use Rattle.peg.specs.Prog.{ifnext, _/_};
+ghost use Rattle.peg.specs.Prog as G;
+ghost use Rattle.peg.specs.Grammar as K;
+ghost use Rattle.peg.specs.Run as P;
+ghost use Rattle.reader.specs.Means.{source, bufs, Rows};
+ghost use Rattle.reader.specs.Did.{Wf, Did};
+ghost use Rattle.grammar.specs.Rows.{size};
+ghost use Rattle.grammar.specs.Table.{cellOf, partOf, labelOf, prog, production, reads, Line, Cached, Bit};
+
+// A combinator of the module with its operands: sets and names by number, a production by its kind and the row of its line, parts by
+// their rows.
+pub enum Part {
+    Eat(usize, u32),
+    Unless(usize),
+    Recover(usize),
+    Node(u32, usize),
+    Memo(u32, usize),
+    Seq(usize, usize),
+    Then(usize),
+    When(usize, usize),
+    Many(usize),
+    Opt(usize),
+    Last(usize),
+    Alt(usize, usize),
+}
+
+// The number of a combinator, or an operand: three for each row.
+fn cell(k: usize) -> u32
+    requires { ⌜ k < 3 * size ⌝ }
+    ensures { λ r. ⌜ r ≡ cellOf k ⌝ }
+{
+    CELLS[k]
+}
+
+fn part_at(i: usize) -> Part
+    requires { ⌜ i < size ⌝ }
+    ensures { λ r. ⌜ r ≡ partOf i ⌝ }
+{
+    let n = cell(3 * i);
+    let a = cell(3 * i + 1);
+    let b = cell(3 * i + 2);
+    let first = a as usize;
+    let second = b as usize;
+    match n {
+        0 => Part::Eat(first, b),
+        1 => Part::Unless(first),
+        2 => Part::Recover(first),
+        3 => Part::Node(a, second),
+        4 => Part::Memo(a, second),
+        5 => Part::Seq(first, second),
+        6 => Part::Then(first),
+        7 => Part::When(first, second),
+        8 => Part::Many(first),
+        9 => Part::Opt(first),
+        10 => Part::Last(first),
+        _ => Part::Alt(first, second),
+    }
+}
+
+// The number past all names stands for the ids of the set.
+fn label(name: u32) -> Label
+    requires { ⌜ name < 86 ⌝ }
+    ensures { λ r. ⌜ r ≡ labelOf name ⌝ }
+{
+    if name == 85 {
+        return Label::Ids;
+    }
+    Label::As(name as u8)
+}
+
+// EXPR and TERM remember where they failed: two bits for each row.
+fn bit_of(kind: u32, row: usize) -> usize
+    requires { ⌜ Cached kind × (row ≤ 65536) ⌝ }
+    ensures { λ r. ⌜ Bit kind row r ⌝ }
+{
+    if kind == kind::EXPR {
+        return 2 * row;
+    }
+    2 * row + 1
+}
+
+// A part of a line, where d more nodes may be opened; optional says whether a part around it may be left out.
+pub fn exec(i: usize, mut s: State, d: usize, optional: bool, src: &[u8], ids: &[u32], ends: &[u32], events: &mut [u32], errors: &mut [u32], scratch: &mut [u64]) -> State
+    requires { ⌜ Rows (source (now src) (now ids) (now ends)) × Wf (source (now src) (now ids) (now ends)) (bufs (now events) (now errors) (now scratch)) s × (i < size) ⌝ }
+    ensures { λ r. ⌜ Did (reads d optional (prog i)) (source (now (src .entry)) (now (ids .entry)) (now (ends .entry))) s r (bufs (now (events .entry)) (now (errors .entry)) (now (scratch .entry))) (bufs (now (events .exit)) (now (errors .exit)) (now (scratch .exit))) ⌝ }
+{
+    match part_at(i) {
+        Part::Eat(set, name) => s.eat(set, label(name), ids, ends, events),
+        Part::Unless(set) => s.unless(set, ids),
+        Part::Recover(set) => s.recover(d, optional, set, src, ids, ends, events, errors),
+        Part::Node(kind, line) => node(kind, line, s, d, optional, src, ids, ends, events, errors, scratch),
+        Part::Memo(kind, line) => cached(kind, line, s, d, optional, src, ids, ends, events, errors, scratch),
+        Part::Seq(first, second) => {
+            s = exec(first, s, d, optional, src, ids, ends, events, errors, scratch);
+            exec(second, s, d, optional, src, ids, ends, events, errors, scratch)
+        }
+        Part::Then(part) => then(part, s, d, optional, src, ids, ends, events, errors, scratch),
+        Part::When(set, part) => when(set, part, s, d, optional, src, ids, ends, events, errors, scratch),
+        Part::Many(part) => many(part, s, d, src, ids, ends, events, errors, scratch),
+        Part::Opt(part) => opt(part, s, d, src, ids, ends, events, errors, scratch),
+        Part::Last(part) => last(part, s, d, src, ids, ends, events, errors, scratch),
+        Part::Alt(first, others) => alt(first, others, s, d, optional, src, ids, ends, events, errors, scratch),
+    }
+}
+
+// A production: a node around what its line reads.
+fn node(kind: u32, line: usize, mut s: State, d: usize, optional: bool, src: &[u8], ids: &[u32], ends: &[u32], events: &mut [u32], errors: &mut [u32], scratch: &mut [u64]) -> State
+    requires { ⌜ Rows (source (now src) (now ids) (now ends)) × Wf (source (now src) (now ids) (now ends)) (bufs (now events) (now errors) (now scratch)) s × Line kind line ⌝ }
+    ensures { λ r. ⌜ Did (P.run d optional (production kind)) (source (now (src .entry)) (now (ids .entry)) (now (ends .entry))) s r (bufs (now (events .entry)) (now (errors .entry)) (now (scratch .entry))) (bufs (now (events .exit)) (now (errors .exit)) (now (scratch .exit))) ⌝ }
+{
+    s = s.begin(d, ids, ends, events);
+    let from = s.pos;
+    let at = s.ev;
+    if d == 0 {
+        return s.end(kind, from, at, optional, src, ids, ends, events, errors);
+    }
+    s = exec(line, s, d - 1, optional, src, ids, ends, events, errors, scratch);
+    s.end(kind, from, at, optional, src, ids, ends, events, errors)
+}
+
+// A production that failed at this row before is not read again.
+fn cached(kind: u32, line: usize, mut s: State, d: usize, optional: bool, src: &[u8], ids: &[u32], ends: &[u32], events: &mut [u32], errors: &mut [u32], scratch: &mut [u64]) -> State
+    requires { ⌜ Rows (source (now src) (now ids) (now ends)) × Wf (source (now src) (now ids) (now ends)) (bufs (now events) (now errors) (now scratch)) s × Line kind line × Cached kind ⌝ }
+    ensures { λ r. ⌜ Did (P.memos (K.kind (production kind)) (P.run d optional (production kind))) (source (now (src .entry)) (now (ids .entry)) (now (ends .entry))) s r (bufs (now (events .entry)) (now (errors .entry)) (now (scratch .entry))) (bufs (now (events .exit)) (now (errors .exit)) (now (scratch .exit))) ⌝ }
+{
+    if s.mode != 0 {
+        return s;
+    }
+    let bit = bit_of(kind, s.pos);
+    if seen(bit, scratch) {
+        s.mode = 1;
+        return s;
+    }
+    s = node(kind, line, s, d, optional, src, ids, ends, events, errors, scratch);
+    if s.mode != 1 {
+        return s;
+    }
+    s.remembers(bit, scratch)
+}
+
+// `then`: past trivia.
+fn then(part: usize, mut s: State, d: usize, optional: bool, src: &[u8], ids: &[u32], ends: &[u32], events: &mut [u32], errors: &mut [u32], scratch: &mut [u64]) -> State
+    requires { ⌜ Rows (source (now src) (now ids) (now ends)) × Wf (source (now src) (now ids) (now ends)) (bufs (now events) (now errors) (now scratch)) s × (part < size) ⌝ }
+    ensures { λ r. ⌜ Did (reads d optional (G.then (prog part))) (source (now (src .entry)) (now (ids .entry)) (now (ends .entry))) s r (bufs (now (events .entry)) (now (errors .entry)) (now (scratch .entry))) (bufs (now (events .exit)) (now (errors .exit)) (now (scratch .exit))) ⌝ }
+{
+    if s.mode != 0 {
+        return s;
+    }
+    s = s.trivia(ids, ends, events);
+    exec(part, s, d, optional, src, ids, ends, events, errors, scratch)
+}
+
+// `if_next`: where a row of the set stands next.
+fn when(set: usize, part: usize, mut s: State, d: usize, optional: bool, src: &[u8], ids: &[u32], ends: &[u32], events: &mut [u32], errors: &mut [u32], scratch: &mut [u64]) -> State
+    requires { ⌜ Rows (source (now src) (now ids) (now ends)) × Wf (source (now src) (now ids) (now ends)) (bufs (now events) (now errors) (now scratch)) s × (part < size) ⌝ }
+    ensures { λ r. ⌜ Did (reads d optional (ifnext (setOf set) (prog part))) (source (now (src .entry)) (now (ids .entry)) (now (ends .entry))) s r (bufs (now (events .entry)) (now (errors .entry)) (now (scratch .entry))) (bufs (now (events .exit)) (now (errors .exit)) (now (scratch .exit))) ⌝ }
+{
+    if s.sees(set, ids) {
+        s = s.trivia(ids, ends, events);
+        return exec(part, s, d, optional, src, ids, ends, events, errors, scratch);
+    }
+    s.pass(set, ids)
+}
+
+// A repetition; its rows are a bound that is never reached.
+fn many(part: usize, mut s: State, d: usize, src: &[u8], ids: &[u32], ends: &[u32], events: &mut [u32], errors: &mut [u32], scratch: &mut [u64]) -> State
+    requires { ⌜ Rows (source (now src) (now ids) (now ends)) × Wf (source (now src) (now ids) (now ends)) (bufs (now events) (now errors) (now scratch)) s × (part < size) ⌝ }
+    ensures { λ r. ⌜ Did (reads d true (G.many (prog part))) (source (now (src .entry)) (now (ids .entry)) (now (ends .entry))) s r (bufs (now (events .entry)) (now (errors .entry)) (now (scratch .entry))) (bufs (now (events .exit)) (now (errors .exit)) (now (scratch .exit))) ⌝ }
+{
+    if s.mode != 0 {
+        return s;
+    }
+    let mut n = ids.len() - s.pos + 1;
+    while n > 0 {
+        let m = s.mark();
+        s = s.trivia(ids, ends, events);
+        s = exec(part, s, d, true, src, ids, ends, events, errors, scratch);
+        if s.mode != 0 {
+            return s.undone(m);
+        }
+        n -= 1;
+    }
+    s
+}
+
+// `opt`: where it fails, back to the mark in good order.
+fn opt(part: usize, mut s: State, d: usize, src: &[u8], ids: &[u32], ends: &[u32], events: &mut [u32], errors: &mut [u32], scratch: &mut [u64]) -> State
+    requires { ⌜ Rows (source (now src) (now ids) (now ends)) × Wf (source (now src) (now ids) (now ends)) (bufs (now events) (now errors) (now scratch)) s × (part < size) ⌝ }
+    ensures { λ r. ⌜ Did (reads d true (G.opt (prog part))) (source (now (src .entry)) (now (ids .entry)) (now (ends .entry))) s r (bufs (now (events .entry)) (now (errors .entry)) (now (scratch .entry))) (bufs (now (events .exit)) (now (errors .exit)) (now (scratch .exit))) ⌝ }
+{
+    if s.mode != 0 {
+        return s;
+    }
+    let m = s.mark();
+    s = s.trivia(ids, ends, events);
+    s = exec(part, s, d, true, src, ids, ends, events, errors, scratch);
+    if s.mode == 1 {
+        return s.retry(m);
+    }
+    s
+}
+
+// The last alternative: where it fails, back to the mark.
+fn last(part: usize, mut s: State, d: usize, src: &[u8], ids: &[u32], ends: &[u32], events: &mut [u32], errors: &mut [u32], scratch: &mut [u64]) -> State
+    requires { ⌜ Rows (source (now src) (now ids) (now ends)) × Wf (source (now src) (now ids) (now ends)) (bufs (now events) (now errors) (now scratch)) s × (part < size) ⌝ }
+    ensures { λ r. ⌜ Did (reads d true (G.last (prog part))) (source (now (src .entry)) (now (ids .entry)) (now (ends .entry))) s r (bufs (now (events .entry)) (now (errors .entry)) (now (scratch .entry))) (bufs (now (events .exit)) (now (errors .exit)) (now (scratch .exit))) ⌝ }
+{
+    if s.mode != 0 {
+        return s;
+    }
+    let m = s.mark();
+    s = s.trivia(ids, ends, events);
+    s = exec(part, s, d, true, src, ids, ends, events, errors, scratch);
+    if s.mode == 1 {
+        return s.rewind(m);
+    }
+    s
+}
+
+// An alternative, and where it fails the others.
+fn alt(first: usize, others: usize, mut s: State, d: usize, optional: bool, src: &[u8], ids: &[u32], ends: &[u32], events: &mut [u32], errors: &mut [u32], scratch: &mut [u64]) -> State
+    requires { ⌜ Rows (source (now src) (now ids) (now ends)) × Wf (source (now src) (now ids) (now ends)) (bufs (now events) (now errors) (now scratch)) s × (first < others) × (others < size) ⌝ }
+    ensures { λ r. ⌜ Did (reads d optional (prog first / prog others)) (source (now (src .entry)) (now (ids .entry)) (now (ends .entry))) s r (bufs (now (events .entry)) (now (errors .entry)) (now (scratch .entry))) (bufs (now (events .exit)) (now (errors .exit)) (now (scratch .exit))) ⌝ }
+{
+    if s.mode != 0 {
+        return s;
+    }
+    let m = s.mark();
+    s = s.trivia(ids, ends, events);
+    s = exec(first, s, d, true, src, ids, ends, events, errors, scratch);
+    if s.mode != 1 {
+        return s;
+    }
+    s = s.retry(m);
+    exec(others, s, d, optional, src, ids, ends, events, errors, scratch)
+}
