@@ -13,19 +13,19 @@ use Rattle.kinds.specs.Kinds as k
 use Rattle.kinds.specs.Sets.{setOf}
 use Rattle.kinds.proofs.Tables.{both, both-left, both-right, all, all-sound}
 use Rattle.peg.specs.Prog.{Prog, node}
-use Rattle.peg.specs.Grammar.{grammar, kind}
+use Rattle.peg.specs.Grammar.{grammar, kind, rule-decl}
 use Rattle.peg.specs.Run as P
 use Rattle.peg.specs.Render.{Source}
 use Rattle.peg.proofs.Every.{productions}
 use Rattle.reader.specs.declared.state.State.{State}
 use Rattle.reader.specs.declared.names.Label.{Label}
 use Rattle.reader.specs.declared.names.Label.the-variants.{Ids, As}
-use Rattle.reader.specs.Means.{Bufs}
+use Rattle.reader.specs.Means.{limits, Bufs}
 use Rattle.reader.specs.Did.{Did, Proper, namesOf}
 use Rattle.reader.specs.Bits.{ifb}
 use Rattle.grammar.specs.declared.parts.Part.{Part}
 use Rattle.grammar.specs.declared.parts.Part.the-variants.{Eat, Unless, Recover, Node, Memo, Seq, Then, When, Many, Opt, Last, Alt}
-use Rattle.grammar.specs.Rows.{size}
+use Rattle.grammar.specs.Rows.{size, item}
 use Rattle.grammar.specs.Table.{cellOf, labelOf, reads, made, partOf, production, progOf, prog, Line, Cached}
 
 -- a row by its three numbers
@@ -194,3 +194,12 @@ proper n h {l} e = subst (λ (q : Label). Proper q) (sym e) (go (ℕ-discrete n 
     go : Dec (n ≡ 85) → Proper (labelOf n)
     go (yes q) = subst (λ (c : Bool). Proper (ifb c Ids (As n))) (sym (eq-eqb n 85 q)) tt
     go (no q) = subst (λ (c : Bool). Proper (ifb c Ids (As n))) (sym (ne-eqb n 85 q)) (omega (arith, h, q))
+
+-- an item that begins with a rule keyword
+item-stands : prog item ≡ rule-decl
+unfolding prog partOf cellOf production productions
+item-stands = refl
+
+pub is-item : {x : Source} {s r : State} {b b′ : Bufs} → Did (reads (limits .depth) false (prog item)) x s r b b′ → Did (P.read-rule limits) x s r b b′
+unfolding P.read-rule
+is-item {x} {s} {r} {b} {b′} y = subst (λ (q : Prog). Did (reads (limits .depth) false q) x s r b b′) item-stands y

@@ -1,6 +1,7 @@
 // What reads by the table: one function for each combinator. They call one another in a cycle, and what falls is d, the nodes that
 // may still be opened, and within a line the row of the table.
 use crate::table::CELLS;
+use crate::table::ITEM;
 use kinds::kind;
 use reader::cache::seen;
 use reader::names::Label;
@@ -14,7 +15,7 @@ ghost use Rattle.peg.specs.Prog.{ifnext, _/_};
 ghost use Rattle.peg.specs.Prog as G;
 ghost use Rattle.peg.specs.Grammar as K;
 ghost use Rattle.peg.specs.Run as P;
-ghost use Rattle.reader.specs.Means.{source, bufs, Rows};
+ghost use Rattle.reader.specs.Means.{limits, source, bufs, Rows};
 ghost use Rattle.reader.specs.Did.{Wf, Did};
 ghost use Rattle.grammar.specs.Rows.{size};
 ghost use Rattle.grammar.specs.Table.{cellOf, partOf, labelOf, prog, production, reads, Line, Cached, Bit};
@@ -92,7 +93,7 @@ fn bit_of(kind: u32, row: usize) -> usize
 }
 
 // A part of a line, where d more nodes may be opened; optional says whether a part around it may be left out.
-pub fn exec(i: usize, mut s: State, d: usize, optional: bool, src: &[u8], ids: &[u32], ends: &[u32], events: &mut [u32], errors: &mut [u32], scratch: &mut [u64]) -> State
+fn exec(i: usize, mut s: State, d: usize, optional: bool, src: &[u8], ids: &[u32], ends: &[u32], events: &mut [u32], errors: &mut [u32], scratch: &mut [u64]) -> State
     requires { ⌜ Rows (source (now src) (now ids) (now ends)) × Wf (source (now src) (now ids) (now ends)) (bufs (now events) (now errors) (now scratch)) s × (i < size) ⌝ }
     ensures { λ r. ⌜ Did (reads d optional (prog i)) (source (now (src .entry)) (now (ids .entry)) (now (ends .entry))) s r (bufs (now (events .entry)) (now (errors .entry)) (now (scratch .entry))) (bufs (now (events .exit)) (now (errors .exit)) (now (scratch .exit))) ⌝ }
 {
@@ -245,4 +246,12 @@ fn alt(first: usize, others: usize, mut s: State, d: usize, optional: bool, src:
     }
     s = s.retry(m);
     exec(others, s, d, optional, src, ids, ends, events, errors, scratch)
+}
+
+// An item that begins with a rule keyword: a rule, and recovery behind it.
+pub fn rule_item(s: State, src: &[u8], ids: &[u32], ends: &[u32], events: &mut [u32], errors: &mut [u32], scratch: &mut [u64]) -> State
+    requires { ⌜ Rows (source (now src) (now ids) (now ends)) × Wf (source (now src) (now ids) (now ends)) (bufs (now events) (now errors) (now scratch)) s ⌝ }
+    ensures { λ r. ⌜ Did (P.read-rule limits) (source (now (src .entry)) (now (ids .entry)) (now (ends .entry))) s r (bufs (now (events .entry)) (now (errors .entry)) (now (scratch .entry))) (bufs (now (events .exit)) (now (errors .exit)) (now (scratch .exit))) ⌝ }
+{
+    exec(ITEM, s, 1024, false, src, ids, ends, events, errors, scratch)
 }

@@ -1,0 +1,142 @@
+-- The row at hand: a rule, a row that begins none, or nothing. Assumes nothing.
+use Prim.Native.Nat.{ℕ, suc, _+_, _-_, _≤_, _<_}
+use mathlib.Core.Path.{_≡_, refl, sym, ap, subst, _∙_}
+use mathlib.Core.List.{List, [], _∷_, _++_}
+use mathlib.Core.Bool.{Bool, true, false}
+use mathlib.Core.Option.{Option, none, some}
+use native.Mathlib.Nat.{le-refl}
+use native.Mathlib.Omega.{arith}
+use lib.Dec.{eqb}
+use lib.ListN.{length, getD, drop, drop-of-length-le, length-append}
+use lib.Seq.{drop-cons}
+use Rattle.kinds.specs.Sets.{pick}
+use Rattle.kinds.specs.Answers.{isSome}
+use Rattle.peg.specs.Grammar.{rule-decl}
+use Rattle.peg.specs.Run as P
+use Rattle.peg.specs.Run.{Choice, Next, end, other, hit}
+use Rattle.peg.specs.Render.{Source, Rec, records}
+use Rattle.reader.specs.declared.state.State.{State}
+use Rattle.reader.specs.Means.{limits, Bufs, Past, Means, Stands, Apart, recorded, overOf}
+use Rattle.reader.specs.Did.{Wf, Did, Below, Distinct}
+use Rattle.reader.proofs.Core.{Sticky}
+use Rattle.reader.proofs.Sticky.{sticky-exec}
+use Rattle.reader.proofs.Next.{lacks, has-some, picked}
+use Rattle.reader.proofs.Pigeon.{few}
+use Rattle.desk.specs.declared.items.Desk.{Desk}
+use Rattle.desk.specs.Items.{since, at-hand, pastOf, Free, Strays, Hands}
+use Rattle.desk.proofs.Telling.{recorded-length}
+use Rattle.desk.proofs.Stray.{sticky-stray}
+
+-- what stands recorded is what the error events say
+pub heard : {p : Past} {x : Source} {s : State} {b : Bufs} {a : P.State} → Stands p x s b a → Stands (pastOf (p .event-room) (p .error-room) x a) x s b a
+unfolding overOf
+heard {p} {x} {s} {b} {a} t = record { over = t .over; means = λ z. let m = t .means z in subst (λ (l : List Rec). Means (since p l) x s b a) (sym (m .written .past)) (same m) }
+  where
+    same : Means p x s b a → Means (since p (p .records)) x s b a
+    same m =
+        record {
+          rest = m .rest;
+          mode = m .mode;
+          fuel = m .fuel;
+          written = record { is = m .written .is; past = m .written .past; room = m .written .room };
+          want = m .want;
+          unwant = m .unwant;
+          chosen = record { is = m .chosen .is; since = m .chosen .since; room = m .chosen .room; apart = m .chosen .apart };
+          cache = m .cache;
+        }
+
+sticky-rule : (p : Past) (x : Source) (a : P.State) → Sticky p x a (P.read-rule limits a)
+unfolding P.read-rule
+sticky-rule p x a = sticky-exec p x (limits .depth) rule-decl false a
+
+pub sticky-hand : (p : Past) (x : Source) (a : P.State) → Sticky p x a (at-hand a)
+sticky-hand p x a = go (P.sought P.rule-keywords (a .rest))
+  where
+    go : (n : Next) → Sticky p x a (P.item-at limits n a)
+    go end = λ z. refl
+    go other = sticky-stray p x a
+    go (hit i is) = sticky-rule p x a
+
+-- what stands at hand
+module _ (ids : List ℕ) (at : ℕ) where
+  at-end : length ids ≤ at → P.sought P.rule-keywords (drop at ids) ≡ end
+  at-end h = ap (P.sought P.rule-keywords) (drop-of-length-le ids h)
+
+  at-row : (o : Option ℕ) → at < length ids → pick P.rule-keywords (getD ids at 0) ≡ o → P.sought P.rule-keywords (drop at ids) ≡ elim o [ none ↦ other | some a ↦ hit a (drop (suc at) ids) ]
+  at-row o h e = ap (P.sought P.rule-keywords) (drop-cons ids at 0 h) ∙ ap (λ (t : Option ℕ). elim t [ none ↦ other | some a ↦ hit a (drop (suc at) ids) ]) e
+
+-- errors at rows of their own are few
+abbrev rows : List (ℕ × Choice) → List ℕ
+rows [] = []
+rows (e ∷ es) = e .0 ∷ rows es
+
+rows-length : (es : List (ℕ × Choice)) → length (rows es) ≡ length es
+rows-length [] = refl
+rows-length (e ∷ es) = ap suc (rows-length es)
+
+has-rows : (r : ℕ) (es : List (ℕ × Choice)) → P.has (rows es) r ≡ P.pending r es
+has-rows r [] = refl
+has-rows r (e ∷ es) = ap (λ (b : Bool). elim (eqb r (e .0)) [ true ↦ true | false ↦ b ]) (has-rows r es)
+
+own-rows : (n : ℕ) (es : List (ℕ × Choice)) → Apart n es → Distinct (rows es) × Below (suc n) (rows es)
+own-rows n [] a = (tt, tt)
+own-rows n (e ∷ es) a = let y = own-rows n es (a .2) in ((has-rows (e .0) es ∙ a .1, y .0), (omega (arith, a .0), y .1))
+
+apart-few : (n : ℕ) (es : List (ℕ × Choice)) → Apart n es → length es ≤ n + 1
+apart-few n es a = let y = own-rows n es a in omega (arith, few (suc n) (rows es) (y .0) (y .1), rows-length es)
+
+-- where a room was exceeded before
+pub hand-stuck : {x : Source} {s : State} {before : ℕ} {b : Bufs} → (s .full ≡ 0 → ⊥) → Wf x b s → Hands x s before (record { state = s; before = before }) b b
+unfolding overOf
+hand-stuck {x} n w =
+    record {
+      does = λ p a t f. record { over = t .over ∙ sym (sticky-hand p x a (λ z. n (t .over ∙ z))); means = λ z. absurd (n z) };
+      count = λ p a t f z. absurd (n z);
+      few = λ p a t f z. absurd (n z);
+      wf = w;
+      room = λ z. z;
+      first = refl;
+      ahead = le-refl _;
+    }
+
+module _ {x : Source} {s : State} {b : Bufs} (z : s .full ≡ 0) where
+  -- by what stands at hand
+  hand-is : (n : Next) → P.sought P.rule-keywords (drop (s .pos) (x .ids)) ≡ n → {p : Past} {a : P.State} → Stands p x s b a → P.item-at limits n a ≡ at-hand a
+  hand-is n q {p} {a} t = ap (λ (k : Next). P.item-at limits k a) (sym (ap (P.sought P.rule-keywords) (t .means z .rest) ∙ q))
+
+  -- n was read, as the definition does it
+  hands : (n : Next) → P.sought P.rule-keywords (drop (s .pos) (x .ids)) ≡ n → (d : Desk) (before : ℕ) {b′ : Bufs}
+      → ((p : Past) (a : P.State) → Stands p x s b a → Free p s before a → (l : List Rec) × Stands (since p l) x (d .state) b′ (P.item-at limits n a) × (d .state .full ≡ 0 → d .before ≡ length l) × (d .state .full ≡ 0 → d .before + length (P.item-at limits n a .chosen) ≤ before + (length (x .ids) - s .first) + 1))
+      → Wf x b′ (d .state) → d .state .first ≡ s .first → s .pos ≤ d .state .pos → Hands x s before d b b′
+  hands n q d before {b′} g w i h =
+      record {
+        does = λ p a t f.
+            let y = g p a t f in
+            subst (λ (c : P.State). Stands (pastOf (p .event-room) (p .error-room) x c) x (d .state) b′ c) (hand-is n q t) (heard (y .1));
+        count = λ p a t f v. let y = g p a t f in y .2 v ∙ ap length (sym (y .1 .means v .written .past)) ∙ ap (λ (c : P.State). length (records limits x (c .out) [])) (hand-is n q t);
+        few = λ p a t f v. subst (λ (c : P.State). d .before + length (c .chosen) ≤ before + (length (x .ids) - s .first) + 1) (hand-is n q t) (g p a t f .3 v);
+        wf = w;
+        room = λ v. z;
+        first = i;
+        ahead = h;
+      }
+
+  pub hand-end : {before : ℕ} → length (x .ids) ≤ s .pos → Wf x b s → Hands x s before (record { state = s; before = before }) b b
+  hand-end {before} h w = hands end (at-end (x .ids) (s .pos) h) (record { state = s; before = before }) before (λ p a t f. (p .records, t, (λ v. f z .1), λ v. omega (arith, ap length (f z .0)))) w refl (le-refl _)
+
+  module _ (h : s .pos < length (x .ids)) where
+    pub hand-rule : {before : ℕ} {r : State} {b′ : Bufs} → true ≡ isSome (pick P.rule-keywords (getD (x .ids) (s .pos) 0)) → Did (P.read-rule limits) x s r b b′ → Hands x s before (record { state = r; before = before }) b b′
+    hand-rule {before} {r} e y =
+        let i = getD (x .ids) (s .pos) 0 in
+        let o = picked (pick P.rule-keywords i) in
+        hands (hit o (drop (suc (s .pos)) (x .ids))) (at-row (x .ids) (s .pos) (some o) h (has-some P.rule-keywords i e)) (record { state = r; before = before }) before
+        (λ p a t f. (p .records, y .does p a t, (λ v. f z .1), λ v. omega (arith, apart-few (length (x .ids) - r .first) (P.read-rule limits a .chosen) (y .does p a t .means v .chosen .apart), y .first)))
+        (y .wf) (y .first) (y .ahead)
+
+    pub hand-stray : {before : ℕ} {d : Desk} {b′ : Bufs} → false ≡ isSome (pick P.rule-keywords (getD (x .ids) (s .pos) 0)) → Strays x s before d b b′ → Hands x s before d b b′
+    hand-stray {before} {d} e y =
+        hands other (at-row (x .ids) (s .pos) none h (lacks P.rule-keywords (getD (x .ids) (s .pos) 0) e)) d before
+        (λ p a t f.
+        let one : List (ℕ × Choice) = (length (a .rest), P.stray) ∷ [] in
+        (p .records ++ recorded x one, y .does p a t f, y .count p a t f, λ v. omega (arith, y .count p a t f v, f z .1, length-append (p .records) (recorded x one), recorded-length x one, ap length (f z .0))))
+        (y .wf) (y .first) (y .ahead)

@@ -1,0 +1,42 @@
+-- Before the first item the state stands for the definition's start; so all items from there are the definition's reading. Assumes nothing.
+use Prim.Native.Nat.{ℕ, _+_, _*_}
+use mathlib.Core.Path.{_≡_, refl, sym}
+use mathlib.Core.List.{List, []}
+use mathlib.Core.Bool.{false}
+use native.Mathlib.Omega.{arith}
+use lib.ListN.{length}
+use Rattle.peg.specs.Run as P
+use Rattle.peg.specs.Render.{Source, used}
+use Rattle.peg.proofs.Buffer.{buffer-none}
+use Rattle.reader.specs.Bits.{bitAt}
+use Rattle.reader.specs.Means.{limits, Bufs, bufs, Means, recorded, overOf}
+use Rattle.reader.proofs.Rooms.{exceeds-none}
+use Rattle.desk.specs.declared.items.Desk.{Desk}
+use Rattle.desk.specs.Items.{blank, pastOf, Between, Goes}
+
+module _ (x : Source) (fuel evcap ercap : ℕ) (names ev er sc : List ℕ) (none : (i : ℕ) → bitAt sc i ≡ false) where
+  start-means : Means (pastOf (evcap + 4) ercap x (P.start (x .ids) fuel)) x (blank fuel evcap ercap names .state) (bufs ev er sc) (P.start (x .ids) fuel)
+  unfolding recorded
+  start-means =
+      record {
+        rest = refl;
+        mode = refl;
+        fuel = refl;
+        written = record { is = sym (buffer-none x); past = refl; room = refl };
+        want = refl;
+        unwant = refl;
+        chosen = record { is = refl; since = refl; room = refl; apart = tt };
+        cache = record { expr = λ p h. none (2 * p); term = λ p h. none (2 * p + 1); below = λ i h. none i; above = λ i h. none i };
+      }
+
+  pub starts : Between (evcap + 4) ercap x (blank fuel evcap ercap names) (bufs ev er sc) (P.start (x .ids) fuel)
+  unfolding overOf
+  starts =
+      record {
+        stands = record { over = sym (exceeds-none (evcap + 4) ercap (used limits x ([], [])) (omega arith) (omega arith)); means = λ z. start-means };
+        count = λ z. refl;
+        few = λ z y. ((λ o. refl), omega arith);
+      }
+
+  pub reads : {r : Desk} {b′ : Bufs} → Goes (P.items limits (length (x .ids))) x (blank fuel evcap ercap names) r (bufs ev er sc) b′ → Between (evcap + 4) ercap x r b′ (P.read limits (x .ids) fuel)
+  reads g = g .does (evcap + 4) ercap (P.start (x .ids) fuel) starts

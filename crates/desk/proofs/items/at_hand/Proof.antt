@@ -1,0 +1,73 @@
+-- `desk::items::at_hand` meets its contract. Assumes nothing.
+use mathlib.Core.Path.{sym, _∙_}
+use native.Mathlib.Omega.{arith}
+use Rattle.desk.proofs.Hand.{hand-stuck, hand-end, hand-rule, hand-stray}
+use borrow.Author.Needs.{needs}
+use Rattle.desk.proofs.items.at_hand.Statement.{statement}
+use Rattle.desk.proofs.items.at_hand.Tie as tie
+use Rattle.desk.proofs.items.at_hand.Reads as reads
+use Rattle.desk.proofs.items.at_hand.Lts as lts
+use Rattle.grammar.proofs.parts.rule_item.Reads as rule-item-reads
+use Rattle.desk.proofs.items.stray.Reads as stray-reads
+use Rattle.kinds.proofs.contains.Reads as contains-reads
+
+returns : tie.Need-returns
+returns c = hand-stuck (c .if1 .taken) (c .before .before .before .before .before .before .before .before .pre .1)
+
+returns-2 : tie.Need-returns-2
+returns-2 c = hand-end (c .before .if1 .left) (c .if2 .taken) (c .before .before .before .before .before .before .before .before .before .pre .1)
+
+mul-id : tie.Need-mul-id
+mul-id c = search needs
+
+shared-slice-read-id : tie.Need-shared-slice-read-id
+shared-slice-read-id c = search needs
+
+contains-requires : tie.Need-contains-requires
+contains-requires c κs = search needs
+
+rule-item-requires : tie.Need-rule-item-requires
+rule-item-requires c κs = c .before .before .before .before .before .before .before .before .before .before .before .before .before .before .before .pre
+
+same-length : tie.Need-same-length
+same-length c = search needs
+
+same-length-2 : tie.Need-same-length-2
+same-length-2 c = search needs
+
+same-length-3 : tie.Need-same-length-3
+same-length-3 c = search needs
+
+returns-3 : tie.Need-returns-3
+returns-3 c = hand-rule (c .before .before .before .before .before .before .before .before .before .before .before .before .before .before .if1 .left) (c .before .before .before .before .before .before .before .before .before .before .before .before .before .if2 .left) (sym (c .before .before .before .before .before .before .before .before .before .before .if3 .taken) ∙ c .before .before .before .before .before .before .before .before .before .before .before .contains .ensures) (c .before .before .before .before .before .before .rule-item .ensures)
+
+stray-requires : tie.Need-stray-requires
+stray-requires c κs = (c .before .before .before .before .before .before .before .before .before .before .before .before .before .before .pre .0 .lines, c .before .before .before .before .before .before .before .before .before .before .before .before .before .before .pre .1 .0, c .before .before .before .before .before .before .before .before .before .before .before .before .before .before .pre .1 .1 .events, c .before .before .before .before .before .before .before .before .before .before .before .before .before .before .pre .1 .1 .errors, c .before .before .before .before .before .if2 .left, c .before .before .before .before .before .before .if1 .left)
+
+same-length-4 : tie.Need-same-length-4
+same-length-4 c = search needs
+
+same-length-5 : tie.Need-same-length-5
+same-length-5 c = search needs
+
+returns-4 : tie.Need-returns-4
+returns-4 c = hand-stray (c .before .before .before .before .before .before .before .before .before .before .before .if1 .left) (c .before .before .before .before .before .before .before .before .before .before .if2 .left) (sym (c .before .before .before .before .before .before .before .if3 .left) ∙ c .before .before .before .before .before .before .before .before .contains .ensures) (c .before .before .before .before .stray .ensures (c .before .before .before .before .before .before .before .before .before .before .before .before .before .before .before .before .before .before .before .args .src .now) (c .before .before .before .before .before .before .before .before .before .before .before .before .before .before .before .before .before .before .before .args .scratch .now) (c .before .before .before .before .before .before .before .before .before .before .before .before .before .before .before .before .before .before .before .pre .1))
+
+pub at-hand-spec : {M : Type 1} → statement M
+at-hand-spec =
+    tie.close
+    (tie.spec
+    returns
+    returns-2
+    mul-id
+    shared-slice-read-id
+    contains-requires
+    rule-item-requires
+    same-length
+    same-length-2
+    same-length-3
+    returns-3
+    stray-requires
+    same-length-4
+    same-length-5
+    returns-4)

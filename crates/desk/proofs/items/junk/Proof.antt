@@ -1,0 +1,37 @@
+-- `desk::items::junk` meets its contract. Assumes nothing.
+use native.Mathlib.Omega.{arith}
+use mathlib.Core.List.{[]}
+use Rattle.reader.specs.Means.{source}
+use Rattle.desk.proofs.Junk.{junk-skip, junk-shut, junks}
+use borrow.Author.Needs.{needs}
+use Rattle.desk.proofs.items.junk.Statement.{statement}
+use Rattle.desk.proofs.items.junk.Tie as tie
+use Rattle.desk.proofs.items.junk.Reads as reads
+use Rattle.desk.proofs.items.junk.Lts as lts
+use Rattle.reader.proofs.rows.start_of.Reads as start-of-reads
+use Rattle.reader.proofs.state.State.put.Reads as put-reads
+use Rattle.reader.proofs.state.State.shut.Reads as shut-reads
+use Rattle.reader.proofs.state.State.skip_to.Reads as skip-to-reads
+
+start-of-requires : tie.Need-start-of-requires
+start-of-requires c κs = omega (arith, c .before .before .before .pre .0 .level, c .before .before .before .pre .1 .0 .here)
+
+put-requires : tie.Need-put-requires
+put-requires c κs = (c .before .before .before .before .before .pre .1 .2 .events, c .before .before .before .before .before .pre .2)
+
+skip-to-requires : tie.Need-skip-to-requires
+skip-to-requires c κs = let j = junk-skip (source [] (c .before .before .before .before .before .before .before .before .before .args .ids .now) (c .before .before .before .before .before .before .before .before .before .args .ends .now)) (c .before .before .before .before .before .start-of .result) (c .before .before .before .before .before .before .before .before .before .pre .0) (c .before .before .before .before .before .before .before .before .before .pre .1) (c .before .before .before .before .before .before .before .before .before .pre .2) (c .before .before .before .before .before .start-of .ensures) (c .before .before .before .put .ensures) in (c .before .before .before .before .before .before .before .before .before .pre .0, j .0, j .1)
+
+shut-requires : tie.Need-shut-requires
+shut-requires c κs = junk-shut (source [] (c .before .before .before .before .before .before .before .before .before .before .before .before .before .args .ids .now) (c .before .before .before .before .before .before .before .before .before .before .before .before .before .args .ends .now)) (c .before .before .before .before .before .before .before .before .before .start-of .result) (c .before .before .before .before .before .before .before .before .before .before .before .before .before .pre .0) (c .before .before .before .before .before .before .before .before .before .before .before .before .before .pre .1) (c .before .before .before .before .before .before .before .before .before .before .before .before .before .pre .2) (c .before .before .before .before .before .before .before .before .before .start-of .ensures) (c .before .before .before .before .before .before .before .put .ensures) (c .before .before .before .skip-to .ensures [])
+
+same-length : tie.Need-same-length
+same-length c = search needs
+
+returns : tie.Need-returns
+returns c = λ bytes. junks (source bytes (c .before .before .before .before .before .before .before .before .before .before .before .before .before .before .before .before .args .ids .now) (c .before .before .before .before .before .before .before .before .before .before .before .before .before .before .before .before .args .ends .now)) (c .before .before .before .before .before .before .before .before .before .before .before .before .start-of .result) (c .before .before .before .before .before .before .before .before .before .before .before .before .before .before .before .before .pre .0) (c .before .before .before .before .before .before .before .before .before .before .before .before .before .before .before .before .pre .1) (c .before .before .before .before .before .before .before .before .before .before .before .before .before .before .before .before .pre .2) (c .before .before .before .before .before .before .before .before .before .before .before .before .start-of .ensures) (c .before .before .before .before .before .before .before .before .before .before .put .ensures) (c .before .before .before .before .before .before .skip-to .ensures bytes) (λ er sc. c .before .before .shut .ensures bytes (c .before .before .before .before .before .before .before .before .before .before .before .before .before .before .before .before .args .ids .now) er sc (c .before .before .before .before .before .before .before .before .before .before .before .before .before .before .before .before .pre .0))
+
+pub junk-spec : {M : Type 1} → statement M
+junk-spec =
+    tie.close
+    (tie.spec start-of-requires put-requires skip-to-requires shut-requires same-length returns)

@@ -1,0 +1,230 @@
+// Items, one after another.
+use grammar::parts::rule_item;
+use kinds::contains;
+use kinds::kind;
+use kinds::set;
+use reader::cache::forget;
+use reader::rows::start_of;
+use reader::state::State;
+ghost use mathlib.Core.Path.{_≡_};
+ghost use mathlib.Core.List.{List};
+ghost use Prim.Native.Nat.{ℕ, _*_, _≤_, _<_};
+ghost use lib.ListN.{length};
+ghost use Rattle.peg.specs.Render.{Source};
+ghost use Rattle.peg.specs.Run as P;
+ghost use Rattle.reader.specs.Bits.{Forgot};
+ghost use Rattle.reader.specs.Means.{limits, source, bufs, Lines, Rows};
+ghost use Rattle.reader.specs.Did.{Ok, Wf, Did, Events};
+ghost use Rattle.desk.specs.Items as Items;
+ghost use Rattle.desk.specs.Items.{Flushed, Tells, Strays, Hands, Goes, Settled, settled, junk-node};
+
+// The state, and how many error events stand written.
+pub struct Desk {
+    pub state: State,
+    pub before: u32,
+}
+
+// Writes the events of an item's records, the first with index `before`. The index stays within its bits, whatever stands in the records.
+pub fn flush(mut s: State, before: u32, records: &[u32], events: &mut [u32]) -> Desk
+    requires { ⌜ (s .ev ≤ s .evcap) × (s .evcap ≤ length (now events)) ⌝ }
+    ensures { λ r. ⌜ Flushed (now (records .entry)) before s r (now (events .entry)) (now (events .exit)) ⌝ }
+{
+    let mut at = 0;
+    let mut index = before;
+    while at + 4 <= records.len() {
+        if index == 4294967295 {
+            return Desk {
+                state: s,
+                before: index,
+            };
+        }
+        let start = records[at];
+        let end = records[at + 1];
+        let names = records[at + 3] as usize;
+        s = s.put(4, index, start, end, events);
+        index += 1;
+        at = at + names + 4;
+    }
+    Desk {
+        state: s,
+        before: index,
+    }
+}
+
+// Writes the pending errors as events; from then on they are no more pending.
+pub fn tell(s: State, before: u32, errors: &[u32], events: &mut [u32]) -> Desk
+    requires { ⌜ (s .ev ≤ s .evcap) × (s .evcap ≤ length (now events)) × (s .item ≤ s .er) × (s .er ≤ length (now errors)) ⌝ }
+    ensures { λ r. ⌜ ((x : Source) (sc : List ℕ) → Wf x (bufs (now (events .entry)) (now (errors .entry)) sc) s → Tells x s before r (bufs (now (events .entry)) (now (errors .entry)) sc) (bufs (now (events .exit)) (now (errors .entry)) sc)) ⌝ }
+{
+    let item = s.item;
+    let er = s.er;
+    let d = flush(s, before, &errors[item..er], events);
+    let mut t = d.state;
+    t.item = er;
+    Desk {
+        state: t,
+        before: d.before,
+    }
+}
+
+// An ERROR node up to the next rule, without fuel.
+pub fn junk(mut s: State, ids: &[u32], ends: &[u32], events: &mut [u32]) -> State
+    requires { ⌜ Lines (now ids) (now ends) × Ok (length (now ids)) s × (s .evcap ≤ length (now events)) ⌝ }
+    ensures { λ r. ⌜ ((bytes : List ℕ) → Events junk-node (source bytes (now (ids .entry)) (now (ends .entry))) s r (now (events .entry)) (now (events .exit))) ⌝ }
+{
+    let from = s.pos;
+    let start = start_of(from, ends);
+    s = s.put(1, 0, start, start, events);
+    let at = s.ev;
+    s = s.skip_to(set::RULE_KEYWORDS, ids, ends, events);
+    s.shut(kind::ERROR, from, at, ends, events)
+}
+
+// A row that begins no rule: error form 10 on it, its record before its event, and an ERROR node.
+pub fn stray(
+    mut s: State,
+    before: u32,
+    ids: &[u32],
+    ends: &[u32],
+    events: &mut [u32],
+    errors: &mut [u32],
+) -> Desk
+    requires { ⌜ Lines (now ids) (now ends) × Ok (length (now ids)) s × (s .evcap ≤ length (now events)) × (s .ercap ≤ length (now errors)) × (s .pos < length (now ids)) × (s .full ≡ 0) ⌝ }
+    ensures { λ r. ⌜ ((bytes sc : List ℕ) → Wf (source bytes (now (ids .entry)) (now (ends .entry))) (bufs (now (events .entry)) (now (errors .entry)) sc) s → Strays (source bytes (now (ids .entry)) (now (ends .entry))) s before r (bufs (now (events .entry)) (now (errors .entry)) sc) (bufs (now (events .exit)) (now (errors .exit)) sc)) ⌝ }
+{
+    let at = s.pos;
+    let start = start_of(at, ends);
+    let end = ends[at];
+    s = s.record(start, end, 10, 0, errors);
+    let d = tell(s, before, errors, events);
+    let t = junk(d.state, ids, ends, events);
+    Desk {
+        state: t,
+        before: d.before,
+    }
+}
+
+// By the row at hand: a rule, or a row that begins none; or nothing is left.
+pub fn at_hand(
+    s: State,
+    before: u32,
+    src: &[u8],
+    ids: &[u32],
+    ends: &[u32],
+    events: &mut [u32],
+    errors: &mut [u32],
+    scratch: &mut [u64],
+) -> Desk
+    requires { ⌜ Rows (source (now src) (now ids) (now ends)) × Wf (source (now src) (now ids) (now ends)) (bufs (now events) (now errors) (now scratch)) s ⌝ }
+    ensures { λ r. ⌜ Hands (source (now (src .entry)) (now (ids .entry)) (now (ends .entry))) s before r (bufs (now (events .entry)) (now (errors .entry)) (now (scratch .entry))) (bufs (now (events .exit)) (now (errors .exit)) (now (scratch .exit))) ⌝ }
+{
+    if s.full != 0 {
+        return Desk {
+            state: s,
+            before: before,
+        };
+    }
+    let at = s.pos;
+    if at >= ids.len() {
+        return Desk {
+            state: s,
+            before: before,
+        };
+    }
+    let id = ids[at];
+    if contains(set::RULE_KEYWORDS, id) {
+        let t = rule_item(s, src, ids, ends, events, errors, scratch);
+        return Desk {
+            state: t,
+            before: before,
+        };
+    }
+    stray(s, before, ids, ends, events, errors)
+}
+
+// What an item leaves behind is given up, but for place, fuel and outputs.
+pub fn settle(d: Desk, scratch: &mut [u64]) -> Desk
+    requires { ⌜ 2 * d .state .far ≤ 64 * length (now scratch) ⌝ }
+    ensures { λ r. ⌜ (r .state ≡ settled (d .state)) × (r .before ≡ d .before) × Forgot (d .state .first) (d .state .far) (now (scratch .entry)) (now (scratch .exit)) ⌝ }
+{
+    let mut s = d.state;
+    let from = s.first;
+    let to = s.far;
+    forget(from, to, scratch);
+    let at = s.pos;
+    s.first = at;
+    s.far = at;
+    s.want = 0;
+    s.unwant = 0;
+    if s.mode == 1 {
+        s.mode = 0;
+        return Desk {
+            state: s,
+            before: d.before,
+        };
+    }
+    Desk {
+        state: s,
+        before: d.before,
+    }
+}
+
+// Whether no item is to be read: a room was exceeded, the reader stopped, or no row is left.
+pub fn over(s: State, ids: &[u32]) -> bool
+    ensures { λ r. ⌜ r ≡ Items.over (length (now (ids .entry))) s ⌝ }
+{
+    if s.full != 0 {
+        return true;
+    }
+    if s.mode != 0 {
+        return true;
+    }
+    s.pos >= ids.len()
+}
+
+// One item, if the state is in good order and rows are left.
+pub fn item(
+    d: Desk,
+    src: &[u8],
+    ids: &[u32],
+    ends: &[u32],
+    events: &mut [u32],
+    errors: &mut [u32],
+    scratch: &mut [u64],
+) -> Desk
+    requires { ⌜ Rows (source (now src) (now ids) (now ends)) × Wf (source (now src) (now ids) (now ends)) (bufs (now events) (now errors) (now scratch)) (d .state) × Settled (d .state) ⌝ }
+    ensures { λ r. ⌜ Goes (P.items limits 1) (source (now (src .entry)) (now (ids .entry)) (now (ends .entry))) d r (bufs (now (events .entry)) (now (errors .entry)) (now (scratch .entry))) (bufs (now (events .exit)) (now (errors .exit)) (now (scratch .exit))) ⌝ }
+{
+    let s = d.state;
+    if over(s, ids) {
+        return d;
+    }
+    let t = s.trivia(ids, ends, events);
+    let h = at_hand(t, d.before, src, ids, ends, events, errors, scratch);
+    let u = tell(h.state, h.before, errors, events);
+    settle(u, scratch)
+}
+
+// All items: each takes a row, so there are no more of them than rows.
+pub fn items(
+    mut d: Desk,
+    src: &[u8],
+    ids: &[u32],
+    ends: &[u32],
+    events: &mut [u32],
+    errors: &mut [u32],
+    scratch: &mut [u64],
+) -> Desk
+    requires { ⌜ Rows (source (now src) (now ids) (now ends)) × Wf (source (now src) (now ids) (now ends)) (bufs (now events) (now errors) (now scratch)) (d .state) × Settled (d .state) ⌝ }
+    ensures { λ r. ⌜ Goes (P.items limits (length (now (ids .entry)))) (source (now (src .entry)) (now (ids .entry)) (now (ends .entry))) d r (bufs (now (events .entry)) (now (errors .entry)) (now (scratch .entry))) (bufs (now (events .exit)) (now (errors .exit)) (now (scratch .exit))) ⌝ }
+{
+    let mut n = ids.len();
+    while n > 0 {
+        if over(d.state, ids) {
+            return d;
+        }
+        d = item(d, src, ids, ends, events, errors, scratch);
+        n -= 1;
+    }
+    d
+}

@@ -1,0 +1,2 @@
+// The desk: items, one after another.
+pub mod items;
