@@ -5,3 +5,5 @@ pub mod Stray
 pub mod Hand
 pub mod Between
 pub mod Start
+pub mod Whole
+pub mod Answering

@@ -14,7 +14,7 @@ use Rattle.merger.specs.Count.{sized, counted}
 use Rattle.merger.specs.Events.{rest}
 use Rattle.merger.specs.Pen.{Writable}
 use Rattle.merger.specs.Answer.{returning}
-use Rattle.merger.proofs.Lists.{cleared}
+use Rattle.cells.proofs.Zeros.{cleared}
 use Rattle.merger.specs.declared.judge.Size.the-variants as size
 use Rattle.merger.specs.declared.Merged.the-variants.{Malformed, Unpaired, Full, Events}
 

@@ -60,13 +60,3 @@ quad-amid p q e =
     ap₂ (λ (x y : ℕ × ℕ). (x .0, x .1, y .0, y .1))
     (ap₂ (λ (a b : ℕ). (a, b)) (getD-append-seam p (e .0) _ 0) (getD-append-add p t 1 0))
     (ap₂ (λ (a b : ℕ). (a, b)) (getD-append-add p t 2 0) (getD-append-add p t 3 0))
-
-pub filled : (l : List ℕ) (n : ℕ) → n ≡ length l → replicate n 0 ++ drop n l ≡ replicate (length l) 0
-filled l n e = ap (λ (i : ℕ). replicate i 0 ++ drop i l) e ∙ ap (λ (t : List ℕ). replicate (length l) 0 ++ t) (drop-length l) ∙ append-nil (replicate (length l) 0)
-
--- a part lent from a place to the end, and filled with zeros
-pub cleared : (w ys : List ℕ) (a : ℕ) → a ≤ length w → ys ≡ replicate (length (midOf a (length w - a) w)) 0 → putMid a (length w - a) w ys ≡ take a w ++ replicate (length w - a) 0
-cleared w ys a h z =
-    ap (λ (t : List ℕ). take a w ++ t)
-    (ap₂ _++_ (z ∙ ap (λ (n : ℕ). replicate n 0) (mid-len a (length w) w (le-refl (length w)))) (post-is a (length w) w h ∙ drop-length w)
-    ∙ append-nil (replicate (length w - a) 0))

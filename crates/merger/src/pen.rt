@@ -9,7 +9,7 @@ use crate::marks::read;
 use kinds::kind::ERROR;
 ghost use mathlib.Core.Path.{_≡_};
 ghost use Prim.Native.Nat.{_*_, min, max};
-ghost use lib.ListN.{length, take, replicate};
+ghost use lib.ListN.{length, take};
 ghost use Rattle.peg.specs.Render.{flat};
 ghost use Rattle.peg.specs.Merge as D;
 ghost use Rattle.merger.specs.Events.{markOf, quadOf};
@@ -122,15 +122,5 @@ pub fn write(events: &[u32], room: &mut [u32])
         at = n.past;
         let m = n.mark;
         pen = pen.turn(m, room);
-    }
-}
-
-pub fn clear(cells: &mut [u32])
-    ensures { λ r. ⌜ now (cells .exit) ≡ replicate (length (now (cells .entry))) 0 ⌝ }
-{
-    let mut i = 0;
-    while i < cells.len() {
-        cells[i] = 0;
-        i += 1;
     }
 }

@@ -7,15 +7,15 @@ use lib.ListN.{length}
 use Rattle.reader.specs.Means.{source}
 use Rattle.desk.proofs.Between.{idles, more, item-goes, settle-asks}
 """
-X='(source ({Start} .args .src .now) ({Start} .args .ids .now) ({Start} .args .ends .now))'
-T='({trivia} .ensures ({Start} .args .src .now))'
+X='(source ({args} .src .now) ({args} .ids .now) ({args} .ends .now))'
+T='({trivia} .ensures ({args} .src .now))'
 U='({tell} .ensures '+X+' _ ({at-hand} .ensures .wf))'
 ANS={
-'returns':'idles ({Start} .pre .1) ({Start} .pre .2) 1 (sym ({over} .ensures) ∙ {if1} .taken)',
-'trivia-requires':'({Start} .pre .0 .lines, {Start} .pre .1 .0, {Start} .pre .1 .1 .events)',
-'at-hand-requires':'({Start} .pre .0, '+T+' .did ({Start} .args .errors .now) ({Start} .args .scratch .now) ({Start} .pre .1) .wf)',
+'returns':'idles ({pre} .1) ({pre} .2) 1 (sym ({over} .ensures) ∙ {if1} .taken)',
+'trivia-requires':'({pre} .0 .lines, {pre} .1 .0, {pre} .1 .1 .events)',
+'at-hand-requires':'({pre} .0, '+T+' .did ({args} .errors .now) ({args} .scratch .now) ({pre} .1) .wf)',
 'tell-requires':'let v = {at-hand} .ensures .wf in (v .0 .2 .events, v .1 .events, v .0 .2 .since, omega (arith, v .0 .2 .errors, v .1 .errors))',
 'settle-requires':'settle-asks '+X+' ({at-hand} .ensures) (λ sc. {tell} .ensures '+X+' sc)',
 'same-length':'{tell} .kept .1 .1 .1 .0 ∙ {at-hand} .kept .1 .1 .1 .1 .1 .0 ∙ {trivia} .kept .1 .1 .1 .0',
-'returns-2':'item-goes '+X+' _ _ _ _ _ _ _ _ _ _ _ _ _ _ ({Start} .pre .0) ({Start} .pre .1) ({Start} .pre .2) (more (length ({Start} .args .ids .now)) ({Start} .args .d .state) (sym ({over} .ensures) ∙ {if1} .left)) '+T+' ({at-hand} .ensures) '+U+' ({settle} .ensures .0) ({settle} .ensures .1) ({settle} .ensures .2) ({settle} .kept .1 .0)',
+'returns-2':'item-goes '+X+' _ _ _ _ _ _ _ _ _ _ _ _ _ _ ({pre} .0) ({pre} .1) ({pre} .2) (more (length ({args} .ids .now)) ({args} .d .state) (sym ({over} .ensures) ∙ {if1} .left)) '+T+' ({at-hand} .ensures) '+U+' ({settle} .ensures .0) ({settle} .ensures .1) ({settle} .ensures .2) ({settle} .kept .1 .0)',
 }

@@ -5,9 +5,9 @@ use mathlib.Core.List.{List, _++_}
 use lib.ListN.{length, set, drop, replicate, length-set}
 use native.Mathlib.Omega.{arith}
 use borrow.Author.Fill.{fill-none, fill-more}
-use Rattle.merger.proofs.Lists.{filled}
-use Rattle.merger.proofs.pen.clear.Statement.{statement}
-use Rattle.merger.proofs.pen.clear.Tie as tie
+use Rattle.cells.proofs.Zeros.{filled}
+use Rattle.cells.proofs.clear.Statement.{statement}
+use Rattle.cells.proofs.clear.Tie as tie
 
 abbrev Inv-loop : tie.InvT-loop
 Inv-loop cells₀ i₀ cells i = (i ≤ length cells₀) × (length cells ≡ length cells₀) × (cells ≡ replicate i 0 ++ drop i cells₀)

@@ -1,0 +1,87 @@
+-- SOURCE_FILE around all items.
+use Prim.Native.Nat.{_-_}
+use native.Mathlib.Omega.{arith}
+use mathlib.Core.Path.{sym, _∙_}
+use lib.ListN.{length, length-set}
+use Rattle.kinds.specs.Kinds as k
+use Rattle.reader.proofs.Lists.{stored, take-four, length-four}
+use borrow.Rule.Slice.PartMut.{same-len-mid}
+use Rattle.reader.specs.Means.{source}
+use Rattle.desk.proofs.Whole.{opens, frames}
+use borrow.Author.Needs.{needs}
+use Rattle.desk.proofs.read.whole.Statement.{statement}
+use Rattle.desk.proofs.read.whole.Tie as tie
+use Rattle.desk.proofs.read.whole.Reads as reads
+use Rattle.desk.proofs.read.whole.Lts as lts
+use Rattle.desk.proofs.items.items.Reads as items-reads
+use Rattle.desk.proofs.read.blank.Reads as blank-reads
+use Rattle.reader.proofs.state.State.put.Reads as put-reads
+
+cast-size : tie.Need-cast-size
+cast-size c = search needs
+
+slice-write-events : tie.Need-slice-write-events
+slice-write-events c = search needs
+
+slice-write-events-2 : tie.Need-slice-write-events-2
+slice-write-events-2 c = simp length-set (omega (arith, c .before .before .before .before .before .before .pre .3))
+
+slice-write-events-3 : tie.Need-slice-write-events-3
+slice-write-events-3 c = simp length-set (omega (arith, c .before .before .before .before .before .before .pre .3))
+
+slice-write-events-4 : tie.Need-slice-write-events-4
+slice-write-events-4 c = search needs
+
+sub-blank : tie.Need-sub-blank
+sub-blank c = search needs
+
+blank-requires : tie.Need-blank-requires
+blank-requires c κs = search needs
+
+sub-inner : tie.Need-sub-inner
+sub-inner c = search needs
+
+part-inner-start : tie.Need-part-inner-start
+part-inner-start c = search needs
+
+part-inner-end : tie.Need-part-inner-end
+part-inner-end c = search needs
+
+items-requires : tie.Need-items-requires
+items-requires c κs = let w = opens (source (c .before .before .before .before .before .before .before .before .before .before .before .args .src .now) (c .before .before .before .before .before .before .before .before .before .before .before .args .ids .now) (c .before .before .before .before .before .before .before .before .before .before .before .args .ends .now)) (c .before .before .before .before .before .before .before .before .before .before .before .args .fuel) (stored (c .before .before .before .before .before .before .before .before .before .before .before .args .events .now) 0 1 k.SOURCE-FILE 0 (length (c .before .before .before .before .before .before .before .before .before .before .before .args .src .now))) (c .before .before .before .before .before .before .before .before .before .before .before .args .errors .now) (c .before .before .before .before .before .before .before .before .before .before .before .args .scratch .now) (c .before .before .before .before .blank .ensures) (c .before .before .before .before .before .before .before .before .before .before .before .pre .2) in (c .before .before .before .before .before .before .before .before .before .before .before .pre .0, w .0, w .1)
+
+put-requires : tie.Need-put-requires
+put-requires c κs = search needs
+
+same-length : tie.Need-same-length
+same-length c = search needs
+
+same-length-2 : tie.Need-same-length-2
+same-length-2 c = same-len-mid 4 (length (stored (c .before .before .before .before .before .before .before .before .before .before .before .before .before .before .before .before .before .before .before .before .before .before .args .events .now) 0 1 k.SOURCE-FILE 0 (length (c .before .before .before .before .before .before .before .before .before .before .before .before .before .before .before .before .before .before .before .before .before .before .args .src .now))) - 4) (stored (c .before .before .before .before .before .before .before .before .before .before .before .before .before .before .before .before .before .before .before .before .before .before .args .events .now) 0 1 k.SOURCE-FILE 0 (length (c .before .before .before .before .before .before .before .before .before .before .before .before .before .before .before .before .before .before .before .before .before .before .args .src .now))) (c .before .before .put .last .1 .1 .1 .1 .1 .0) (c .before .before .put .kept .1 .1 .1 .1 .1 .0 ∙ c .before .before .before .before .before .before .before .before .before .before .items .kept .1 .1 .1 .1 .0) ∙ length-four (c .before .before .before .before .before .before .before .before .before .before .before .before .before .before .before .before .before .before .before .before .before .before .args .events .now) 0 1 k.SOURCE-FILE 0 (length (c .before .before .before .before .before .before .before .before .before .before .before .before .before .before .before .before .before .before .before .before .before .before .args .src .now))
+
+same-length-3 : tie.Need-same-length-3
+same-length-3 c = search needs
+
+returns : tie.Need-returns
+returns c = frames (source (c .before .before .before .before .before .before .before .before .before .before .before .before .before .before .before .before .before .before .before .before .before .before .args .src .now) (c .before .before .before .before .before .before .before .before .before .before .before .before .before .before .before .before .before .before .before .before .before .before .args .ids .now) (c .before .before .before .before .before .before .before .before .before .before .before .before .before .before .before .before .before .before .before .before .before .before .args .ends .now)) (c .before .before .before .before .before .before .before .before .before .before .before .before .before .before .before .before .before .before .before .before .before .before .args .fuel) (stored (c .before .before .before .before .before .before .before .before .before .before .before .before .before .before .before .before .before .before .before .before .before .before .args .events .now) 0 1 k.SOURCE-FILE 0 (length (c .before .before .before .before .before .before .before .before .before .before .before .before .before .before .before .before .before .before .before .before .before .before .args .src .now))) (c .before .before .before .before .before .before .before .before .before .before .before .before .before .before .before .before .before .before .before .before .before .before .args .errors .now) (c .before .before .before .before .before .before .before .before .before .before .before .before .before .before .before .before .before .before .before .before .before .before .args .scratch .now) (c .before .before .before .before .before .before .before .before .before .before .before .before .before .before .before .blank .ensures) (c .before .before .before .before .before .before .before .before .before .before .before .before .before .before .before .before .before .before .before .before .before .before .pre .1) (omega (arith, c .before .before .before .before .before .before .before .before .before .before .before .before .before .before .before .before .before .before .before .before .before .before .pre .3, length-four (c .before .before .before .before .before .before .before .before .before .before .before .before .before .before .before .before .before .before .before .before .before .before .args .events .now) 0 1 k.SOURCE-FILE 0 (length (c .before .before .before .before .before .before .before .before .before .before .before .before .before .before .before .before .before .before .before .before .before .before .args .src .now)))) _ (length-four (c .before .before .before .before .before .before .before .before .before .before .before .before .before .before .before .before .before .before .before .before .before .before .args .events .now) 0 1 k.SOURCE-FILE 0 (length (c .before .before .before .before .before .before .before .before .before .before .before .before .before .before .before .before .before .before .before .before .before .before .args .src .now))) (take-four (c .before .before .before .before .before .before .before .before .before .before .before .before .before .before .before .before .before .before .before .before .before .before .args .events .now) 0 1 k.SOURCE-FILE 0 (length (c .before .before .before .before .before .before .before .before .before .before .before .before .before .before .before .before .before .before .before .before .before .before .args .src .now)) (c .before .before .before .before .before .before .before .before .before .before .before .before .before .before .before .before .before .before .before .before .before .before .pre .3)) (c .before .before .before .before .before .before .before .before .before .before .items .ensures) (c .before .before .put .ensures)
+
+pub whole-spec : {M : Type 1} → statement M
+whole-spec =
+    tie.close
+    (tie.spec
+    cast-size
+    slice-write-events
+    slice-write-events-2
+    slice-write-events-3
+    slice-write-events-4
+    sub-blank
+    blank-requires
+    sub-inner
+    part-inner-start
+    part-inner-end
+    items-requires
+    put-requires
+    same-length
+    same-length-2
+    same-length-3
+    returns)

@@ -1,0 +1,155 @@
+// The public reader: the refusals in their order, the reading inside SOURCE_FILE, and zeros where they belong.
+use crate::items::Desk;
+use crate::items::items;
+use cells::clear;
+use cells::wipe;
+use kinds::kind;
+use reader::judge::judged;
+use reader::state::State;
+ghost use mathlib.Core.Path.{_≡_};
+ghost use Prim.Native.Nat.{_+_, _*_, _≤_};
+ghost use lib.ListN.{length, replicate};
+ghost use Rattle.peg.specs.Answer.{refusing, after};
+ghost use Rattle.reader.specs.Judge.{desk};
+ghost use Rattle.reader.specs.Means.{limits, source, Rows};
+ghost use Rattle.desk.specs.Items as Items;
+ghost use Rattle.desk.specs.Whole.{Framed, afterOf, answering, outcomeOf};
+
+// A refusal by its number; or outcome, rows covered, counts of events and error records, fuel left.
+pub enum Reading {
+    Refused(u32),
+    Answered {
+        outcome: u32,
+        covered: usize,
+        events: usize,
+        errors: u32,
+        left: u32,
+    },
+}
+
+// Before the first item.
+fn blank(fuel: u32, evcap: usize, ercap: usize) -> Desk
+    ensures { λ r. ⌜ r ≡ Items.blank fuel evcap ercap (replicate 96 0) ⌝ }
+{
+    Desk {
+        state: State {
+            pos: 0,
+            fuel,
+            mode: 0,
+            ev: 0,
+            evcap,
+            er: 0,
+            ercap,
+            item: 0,
+            first: 0,
+            far: 0,
+            want: 0,
+            unwant: 0,
+            full: 0,
+            count: 0,
+            names: [0u8; 96],
+        },
+        before: 0,
+    }
+}
+
+// "Outcome 0 is done, 1 out of fuel, 2 too deep."
+fn outcome(mode: u8) -> u32
+    ensures { λ r. ⌜ r ≡ outcomeOf mode ⌝ }
+{
+    if mode < 2 {
+        return 0;
+    }
+    if mode == 2 {
+        return 1;
+    }
+    2
+}
+
+// SOURCE_FILE around all items, in events with room for its begin event, where scratch is all zero.
+fn whole(
+    src: &[u8],
+    ids: &[u32],
+    ends: &[u32],
+    fuel: u32,
+    scratch: &mut [u64],
+    events: &mut [u32],
+    errors: &mut [u32],
+) -> Desk
+    requires { ⌜ Rows (source (now src) (now ids) (now ends)) × (now scratch ≡ replicate (length (now scratch)) 0) × (2 * (length (now ids) + 1) ≤ 64 * length (now scratch)) × (4 ≤ length (now events)) ⌝ }
+    ensures { λ r. ⌜ Framed (source (now (src .entry)) (now (ids .entry)) (now (ends .entry))) fuel (length (now (events .entry))) (length (now (errors .entry))) r (now (events .exit)) (now (errors .exit)) ⌝ }
+{
+    let size = src.len() as u32;
+    events[0] = 1;
+    events[1] = kind::SOURCE_FILE;
+    events[2] = 0;
+    events[3] = size;
+    let d = blank(fuel, events.len() - 4, errors.len());
+    let inner = &mut events[4..];
+    let r = items(d, src, ids, ends, inner, errors, scratch);
+    let s = r.state;
+    let t = s.put(3, kind::SOURCE_FILE, 0, size, inner);
+    Desk {
+        state: t,
+        before: r.before,
+    }
+}
+
+// A room was exceeded: everything is zero.
+fn spoilt(number: u32, scratch: &mut [u64], events: &mut [u32], errors: &mut [u32]) -> Reading
+    ensures { λ r. ⌜ afterOf r (now (events .exit)) (now (errors .exit)) (now (scratch .exit)) ≡ refusing number (replicate (length (now (events .entry))) 0) (replicate (length (now (errors .entry))) 0) (replicate (length (now (scratch .entry))) 0) ⌝ }
+{
+    wipe(scratch);
+    clear(events);
+    clear(errors);
+    Reading::Refused(number)
+}
+
+// The finished lists, with zeros behind them.
+fn answered(d: Desk, scratch: &mut [u64], events: &mut [u32], errors: &mut [u32]) -> Reading
+    requires { ⌜ (d .state .ev + 4 ≤ length (now events)) × (d .state .er ≤ length (now errors)) ⌝ }
+    ensures { λ r. ⌜ afterOf r (now (events .exit)) (now (errors .exit)) (now (scratch .exit)) ≡ answering d (now (events .entry)) (now (errors .entry)) (now (scratch .entry)) ⌝ }
+{
+    let s = d.state;
+    wipe(scratch);
+    let to = s.ev + 4;
+    let er = s.er;
+    clear(&mut events[to..]);
+    clear(&mut errors[er..]);
+    Reading::Answered {
+        outcome: outcome(s.mode),
+        covered: s.pos,
+        events: to / 4,
+        errors: d.before,
+        left: s.fuel,
+    }
+}
+
+// Reads rows into events and error records, both lists from the first cell on.
+pub fn read(
+    src: &[u8],
+    ids: &[u32],
+    starts: &[u32],
+    ends: &[u32],
+    fuel: u32,
+    scratch: &mut [u64],
+    events: &mut [u32],
+    errors: &mut [u32],
+) -> Reading
+    ensures { λ r. ⌜ afterOf r (now (events .exit)) (now (errors .exit)) (now (scratch .exit)) ≡ after limits (desk (now (src .entry)) (now (ids .entry)) (now (starts .entry)) (now (ends .entry)) fuel (now (scratch .entry)) (now (events .entry)) (now (errors .entry))) ⌝ }
+{
+    let n = judged(src, ids, starts, ends, scratch.len());
+    if n != 0 {
+        return Reading::Refused(n);
+    }
+    if events.len() < 4 {
+        return spoilt(7, scratch, events, errors);
+    }
+    wipe(scratch);
+    let d = whole(src, ids, ends, fuel, scratch, events, errors);
+    let s = d.state;
+    if s.full != 0 {
+        return spoilt(s.full as u32, scratch, events, errors);
+    }
+    answered(d, scratch, events, errors)
+}
