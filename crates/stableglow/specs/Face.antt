@@ -1,6 +1,7 @@
 -- What the exports return and leave behind, in numbers.
 use Prim.Native.Nat.{ℕ, _%_, _^_}
 use mathlib.Core.List.{List, [], _∷_}
+use Rattle.peg.specs.Answer.{After}
 use Rattle.peg.specs.Merge.{Returned}
 
 -- the refusal's number, the count's cell and the room; the cell has 32 bits, and a list whose count needs more takes 64 GiB
@@ -14,3 +15,24 @@ face r = record { number = r .number; count = (r .count % 2 ^ 32) ∷ []; room =
 
 abbrev pub faced : ℕ → List ℕ → List ℕ → Face
 faced number count room = record { number = number; count = count; room = room }
+
+-- the refusal's number, the answer's five cells, and the three buffers; rows and counts in cells of 32 bits
+pub record ReadFace : Type 0 where
+  pub number : ℕ
+  pub answer : List ℕ
+  pub events : List ℕ
+  pub errors : List ℕ
+  pub scratch : List ℕ
+
+abbrev pub readFace : After → ReadFace
+readFace a =
+    record {
+      number = a .number;
+      answer = a .outcome ∷ (a .covered % 2 ^ 32) ∷ (a .event-count % 2 ^ 32) ∷ a .error-count ∷ a .left ∷ [];
+      events = a .events;
+      errors = a .errors;
+      scratch = a .scratch;
+    }
+
+abbrev pub readFaced : ℕ → List ℕ → List ℕ → List ℕ → List ℕ → ReadFace
+readFaced number answer events errors scratch = record { number = number; answer = answer; events = events; errors = errors; scratch = scratch }

@@ -1,8 +1,49 @@
 // The public face: what C and Rust link.
+use desk::read::Reading;
 use merger::Merged;
 ghost use mathlib.Core.Path.{_≡_};
+ghost use Rattle.peg.specs.Answer.{after};
 ghost use Rattle.peg.specs.Merge.{merging};
-ghost use Rattle.stableglow.specs.Face.{face, faced};
+ghost use Rattle.reader.specs.Judge.{desk};
+ghost use Rattle.reader.specs.Means.{limits};
+ghost use Rattle.stableglow.specs.Face.{face, faced, readFace, readFaced};
+
+// Reads rows into events and error records. Returns the refusal's number, 0 for an answer; `answer` holds outcome, rows covered, counts of events and of
+// error records, fuel left.
+#[no_mangle]
+pub extern "C" fn stableglow_read(
+    source: &[u8],
+    ids: &[u32],
+    starts: &[u32],
+    ends: &[u32],
+    fuel: u32,
+    scratch: &mut [u64],
+    events: &mut [u32],
+    errors: &mut [u32],
+    answer: &mut [u32; 5],
+) -> u32
+    ensures { λ r. ⌜ readFaced r (now (answer .exit)) (now (events .exit)) (now (errors .exit)) (now (scratch .exit)) ≡ readFace (after limits (desk (now (source .entry)) (now (ids .entry)) (now (starts .entry)) (now (ends .entry)) fuel (now (scratch .entry)) (now (events .entry)) (now (errors .entry)))) ⌝ }
+{
+    let reading = desk::read::read(source, ids, starts, ends, fuel, scratch, events, errors);
+    match reading {
+        Reading::Refused(number) => {
+            *answer = [0, 0, 0, 0, 0];
+            number
+        }
+        Reading::Answered {
+            outcome,
+            covered,
+            events: written,
+            errors: records,
+            left,
+        } => {
+            let rows = (covered % 4294967296) as u32;
+            let count = (written % 4294967296) as u32;
+            *answer = [outcome, rows, count, records, left];
+            0
+        }
+    }
+}
 
 // Joins neighbouring ERROR nodes of an event list into the room. Returns the refusal's number, 0 for an answer; the count of events stands in `count`.
 #[no_mangle]

@@ -1,0 +1,68 @@
+-- The C face of the reader: each case of the enum in numbers.
+use mathlib.Core.Path.{sym, ap, _∙_}
+use Rattle.desk.specs.declared.read.Reading.{Reading}
+use Rattle.desk.specs.Whole.{afterOf}
+use Rattle.stableglow.specs.Face.{readFace}
+use borrow.Author.Needs.{needs}
+use Rattle.stableglow.proofs.stableglow_read.Statement.{statement}
+use Rattle.stableglow.proofs.stableglow_read.Tie as tie
+use Rattle.stableglow.proofs.stableglow_read.Reads as reads
+use Rattle.stableglow.proofs.stableglow_read.Lts as lts
+use Rattle.desk.proofs.read.read.Reads as read-reads
+
+read-requires : tie.Need-read-requires
+read-requires c κs = search needs
+
+enum-known-reading : tie.Need-enum-known-reading
+enum-known-reading c = search needs
+
+enum-known-reading-2 : tie.Need-enum-known-reading-2
+enum-known-reading-2 c = search needs
+
+cast-rows : tie.Need-cast-rows
+cast-rows c = search needs
+
+cast-count : tie.Need-cast-count
+cast-count c = search needs
+
+same-length : tie.Need-same-length
+same-length c = search needs
+
+same-length-2 : tie.Need-same-length-2
+same-length-2 c = search needs
+
+same-length-3 : tie.Need-same-length-3
+same-length-3 c = search needs
+
+returns : tie.Need-returns
+returns c = ap (λ (m : Reading). readFace (afterOf m (c .before .before .before .before .before .before .before .before .before .before .read .last .1 .1 .1 .1 .1 .1 .0) (c .before .before .before .before .before .before .before .before .before .before .read .last .1 .1 .1 .1 .1 .1 .1 .0) (c .before .before .before .before .before .before .before .before .before .before .read .last .1 .1 .1 .1 .1 .0))) (sym (c .before .before .reading .given .1)) ∙ ap readFace (c .before .before .before .before .before .before .before .before .before .before .read .ensures)
+
+same-length-4 : tie.Need-same-length-4
+same-length-4 c = search needs
+
+same-length-5 : tie.Need-same-length-5
+same-length-5 c = search needs
+
+same-length-6 : tie.Need-same-length-6
+same-length-6 c = search needs
+
+returns-2 : tie.Need-returns-2
+returns-2 c = ap (λ (m : Reading). readFace (afterOf m (c .before .before .before .before .before .before .before .before .before .before .read .last .1 .1 .1 .1 .1 .1 .0) (c .before .before .before .before .before .before .before .before .before .before .read .last .1 .1 .1 .1 .1 .1 .1 .0) (c .before .before .before .before .before .before .before .before .before .before .read .last .1 .1 .1 .1 .1 .0))) (sym (c .before .before .reading2 .given .1)) ∙ ap readFace (c .before .before .before .before .before .before .before .before .before .before .read .ensures)
+
+pub stableglow-read-spec : {M : Type 1} → statement M
+stableglow-read-spec =
+    tie.close
+    (tie.spec
+    read-requires
+    enum-known-reading
+    enum-known-reading-2
+    cast-rows
+    cast-count
+    same-length
+    same-length-2
+    same-length-3
+    returns
+    same-length-4
+    same-length-5
+    same-length-6
+    returns-2)
