@@ -1,8 +1,9 @@
 #!/usr/bin/env python3
 """table.py [--check]: writes the grammar's table, crates/grammar/src/table.rt and crates/grammar/specs/Rows.antt, from the lines below.
 
-A line is built of the module's combinators. A row of the table is a combinator: its number, then its two operands, which are a
-set and a name, a kind and the row of its line, or rows that stand before it. Parts that are the same share a row."""
+A line is built of the module's combinators. A row of the table is a combinator and its two operands, which are a set and a name, a
+kind and the row of its line, or rows that stand before it: one number, in hexadecimal the combinator's digit and three digits for
+each operand. Parts that are the same share a row."""
 import re
 import sys
 from pathlib import Path
@@ -141,18 +142,10 @@ def row(part):
         r = (op, row(rest[0]), 0)
     if r not in known:
         known[r] = len(rows)
-        rows.append((r, text(part)))
+        rows.append(r)
     if op == "Alt" and not r[1] < r[2]:
         raise SystemExit(f"an alternative stands behind those that follow it: {r}")
     return known[r]
-
-
-def text(part):
-    def show(p):
-        if isinstance(p, tuple):
-            return p[0] if p[0] in () else p[0].lower()
-        return str(p)
-    return part[0] + " " + " ".join(p for p in part[1:] if isinstance(p, str))
 
 
 def numbered():
@@ -163,21 +156,25 @@ def numbered():
         lines[name] = root
         sections.append((comment, begin, len(rows)))
     out = []
-    for (op, a, b), t in rows:
+    for op, a, b in rows:
         if a == "kind":
             a, b = KIND[b], lines[b]
-        out.append((OPS.index(op), a, b, t.strip()))
+        out.append((OPS.index(op), a, b))
     return out
 
 
+def packed(row):
+    op, first, second = row
+    return op << 24 | first << 12 | second
+
+
 def source(table):
-    out = ["// The grammar's lines as rows: a combinator, and its two operands. Written by tools/table.py.\n"]
+    out = ["// The grammar's lines as rows, in hexadecimal: a digit for the combinator, three for each of its two operands. Written by tools/table.py.\n"]
     out.append(f"// The row of an item that begins with a rule keyword.\npub const ITEM: usize = {lines['ITEM']};\n")
-    out.append(f"pub const CELLS: [u32; {3 * len(table)}] = [")
+    out.append(f"pub const ROWS: [u32; {len(table)}] = [")
     for comment, begin, end in sections:
         out.append(f"    // {comment}")
-        for op, a, b, t in table[begin:end]:
-            out.append(f"    {op}, {a}, {b},")
+        out.extend(f"    0x{packed(row):07x}," for row in table[begin:end])
     out.append("];")
     return "\n".join(out) + "\n"
 
@@ -186,8 +183,8 @@ def spec(table):
     head = "-- The rows of the grammar's table, as the code has them. Written by tools/table.py.\n"
     head += "use Prim.Native.Nat.{ℕ}\nuse mathlib.Core.List.{List, [], _∷_}\n\n"
     head += f"-- how many there are, and the row of an item that begins with a rule keyword\nabbrev pub size : ℕ\nsize = {len(table)}\n\nabbrev pub item : ℕ\nitem = {lines['ITEM']}\n\n"
-    head += "abbrev pub cells : List ℕ\ncells =\n"
-    return head + "\n".join(f"    {'' if i == 0 else '∷ '}{op} ∷ {a} ∷ {b}" for i, (op, a, b, _) in enumerate(table)) + "\n    ∷ []\n"
+    head += "abbrev pub rows : List ℕ\nrows =\n"
+    return head + "\n".join(f"    {'' if i == 0 else '∷ '}{packed(row)}" for i, row in enumerate(table)) + "\n    ∷ []\n"
 
 
 def main():

@@ -125,11 +125,15 @@ module _ (d : Desk) where
       where
         q : Finished (source-of d) (d .fuel) r ev er
         q = f .finished h
+
         count : (r .state .ev + 4) / 4 ≡ length (rendered limits (source-of d) (reading (source-of d) (d .fuel)) .events)
         count = omega (arith, q .event-count)
+
         events : take (r .state .ev + 4) ev ++ replicate (length ev - (r .state .ev + 4)) 0 ≡ left-by d (given (rendered limits (source-of d) (reading (source-of d) (d .fuel)))) .events
         events = laid _ ev (r .state .ev + 4) (d .events) (q .events) (q .event-fits) i
+
         errors : take (r .state .er) er ++ replicate (length er - r .state .er) 0 ≡ left-by d (given (rendered limits (source-of d) (reading (source-of d) (d .fuel)))) .errors
         errors = laid _ er (r .state .er) (d .errors) (q .errors) (q .error-fits) j
+
         whole : answering r ev er sc ≡ left-by d (given (rendered limits (source-of d) (reading (source-of d) (d .fuel))))
         whole = λ t. record { number = 0; outcome = q .outcome t; covered = q .covered t; event-count = count t; error-count = q .error-count t; left = q .left t; events = events t; errors = errors t; scratch = replicate (l t) 0 }

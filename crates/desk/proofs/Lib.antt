@@ -7,3 +7,4 @@ pub mod Between
 pub mod Start
 pub mod Whole
 pub mod Answering
+pub mod Demands

@@ -40,11 +40,14 @@ no-bits n i = ap (λ (w : ℕ). eqb (w / 2 ^ (i % 64) % 2) 1) (zero-at n (i / 64
 
 -- before the first item
 pub blank-wf : (x : Source) (fuel evcap ercap : ℕ) (ev er sc : List ℕ) → evcap ≤ length ev → ercap ≤ length er → 2 * (length (x .ids) + 1) ≤ 64 * length sc → Wf x (bufs ev er sc) (blank fuel evcap ercap (replicate 96 0) .state)
-blank-wf x fuel evcap ercap ev er sc h i j =
-    ((record { here = omega arith; since = le-refl 0; far-in = omega arith; want-in = omega arith; want-since = λ n. absurd (n refl); unwant-in = omega arith; unwant-since = λ n. absurd (n refl) }
-    , record { few = omega arith; long = length-replicate {A = ℕ} 96 0; below = tt; distinct = tt }
-    , record { events = omega arith; since = le-refl 0; errors = omega arith })
-    , record { events = h; errors = i; scratch = j })
+blank-wf x fuel evcap ercap ev er sc h i j = (
+  (
+    record { here = omega arith; since = le-refl 0; far-in = omega arith; want-in = omega arith; want-since = λ n. absurd (n refl); unwant-in = omega arith; unwant-since = λ n. absurd (n refl) },
+    record { few = omega arith; long = length-replicate {A = ℕ} 96 0; below = tt; distinct = tt },
+    record { events = omega arith; since = le-refl 0; errors = omega arith },
+  ),
+  record { events = h; errors = i; scratch = j },
+)
 
 -- nothing is chosen between two items
 again-chosen : (m : Mode) (s : P.State) → P.again (P.turn m s) .chosen ≡ s .chosen
@@ -81,7 +84,7 @@ flat-length [] = refl
 flat-length (e ∷ a) = omega (arith, flat-length a)
 
 module _ (x : Source) (fuel evcap R : ℕ) {d : Desk} {t : State} {ev₁ ev₂ er sc : List ℕ}
-  (B : Between (evcap + 4) R x d (bufs ev₁ er sc) (reading x fuel)) (w : Wf x (bufs ev₁ er sc) (d .state)) (put : Put (four 3 k.SOURCE-FILE 0 (length (x .bytes))) (d .state) t ev₁ ev₂) where
+    (B : Between (evcap + 4) R x d (bufs ev₁ er sc) (reading x fuel)) (w : Wf x (bufs ev₁ er sc) (d .state)) (put : Put (four 3 k.SOURCE-FILE 0 (length (x .bytes))) (d .state) t ev₁ ev₂) where
   a : P.State
   a = reading x fuel
 
@@ -92,24 +95,32 @@ module _ (x : Source) (fuel evcap R : ℕ) {d : Desk} {t : State} {ev₁ ev₂ e
     where
       past : d .state .full ≡ over (evcap + 4) R (moments-of limits x (reading x fuel .drafts))
       past = B .stands .over
+
       last : ℕ × ℕ
       last = (4 * suc (suc (length (reading x fuel .out))), said limits x (reading x fuel .out))
+
       goal : ℕ → Type 0
       goal v = t .full ≡ first-of v (exceeds (evcap + 4) R last)
+
       go : Dec (d .state .full ≡ 0) → goal (over (evcap + 4) R (moments-of limits x (reading x fuel .drafts)))
       go (no n) = put .stuck n ∙ past ∙ sym (full-first _ _ (λ z. n (past ∙ z)))
       go (yes z) = subst goal (sym z ∙ past) (fits (decLt (d .state .evcap) (d .state .ev + 4)))
         where
           m : Means (pastOf (evcap + 4) R x (reading x fuel)) x (d .state) (bufs ev₁ er sc) (reading x fuel)
           m = B .stands .means z
+
           room : evcap + 4 ≡ d .state .evcap + 4
           room = m .written .room
+
           wide : R ≡ d .state .ercap
           wide = m .chosen .room
+
           many : d .state .ev ≡ 4 * length (reading x fuel .out)
           many = ev-count w m
+
           told : said limits x (reading x fuel .out) ≤ R
           told = omega (arith, er-count w m, wide, w .0 .2 .errors)
+
           fits : Dec (d .state .evcap < d .state .ev + 4) → goal 0
           fits (yes h) = put .filled z ∙ ap (λ (c : Bool). ifb c 7 0) (lt-ltb (d .state .evcap) (d .state .ev + 4) h) ∙ sym (exceeds-events (evcap + 4) R last (omega (arith, h, room, many)))
           fits (no h) = put .filled z ∙ ap (λ (c : Bool). ifb c 7 0) (le-ltb (d .state .evcap) (d .state .ev + 4) (omega (arith, h))) ∙ sym (exceeds-none (evcap + 4) R last (omega (arith, h, room, many)) told)
@@ -131,7 +142,7 @@ module _ (x : Source) (fuel evcap R : ℕ) {d : Desk} {t : State} {ev₁ ev₂ e
         ∙ ap (λ (n : ℕ). take n (four 1 k.SOURCE-FILE 0 (length (x .bytes)) ++ (ev₂ ++ rest))) (add-comm (t .ev) 4)
         ∙ take-append-add (four 1 k.SOURCE-FILE 0 (length (x .bytes))) (ev₂ ++ rest) (t .ev)
         ∙ ap (λ (l : List ℕ). four 1 k.SOURCE-FILE 0 (length (x .bytes)) ++ l)
-            (take-append-le (t .ev) ev₂ rest fits ∙ inner ∙ sym (flat-end (inside x (reading x fuel .out)) (3, k.SOURCE-FILE, 0, length (x .bytes))))
+        (take-append-le (t .ev) ev₂ rest fits ∙ inner ∙ sym (flat-end (inside x (reading x fuel .out)) (3, k.SOURCE-FILE, 0, length (x .bytes))))
 
     records-are : take (d .state .er) er ≡ flat-records (records limits x (reading x fuel .out) [])
     unfolding recorded
@@ -167,11 +178,11 @@ module _ (x : Source) (fuel : ℕ) (xs er₀ sc₀ : List ℕ) {d₀ : Desk} (e 
   pub opens : 2 * (length (x .ids) + 1) ≤ 64 * length sc₀ → Wf x (bufs (midOf 4 (length xs - 4) xs) er₀ sc₀) (d₀ .state) × Settled (d₀ .state)
   opens i =
       subst (λ (c : Desk). Wf x (bufs (midOf 4 (length xs - 4) xs) er₀ sc₀) (c .state) × Settled (c .state)) (sym e)
-        (blank-wf x fuel (length xs - 4) (length er₀) (midOf 4 (length xs - 4) xs) er₀ sc₀ (omega (arith, mid-len 4 (length xs) xs (le-refl (length xs)))) (le-refl (length er₀)) i, (refl, refl))
+      (blank-wf x fuel (length xs - 4) (length er₀) (midOf 4 (length xs - 4) xs) er₀ sc₀ (omega (arith, mid-len 4 (length xs) xs (le-refl (length xs)))) (le-refl (length er₀)) i, (refl, refl))
 
   pub frames : {d : Desk} {t : State} {ev₁ ev₂ er sc : List ℕ} → sc₀ ≡ replicate (length sc₀) 0 → 4 ≤ length xs → (E : ℕ) → length xs ≡ E → take 4 xs ≡ four 1 k.SOURCE-FILE 0 (length (x .bytes)) →
-    Goes (P.items limits (length (x .ids))) x d₀ d (bufs (midOf 4 (length xs - 4) xs) er₀ sc₀) (bufs ev₁ er sc) → Put (four 3 k.SOURCE-FILE 0 (length (x .bytes))) (d .state) t ev₁ ev₂ →
-    Framed x fuel E (length er₀) (record { state = t; before = d .before }) (putMid 4 (length xs - 4) xs ev₂) er
+      Goes (P.items limits (length (x .ids))) x d₀ d (bufs (midOf 4 (length xs - 4) xs) er₀ sc₀) (bufs ev₁ er sc) → Put (four 3 k.SOURCE-FILE 0 (length (x .bytes))) (d .state) t ev₁ ev₂ →
+      Framed x fuel E (length er₀) (record { state = t; before = d .before }) (putMid 4 (length xs - 4) xs ev₂) er
   frames {d} {t} {ev₁} {ev₂} {er} {sc} none h E whole front g put =
       record {
         full = exceeded x fuel (length xs - 4) (length er₀) B (g .wf) put ∙ ap (λ (n : ℕ). over n (length er₀) (moments limits x (reading x fuel))) room;
@@ -180,10 +191,11 @@ module _ (x : Source) (fuel : ℕ) (xs er₀ sc₀ : List ℕ) {d₀ : Desk} (e 
     where
       room : length xs - 4 + 4 ≡ E
       room = omega (arith, h, whole)
+
       B : Between (length xs - 4 + 4) (length er₀) x d (bufs ev₁ er sc) (reading x fuel)
       B =
           reads x fuel (length xs - 4) (length er₀) (replicate 96 0) (midOf 4 (length xs - 4) xs) er₀ sc₀ (λ i. ap (λ (l : List ℕ). bitAt l i) none ∙ no-bits (length sc₀) i)
-            (subst (λ (c : Desk). Goes (P.items limits (length (x .ids))) x c d (bufs (midOf 4 (length xs - 4) xs) er₀ sc₀) (bufs ev₁ er sc)) e g)
+          (subst (λ (c : Desk). Goes (P.items limits (length (x .ids))) x c d (bufs (midOf 4 (length xs - 4) xs) er₀ sc₀) (bufs ev₁ er sc)) e g)
 
 -- outcomes by the code's mode
 pub done : (m : ℕ) → m < 2 → 0 ≡ outcomeOf m

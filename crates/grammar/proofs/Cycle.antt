@@ -121,12 +121,12 @@ module _ {F : P.Reader} {d : ℕ} {o : Bool} {x : Source} {s₀ s : State} {m : 
     pub again : {z : State} → r .mode ≡ 1 → z ≡ withMode 0 (gone m r) → Tries F d o q x s₀ z m b₀ b′
     again {z} h e =
         subst (λ (u : State). Tries F d o q x s₀ u m b₀ b′) (sym (e ∙ ap (λ (c : Mark). withMode 0 (gone c r)) (t .mark)))
-          (record
-            { go = λ v. t .go (alt-next (reads d true p) (reads d o q) (λ c. sticky-exec c x d p true) (λ c. sticky-exec c x d q o) (t .good) y (t .here .wf) h v)
-            ; here = idle (gone-wf (t .here .wf) y) (λ p a t. like-same refl)
-            ; good = refl
-            ; mark = t .mark
-            })
+        (record {
+          go = λ v. t .go (alt-next (reads d true p) (reads d o q) (λ c. sticky-exec c x d p true) (λ c. sticky-exec c x d q o) (t .good) y (t .here .wf) h v);
+          here = idle (gone-wf (t .here .wf) y) (λ p a t. like-same refl);
+          good = refl;
+          mark = t .mark;
+        })
 
   -- the last one
   pub tried-last : {p : Prog} (t : Tries F d o (last p) x s₀ s m b₀ b) {r : State} {b′ : Bufs} → Did (λ a. reads d true p (P.trivia a)) x s r b b′ → {z : State} → z ≡ lostTo m r → Did F x s₀ z b₀ b′
@@ -134,11 +134,12 @@ module _ {F : P.Reader} {d : ℕ} {o : Bool} {x : Source} {s₀ s : State} {m : 
     where
       sticks : (c : Past) → Sticks c x (reads d true p)
       sticks c = sticky-exec c x d p true
+
       go : Dec (r .mode ≡ 1) → Did (reads d o (last p)) x s z b b′
       go (no n) = subst (λ (u : State). Did (reads d o (last p)) x s u b b′) (lost-on m r n ∙ sym e) (alt-on (reads d true p) P.fails sticks (λ c. sticky c x .at-fail) (t .good) y n)
       go (yes h) =
           subst (λ (u : State). Did (reads d o (last p)) x s u b b′) ((λ i. withMode (sym h i) (gone (sym (t .mark) i) r)) ∙ lost-back m r h ∙ sym e)
-            (alt-next (reads d true p) P.fails sticks (λ c. sticky c x .at-fail) (t .good) y (t .here .wf) h (fails-now x (gone (markOf s) r) b′ (gone-wf (t .here .wf) y)))
+          (alt-next (reads d true p) P.fails sticks (λ c. sticky c x .at-fail) (t .good) y (t .here .wf) h (fails-now x (gone (markOf s) r) b′ (gone-wf (t .here .wf) y)))
 
 -- an optional part
 pub waives : (d : ℕ) (o : Bool) (p : Prog) {f : P.Reader} {x : Source} {s₀ s r : State} {m : Mark} {b₀ b b′ : Bufs} → Did f x s₀ s b₀ b → s .mode ≡ 0 → m ≡ markOf s → Did (λ a. reads d true p (P.trivia a)) x s r b b′ → {z : State} → z ≡ waivedTo m r → Did (λ a. reads d o (opt p) (f a)) x s₀ z b₀ b′
@@ -146,6 +147,7 @@ waives d o p {f} {x} {s₀} {s} {r} {m} {b₀} {b} {b′} w good mark y {z} e = 
   where
     sticks : (c : Past) → Sticks c x (reads d true p)
     sticks c = sticky-exec c x d p true
+
     go : Dec (r .mode ≡ 1) → Did (reads d o (opt p)) x s z b b′
     go (no n) = subst (λ (u : State). Did (reads d o (opt p)) x s u b b′) (waived-on m r n ∙ sym e) (opt-on (reads d true p) sticks good y n)
     go (yes h) = subst (λ (u : State). Did (reads d o (opt p)) x s u b b′) ((λ i. withMode 0 (gone (sym mark i) r)) ∙ waived-back m r h ∙ sym e) (opt-back (reads d true p) sticks good y (w .wf) h)
@@ -184,7 +186,7 @@ module _ {f : P.Reader} {x : Source} {s₀ s : State} {k₀ k : ℕ} {ev₀ er�
     pub turns-undone : {m : Mark} {q : State} → (r .mode ≡ 0 → ⊥) → m ≡ markOf s → q ≡ undoneTo m r → Did (P.loops f) x s₀ q (bufs ev₀ er₀ sc₀) (bufs ev′ er′ sc′)
     turns-undone {m} {q} n i j =
         subst (λ (u : State). Did (P.loops f) x s₀ u (bufs ev₀ er₀ sc₀) (bufs ev′ er′ sc′)) (sym (j ∙ ap (λ (c : Mark). undoneTo c r) i))
-          (repeats f k₀ (g .sticks) (g .wf) (g .many) (g .start) (turns-back (g .each) h y (ifb (eqb (r .mode) 1) 0 (r .mode)) (undone-mode (r .mode) n)))
+        (repeats f k₀ (g .sticks) (g .wf) (g .many) (g .start) (turns-back (g .each) h y (ifb (eqb (r .mode) 1) 0 (r .mode)) (undone-mode (r .mode) n)))
 
   pub turns-over : k ≤ 0 → Did (P.loops f) x s₀ s (bufs ev₀ er₀ sc₀) (bufs ev er sc)
   turns-over h = repeats f k₀ (g .sticks) (g .wf) (g .many) (g .start) (turns-end (g .each) h)

@@ -47,14 +47,14 @@ module _ (A : Production) (o : Bool) (d : ℕ) {x : Source} {s s₁ r : State} {
   pub produced : {s₂ : State} {b b₃ : Bufs} → (d ≡ 0 → ⊥) → Did (body (d - 1) o A) x s₁ s₂ (bufs ev₁ er sc) b → Shuts (P.finish o (kind A) (length (x .ids) - s₁ .pos)) (s₁ .ev) x s₂ r b b₃ → Did (P.run d o A) x s r (bufs ev er sc) b₃
   produced h z e =
       does-as (P.run d o A) (λ p a t. run-some d o A h a)
-        (parts.node d (kind A) o (body (d - 1) o A) (λ a. exec-adds (d - 1) (grammar A) o a) (λ p. sticky-exec p x (d - 1) (grammar A) o) (s₁ .pos) (s₁ .ev) refl refl (y .events .did er sc w) (y .opens) z e)
+      (parts.node d (kind A) o (body (d - 1) o A) (λ a. exec-adds (d - 1) (grammar A) o a) (λ p. sticky-exec p x (d - 1) (grammar A) o) (s₁ .pos) (s₁ .ev) refl refl (y .events .did er sc w) (y .opens) z e)
 
   -- no more nodes may be opened: the node is empty
   pub empty : {b₃ : Bufs} → d ≡ 0 → Shuts (P.finish o (kind A) (length (x .ids) - s₁ .pos)) (s₁ .ev) x s₁ r (bufs ev₁ er sc) b₃ → Did (P.run d o A) x s r (bufs ev er sc) b₃
   empty h e =
       let B = y .events .did er sc w in
       does-as (P.run d o A) (λ p a t. run-none d o A h a)
-        (parts.node d (kind A) o (λ t. t) (λ a. none-added (a .out)) (λ p a n. refl) (s₁ .pos) (s₁ .ev) refl refl B (y .opens) (core.idle (B .wf) (λ p a t. core.like-same refl)) e)
+      (parts.node d (kind A) o (λ t. t) (λ a. none-added (a .out)) (λ p a n. refl) (s₁ .pos) (s₁ .ev) refl refl B (y .opens) (core.idle (B .wf) (λ p a t. core.like-same refl)) e)
 
 -- what does nothing but in good order
 abbrev pub guarded : Prog → Bool

@@ -34,6 +34,7 @@ module _ (d : ℕ) (o : Bool) (A : Production) {p bit : ℕ} (known : kind A ≡
     where
       named : (t : Memo) → p ≡ kindOf t → bit ≡ bitOf t (s .pos) → Remembered r b′
       named t e i = subst (λ (n : ℕ). Did (P.memos n (P.run d o A)) x s r b b′) (sym (known ∙ e)) (g t i)
+
       go : Bit p (s .pos) bit → Remembered r b′
       go (inl e) = named bits.expr (e .0) (e .1)
       go (inr e) = named bits.term (e .0) (e .1)

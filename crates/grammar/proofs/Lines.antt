@@ -1,5 +1,5 @@
 -- The table's rows: what the code makes of one, and what it stands for, by tests that antt computes over all rows. Assumes nothing.
-use Prim.Native.Nat.{ℕ, zero, suc, _+_, _*_, _≤_, _<_}
+use Prim.Native.Nat.{ℕ, zero, suc, _+_, _/_, _%_, _≤_, _<_}
 use mathlib.Core.Path.{_≡_, refl, sym, ap, subst, _∙_}
 use mathlib.Core.Bool.{Bool, true, false}
 use mathlib.Core.Logic.{_⊎_, inl, inr}
@@ -26,19 +26,27 @@ use Rattle.reader.specs.Bits.{ifb}
 use Rattle.grammar.specs.declared.parts.Part.{Part}
 use Rattle.grammar.specs.declared.parts.Part.the-variants.{Eat, Unless, Recover, Node, Memo, Seq, Then, When, Many, Opt, Last, Alt}
 use Rattle.grammar.specs.Rows.{size, item}
-use Rattle.grammar.specs.Table.{cellOf, labelOf, reads, made, partOf, production, progOf, prog, Line, Cached}
+use Rattle.grammar.specs.Table.{rowOf, split, labelOf, reads, made, partOf, production, progOf, prog, Line, Cached}
 
--- a row by its three numbers
-module _ (i : ℕ) {n a b : ℕ} (e : n ≡ cellOf (3 * i)) (f : a ≡ cellOf (3 * i + 1)) (g : b ≡ cellOf (3 * i + 2)) where
-  whole : made n a b ≡ partOf i
+-- a row by its combinator and operands
+module _ (i : ℕ) {r : ℕ} (e : r ≡ rowOf i) where
+  abbrev first : ℕ
+  first = r / 4096 % 4096
+
+  abbrev second : ℕ
+  second = r % 4096
+
+  whole : split r ≡ partOf i
   unfolding partOf
-  whole = λ j. made (e j) (f j) (g j)
+  whole = ap split e
 
-  pub row-of : (m : ℕ) → n ≡ m → made m a b ≡ partOf i
-  row-of m h = sym (ap (λ (c : ℕ). made c a b) h) ∙ whole
+  pub row-of : (m : ℕ) → r / 16777216 ≡ m → made m first second ≡ partOf i
+  row-of m h = sym (ap (λ (c : ℕ). made c first second) h) ∙ whole
 
-  pub row-else : 11 ≤ n → Alt a b ≡ partOf i
-  row-else h = sym (List·getD-eq-default (Eat a b ∷ Unless a ∷ Recover a ∷ Node a b ∷ Memo a b ∷ Seq a b ∷ Then a ∷ When a b ∷ Many a ∷ Opt a ∷ Last a ∷ []) (Alt a b) h) ∙ whole
+  pub row-else : 11 ≤ r / 16777216 → Alt first second ≡ partOf i
+  row-else h =
+      sym (List·getD-eq-default (Eat first second ∷ Unless first ∷ Recover first ∷ Node first second ∷ Memo first second ∷ Seq first second ∷ Then first ∷ When first second ∷ Many first ∷ Opt first ∷ Last first ∷ []) (Alt first second) h)
+      ∙ whole
 
 -- a number that is none of those before
 pub past : (m : ℕ) {n : ℕ} → m ≤ n → (n ≡ m → ⊥) → m + 1 ≤ n
@@ -49,24 +57,24 @@ abbrev each : {A : Type 0} → (ℕ → A) → ℕ → List A
 each f zero = []
 each f (suc n) = f n ∷ each f n
 
-first : {A : Type 0} {x y : A} {l m : List A} → _≡_ {A = List A} (x ∷ l) (y ∷ m) → x ≡ y
-first {A} {x} e = ap (λ (l : List A). getD l 0 x) e
+head-of : {A : Type 0} {x y : A} {l m : List A} → _≡_ {A = List A} (x ∷ l) (y ∷ m) → x ≡ y
+head-of {A} {x} e = ap (λ (l : List A). getD l 0 x) e
 
-rest : {A : Type 0} {x y : A} {l m : List A} → _≡_ {A = List A} (x ∷ l) (y ∷ m) → l ≡ m
-rest {A} {x} {y} {l} e = ap (λ (l : List A). elim l [ [] ↦ [] | z ∷ zs ↦ zs ]) e
+tail-of : {A : Type 0} {x y : A} {l m : List A} → _≡_ {A = List A} (x ∷ l) (y ∷ m) → l ≡ m
+tail-of {A} {x} {y} {l} e = ap (λ (l : List A). elim l [ [] ↦ [] | z ∷ zs ↦ zs ]) e
 
 -- two functions that give the same lists
 pub same-at : {A : Type 0} (f g : ℕ → A) (n : ℕ) → each f n ≡ each g n → (i : ℕ) → i < n → f i ≡ g i
 same-at f g zero e i h = absurd (omega arith)
-same-at {A} f g (suc n) e i h = go (ℕ-discrete i n) (same-at f g n (rest e) i)
+same-at {A} f g (suc n) e i h = go (ℕ-discrete i n) (same-at f g n (tail-of e) i)
   where
     go : Dec (i ≡ n) → (i < n → f i ≡ g i) → f i ≡ g i
-    go (yes q) below = ap f q ∙ first e ∙ sym (ap g q)
+    go (yes q) below = ap f q ∙ head-of e ∙ sym (ap g q)
     go (no q) below = below (omega (arith, q))
 
 -- what a row stands for, by the rows that it names
 stands : each prog size ≡ each (λ i. progOf prog (partOf i)) size
-unfolding prog partOf cellOf production productions
+unfolding prog partOf rowOf production productions
 stands = refl
 
 pub row-stands : (i : ℕ) → i < size → prog i ≡ progOf prog (partOf i)
@@ -92,7 +100,7 @@ sound i (Last j) = ltb j i
 sound i (Alt j h) = both (ltb j h) (ltb h i)
 
 tested : all (λ i. sound i (partOf i)) size ≡ true
-unfolding prog partOf cellOf production productions kind
+unfolding prog partOf rowOf production productions kind
 tested = refl
 
 abbrev pub Sound : ℕ → Part → Type 0
@@ -158,7 +166,7 @@ abbrev wanted : Part → Prog
 wanted = called (λ a j. grammar (production a))
 
 lined : each (λ i. lineOf (partOf i)) size ≡ each (λ i. wanted (partOf i)) size
-unfolding prog partOf cellOf production productions grammar
+unfolding prog partOf rowOf production productions grammar
 lined = refl
 
 -- what a row is says what it stands for
@@ -197,7 +205,7 @@ proper n h {l} e = subst (λ (q : Label). Proper q) (sym e) (go (ℕ-discrete n 
 
 -- an item that begins with a rule keyword
 item-stands : prog item ≡ rule-decl
-unfolding prog partOf cellOf production productions
+unfolding prog partOf rowOf production productions
 item-stands = refl
 
 pub is-item : {x : Source} {s r : State} {b b′ : Bufs} → Did (reads (limits .depth) false (prog item)) x s r b b′ → Did (P.read-rule limits) x s r b b′

@@ -1,5 +1,5 @@
 -- What a row of the table stands for: a part of a line, in the grammar's own words.
-use Prim.Native.Nat.{ℕ, zero, suc, _+_, _-_, _*_, _<_}
+use Prim.Native.Nat.{ℕ, zero, suc, _+_, _-_, _*_, _/_, _%_, _<_}
 use mathlib.Core.Path.{_≡_}
 use mathlib.Core.Bool.{Bool, true, false}
 use mathlib.Core.Logic.{_⊎_}
@@ -8,7 +8,8 @@ use lib.Dec.{eqb}
 use lib.ListN.{getD}
 use Rattle.kinds.specs.Kinds as k
 use Rattle.kinds.specs.Sets.{setOf}
-use Rattle.peg.specs.Prog.{Prog, Production, eat, unless, ifnext, opt, many, then, _⨟_, _/_, last, recover, node, memo, RULE-DECL}
+use Rattle.peg.specs.Prog.{Prog, Production, eat, unless, ifnext, opt, many, then, _⨟_, last, recover, node, memo, RULE-DECL}
+use Rattle.peg.specs.Prog as G
 use Rattle.peg.specs.Grammar.{grammar, kind}
 use Rattle.peg.specs.Run as P
 use Rattle.peg.proofs.Every.{productions}
@@ -18,18 +19,22 @@ use Rattle.reader.specs.Bits.{ifb}
 use Rattle.reader.specs.Did.{namesOf}
 use Rattle.grammar.specs.declared.parts.Part.{Part}
 use Rattle.grammar.specs.declared.parts.Part.the-variants.{Eat, Unless, Recover, Node, Memo, Seq, Then, When, Many, Opt, Last, Alt}
-use Rattle.grammar.specs.Rows.{cells, size}
+use Rattle.grammar.specs.Rows.{rows, size}
 
 -- the combinator's number and its two operands
 abbrev pub made : ℕ → ℕ → ℕ → Part
 made n a b =
     getD (Eat a b ∷ Unless a ∷ Recover a ∷ Node a b ∷ Memo a b ∷ Seq a b ∷ Then a ∷ When a b ∷ Many a ∷ Opt a ∷ Last a ∷ []) n (Alt a b)
 
-unfoldable pub cellOf : ℕ → ℕ
-cellOf k = getD cells k 0
+unfoldable pub rowOf : ℕ → ℕ
+rowOf i = getD rows i 0
+
+-- a row in hexadecimal: a digit for the combinator, three for each operand
+abbrev pub split : ℕ → Part
+split r = made (r / 16777216) (r / 4096 % 4096) (r % 4096)
 
 unfoldable pub partOf : ℕ → Part
-partOf i = made (cellOf (3 * i)) (cellOf (3 * i + 1)) (cellOf (3 * i + 2))
+partOf i = split (rowOf i)
 
 -- the names that a set enters: one name, or the set's ids
 abbrev pub labelOf : ℕ → Label
@@ -52,7 +57,7 @@ progOf g (When s i) = ifnext (setOf s) (g i)
 progOf g (Many i) = many (g i)
 progOf g (Opt i) = opt (g i)
 progOf g (Last i) = last (g i)
-progOf g (Alt i j) = g i / g j
+progOf g (Alt i j) = G._/_ (g i) (g j)
 
 -- no part holds others more than 40 deep
 abbrev decode : ℕ → ℕ → Prog

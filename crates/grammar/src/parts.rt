@@ -1,7 +1,7 @@
 // What reads by the table: one function for each combinator. They call one another in a cycle, and what falls is d, the nodes that
 // may still be opened, and within a line the row of the table.
-use crate::table::CELLS;
 use crate::table::ITEM;
+use crate::table::ROWS;
 use kinds::kind;
 use reader::cache::seen;
 use reader::names::Label;
@@ -9,7 +9,7 @@ use reader::state::State;
 ghost use mathlib.Core.Path.{_≡_};
 ghost use mathlib.Core.Bool.{true};
 ghost use mathlib.Core.Logic.{_⊎_};
-ghost use Prim.Native.Nat.{_*_, _≤_, _<_};
+ghost use Prim.Native.Nat.{_≤_, _<_};
 ghost use Rattle.kinds.specs.Sets.{setOf};
 ghost use Rattle.peg.specs.Prog.{ifnext, _/_};
 ghost use Rattle.peg.specs.Prog as G;
@@ -18,7 +18,7 @@ ghost use Rattle.peg.specs.Run as P;
 ghost use Rattle.reader.specs.Means.{limits, source, bufs, Rows};
 ghost use Rattle.reader.specs.Did.{Wf, Did};
 ghost use Rattle.grammar.specs.Rows.{size};
-ghost use Rattle.grammar.specs.Table.{cellOf, partOf, labelOf, prog, production, reads, Line, Cached, Bit};
+ghost use Rattle.grammar.specs.Table.{rowOf, partOf, labelOf, prog, production, reads, Line, Cached, Bit};
 
 // A combinator of the module with its operands: sets and names by number, a production by its kind and the row of its line, parts by
 // their rows.
@@ -37,21 +37,21 @@ pub enum Part {
     Alt(usize, usize),
 }
 
-// The number of a combinator, or an operand: three for each row.
-fn cell(k: usize) -> u32
-    requires { ⌜ k < 3 * size ⌝ }
-    ensures { λ r. ⌜ r ≡ cellOf k ⌝ }
+fn row_at(i: usize) -> u32
+    requires { ⌜ i < size ⌝ }
+    ensures { λ r. ⌜ r ≡ rowOf i ⌝ }
 {
-    CELLS[k]
+    ROWS[i]
 }
 
 fn part_at(i: usize) -> Part
     requires { ⌜ i < size ⌝ }
     ensures { λ r. ⌜ r ≡ partOf i ⌝ }
 {
-    let n = cell(3 * i);
-    let a = cell(3 * i + 1);
-    let b = cell(3 * i + 2);
+    let row = row_at(i);
+    let n = row / 16777216;
+    let a = row / 4096 % 4096;
+    let b = row % 4096;
     let first = a as usize;
     let second = b as usize;
     match n {
@@ -93,7 +93,18 @@ fn bit_of(kind: u32, row: usize) -> usize
 }
 
 // A part of a line, where d more nodes may be opened; optional says whether a part around it may be left out.
-fn exec(i: usize, mut s: State, d: usize, optional: bool, src: &[u8], ids: &[u32], ends: &[u32], events: &mut [u32], errors: &mut [u32], scratch: &mut [u64]) -> State
+fn exec(
+    i: usize,
+    mut s: State,
+    d: usize,
+    optional: bool,
+    src: &[u8],
+    ids: &[u32],
+    ends: &[u32],
+    events: &mut [u32],
+    errors: &mut [u32],
+    scratch: &mut [u64],
+) -> State
     requires { ⌜ Rows (source (now src) (now ids) (now ends)) × Wf (source (now src) (now ids) (now ends)) (bufs (now events) (now errors) (now scratch)) s × (i < size) ⌝ }
     ensures { λ r. ⌜ Did (reads d optional (prog i)) (source (now (src .entry)) (now (ids .entry)) (now (ends .entry))) s r (bufs (now (events .entry)) (now (errors .entry)) (now (scratch .entry))) (bufs (now (events .exit)) (now (errors .exit)) (now (scratch .exit))) ⌝ }
 {
@@ -101,23 +112,105 @@ fn exec(i: usize, mut s: State, d: usize, optional: bool, src: &[u8], ids: &[u32
         Part::Eat(set, name) => s.eat(set, label(name), ids, ends, events),
         Part::Unless(set) => s.unless(set, ids),
         Part::Recover(set) => s.recover(d, optional, set, src, ids, ends, events, errors),
-        Part::Node(kind, line) => node(kind, line, s, d, optional, src, ids, ends, events, errors, scratch),
-        Part::Memo(kind, line) => cached(kind, line, s, d, optional, src, ids, ends, events, errors, scratch),
+        Part::Node(kind, line) => node(
+            kind,
+            line,
+            s,
+            d,
+            optional,
+            src,
+            ids,
+            ends,
+            events,
+            errors,
+            scratch,
+        ),
+        Part::Memo(kind, line) => cached(
+            kind,
+            line,
+            s,
+            d,
+            optional,
+            src,
+            ids,
+            ends,
+            events,
+            errors,
+            scratch,
+        ),
         Part::Seq(first, second) => {
-            s = exec(first, s, d, optional, src, ids, ends, events, errors, scratch);
-            exec(second, s, d, optional, src, ids, ends, events, errors, scratch)
+            s = exec(
+                first,
+                s,
+                d,
+                optional,
+                src,
+                ids,
+                ends,
+                events,
+                errors,
+                scratch,
+            );
+            exec(
+                second,
+                s,
+                d,
+                optional,
+                src,
+                ids,
+                ends,
+                events,
+                errors,
+                scratch,
+            )
         }
-        Part::Then(part) => then(part, s, d, optional, src, ids, ends, events, errors, scratch),
-        Part::When(set, part) => when(set, part, s, d, optional, src, ids, ends, events, errors, scratch),
-        Part::Many(part) => many(part, s, d, src, ids, ends, events, errors, scratch),
-        Part::Opt(part) => opt(part, s, d, src, ids, ends, events, errors, scratch),
-        Part::Last(part) => last(part, s, d, src, ids, ends, events, errors, scratch),
-        Part::Alt(first, others) => alt(first, others, s, d, optional, src, ids, ends, events, errors, scratch),
+        Part::Then(p) => then(p, s, d, optional, src, ids, ends, events, errors, scratch),
+        Part::When(set, p) => when(
+            set,
+            p,
+            s,
+            d,
+            optional,
+            src,
+            ids,
+            ends,
+            events,
+            errors,
+            scratch,
+        ),
+        Part::Many(p) => many(p, s, d, src, ids, ends, events, errors, scratch),
+        Part::Opt(p) => opt(p, s, d, src, ids, ends, events, errors, scratch),
+        Part::Last(p) => last(p, s, d, src, ids, ends, events, errors, scratch),
+        Part::Alt(first, others) => alt(
+            first,
+            others,
+            s,
+            d,
+            optional,
+            src,
+            ids,
+            ends,
+            events,
+            errors,
+            scratch,
+        ),
     }
 }
 
 // A production: a node around what its line reads.
-fn node(kind: u32, line: usize, mut s: State, d: usize, optional: bool, src: &[u8], ids: &[u32], ends: &[u32], events: &mut [u32], errors: &mut [u32], scratch: &mut [u64]) -> State
+fn node(
+    kind: u32,
+    line: usize,
+    mut s: State,
+    d: usize,
+    optional: bool,
+    src: &[u8],
+    ids: &[u32],
+    ends: &[u32],
+    events: &mut [u32],
+    errors: &mut [u32],
+    scratch: &mut [u64],
+) -> State
     requires { ⌜ Rows (source (now src) (now ids) (now ends)) × Wf (source (now src) (now ids) (now ends)) (bufs (now events) (now errors) (now scratch)) s × Line kind line ⌝ }
     ensures { λ r. ⌜ Did (P.run d optional (production kind)) (source (now (src .entry)) (now (ids .entry)) (now (ends .entry))) s r (bufs (now (events .entry)) (now (errors .entry)) (now (scratch .entry))) (bufs (now (events .exit)) (now (errors .exit)) (now (scratch .exit))) ⌝ }
 {
@@ -127,12 +220,35 @@ fn node(kind: u32, line: usize, mut s: State, d: usize, optional: bool, src: &[u
     if d == 0 {
         return s.end(kind, from, at, optional, src, ids, ends, events, errors);
     }
-    s = exec(line, s, d - 1, optional, src, ids, ends, events, errors, scratch);
+    s = exec(
+        line,
+        s,
+        d - 1,
+        optional,
+        src,
+        ids,
+        ends,
+        events,
+        errors,
+        scratch,
+    );
     s.end(kind, from, at, optional, src, ids, ends, events, errors)
 }
 
 // A production that failed at this row before is not read again.
-fn cached(kind: u32, line: usize, mut s: State, d: usize, optional: bool, src: &[u8], ids: &[u32], ends: &[u32], events: &mut [u32], errors: &mut [u32], scratch: &mut [u64]) -> State
+fn cached(
+    kind: u32,
+    line: usize,
+    mut s: State,
+    d: usize,
+    optional: bool,
+    src: &[u8],
+    ids: &[u32],
+    ends: &[u32],
+    events: &mut [u32],
+    errors: &mut [u32],
+    scratch: &mut [u64],
+) -> State
     requires { ⌜ Rows (source (now src) (now ids) (now ends)) × Wf (source (now src) (now ids) (now ends)) (bufs (now events) (now errors) (now scratch)) s × Line kind line × Cached kind ⌝ }
     ensures { λ r. ⌜ Did (P.memos (K.kind (production kind)) (P.run d optional (production kind))) (source (now (src .entry)) (now (ids .entry)) (now (ends .entry))) s r (bufs (now (events .entry)) (now (errors .entry)) (now (scratch .entry))) (bufs (now (events .exit)) (now (errors .exit)) (now (scratch .exit))) ⌝ }
 {
@@ -144,7 +260,19 @@ fn cached(kind: u32, line: usize, mut s: State, d: usize, optional: bool, src: &
         s.mode = 1;
         return s;
     }
-    s = node(kind, line, s, d, optional, src, ids, ends, events, errors, scratch);
+    s = node(
+        kind,
+        line,
+        s,
+        d,
+        optional,
+        src,
+        ids,
+        ends,
+        events,
+        errors,
+        scratch,
+    );
     if s.mode != 1 {
         return s;
     }
@@ -152,33 +280,66 @@ fn cached(kind: u32, line: usize, mut s: State, d: usize, optional: bool, src: &
 }
 
 // `then`: past trivia.
-fn then(part: usize, mut s: State, d: usize, optional: bool, src: &[u8], ids: &[u32], ends: &[u32], events: &mut [u32], errors: &mut [u32], scratch: &mut [u64]) -> State
-    requires { ⌜ Rows (source (now src) (now ids) (now ends)) × Wf (source (now src) (now ids) (now ends)) (bufs (now events) (now errors) (now scratch)) s × (part < size) ⌝ }
-    ensures { λ r. ⌜ Did (reads d optional (G.then (prog part))) (source (now (src .entry)) (now (ids .entry)) (now (ends .entry))) s r (bufs (now (events .entry)) (now (errors .entry)) (now (scratch .entry))) (bufs (now (events .exit)) (now (errors .exit)) (now (scratch .exit))) ⌝ }
+fn then(
+    p: usize,
+    mut s: State,
+    d: usize,
+    optional: bool,
+    src: &[u8],
+    ids: &[u32],
+    ends: &[u32],
+    events: &mut [u32],
+    errors: &mut [u32],
+    scratch: &mut [u64],
+) -> State
+    requires { ⌜ Rows (source (now src) (now ids) (now ends)) × Wf (source (now src) (now ids) (now ends)) (bufs (now events) (now errors) (now scratch)) s × (p < size) ⌝ }
+    ensures { λ r. ⌜ Did (reads d optional (G.then (prog p))) (source (now (src .entry)) (now (ids .entry)) (now (ends .entry))) s r (bufs (now (events .entry)) (now (errors .entry)) (now (scratch .entry))) (bufs (now (events .exit)) (now (errors .exit)) (now (scratch .exit))) ⌝ }
 {
     if s.mode != 0 {
         return s;
     }
     s = s.trivia(ids, ends, events);
-    exec(part, s, d, optional, src, ids, ends, events, errors, scratch)
+    exec(p, s, d, optional, src, ids, ends, events, errors, scratch)
 }
 
 // `if_next`: where a row of the set stands next.
-fn when(set: usize, part: usize, mut s: State, d: usize, optional: bool, src: &[u8], ids: &[u32], ends: &[u32], events: &mut [u32], errors: &mut [u32], scratch: &mut [u64]) -> State
-    requires { ⌜ Rows (source (now src) (now ids) (now ends)) × Wf (source (now src) (now ids) (now ends)) (bufs (now events) (now errors) (now scratch)) s × (part < size) ⌝ }
-    ensures { λ r. ⌜ Did (reads d optional (ifnext (setOf set) (prog part))) (source (now (src .entry)) (now (ids .entry)) (now (ends .entry))) s r (bufs (now (events .entry)) (now (errors .entry)) (now (scratch .entry))) (bufs (now (events .exit)) (now (errors .exit)) (now (scratch .exit))) ⌝ }
+fn when(
+    set: usize,
+    p: usize,
+    mut s: State,
+    d: usize,
+    optional: bool,
+    src: &[u8],
+    ids: &[u32],
+    ends: &[u32],
+    events: &mut [u32],
+    errors: &mut [u32],
+    scratch: &mut [u64],
+) -> State
+    requires { ⌜ Rows (source (now src) (now ids) (now ends)) × Wf (source (now src) (now ids) (now ends)) (bufs (now events) (now errors) (now scratch)) s × (p < size) ⌝ }
+    ensures { λ r. ⌜ Did (reads d optional (ifnext (setOf set) (prog p))) (source (now (src .entry)) (now (ids .entry)) (now (ends .entry))) s r (bufs (now (events .entry)) (now (errors .entry)) (now (scratch .entry))) (bufs (now (events .exit)) (now (errors .exit)) (now (scratch .exit))) ⌝ }
 {
     if s.sees(set, ids) {
         s = s.trivia(ids, ends, events);
-        return exec(part, s, d, optional, src, ids, ends, events, errors, scratch);
+        return exec(p, s, d, optional, src, ids, ends, events, errors, scratch);
     }
     s.pass(set, ids)
 }
 
 // A repetition; its rows are a bound that is never reached.
-fn many(part: usize, mut s: State, d: usize, src: &[u8], ids: &[u32], ends: &[u32], events: &mut [u32], errors: &mut [u32], scratch: &mut [u64]) -> State
-    requires { ⌜ Rows (source (now src) (now ids) (now ends)) × Wf (source (now src) (now ids) (now ends)) (bufs (now events) (now errors) (now scratch)) s × (part < size) ⌝ }
-    ensures { λ r. ⌜ Did (reads d true (G.many (prog part))) (source (now (src .entry)) (now (ids .entry)) (now (ends .entry))) s r (bufs (now (events .entry)) (now (errors .entry)) (now (scratch .entry))) (bufs (now (events .exit)) (now (errors .exit)) (now (scratch .exit))) ⌝ }
+fn many(
+    p: usize,
+    mut s: State,
+    d: usize,
+    src: &[u8],
+    ids: &[u32],
+    ends: &[u32],
+    events: &mut [u32],
+    errors: &mut [u32],
+    scratch: &mut [u64],
+) -> State
+    requires { ⌜ Rows (source (now src) (now ids) (now ends)) × Wf (source (now src) (now ids) (now ends)) (bufs (now events) (now errors) (now scratch)) s × (p < size) ⌝ }
+    ensures { λ r. ⌜ Did (reads d true (G.many (prog p))) (source (now (src .entry)) (now (ids .entry)) (now (ends .entry))) s r (bufs (now (events .entry)) (now (errors .entry)) (now (scratch .entry))) (bufs (now (events .exit)) (now (errors .exit)) (now (scratch .exit))) ⌝ }
 {
     if s.mode != 0 {
         return s;
@@ -187,7 +348,7 @@ fn many(part: usize, mut s: State, d: usize, src: &[u8], ids: &[u32], ends: &[u3
     while n > 0 {
         let m = s.mark();
         s = s.trivia(ids, ends, events);
-        s = exec(part, s, d, true, src, ids, ends, events, errors, scratch);
+        s = exec(p, s, d, true, src, ids, ends, events, errors, scratch);
         if s.mode != 0 {
             return s.undone(m);
         }
@@ -197,16 +358,26 @@ fn many(part: usize, mut s: State, d: usize, src: &[u8], ids: &[u32], ends: &[u3
 }
 
 // `opt`: where it fails, back to the mark in good order.
-fn opt(part: usize, mut s: State, d: usize, src: &[u8], ids: &[u32], ends: &[u32], events: &mut [u32], errors: &mut [u32], scratch: &mut [u64]) -> State
-    requires { ⌜ Rows (source (now src) (now ids) (now ends)) × Wf (source (now src) (now ids) (now ends)) (bufs (now events) (now errors) (now scratch)) s × (part < size) ⌝ }
-    ensures { λ r. ⌜ Did (reads d true (G.opt (prog part))) (source (now (src .entry)) (now (ids .entry)) (now (ends .entry))) s r (bufs (now (events .entry)) (now (errors .entry)) (now (scratch .entry))) (bufs (now (events .exit)) (now (errors .exit)) (now (scratch .exit))) ⌝ }
+fn opt(
+    p: usize,
+    mut s: State,
+    d: usize,
+    src: &[u8],
+    ids: &[u32],
+    ends: &[u32],
+    events: &mut [u32],
+    errors: &mut [u32],
+    scratch: &mut [u64],
+) -> State
+    requires { ⌜ Rows (source (now src) (now ids) (now ends)) × Wf (source (now src) (now ids) (now ends)) (bufs (now events) (now errors) (now scratch)) s × (p < size) ⌝ }
+    ensures { λ r. ⌜ Did (reads d true (G.opt (prog p))) (source (now (src .entry)) (now (ids .entry)) (now (ends .entry))) s r (bufs (now (events .entry)) (now (errors .entry)) (now (scratch .entry))) (bufs (now (events .exit)) (now (errors .exit)) (now (scratch .exit))) ⌝ }
 {
     if s.mode != 0 {
         return s;
     }
     let m = s.mark();
     s = s.trivia(ids, ends, events);
-    s = exec(part, s, d, true, src, ids, ends, events, errors, scratch);
+    s = exec(p, s, d, true, src, ids, ends, events, errors, scratch);
     if s.mode == 1 {
         return s.retry(m);
     }
@@ -214,16 +385,26 @@ fn opt(part: usize, mut s: State, d: usize, src: &[u8], ids: &[u32], ends: &[u32
 }
 
 // The last alternative: where it fails, back to the mark.
-fn last(part: usize, mut s: State, d: usize, src: &[u8], ids: &[u32], ends: &[u32], events: &mut [u32], errors: &mut [u32], scratch: &mut [u64]) -> State
-    requires { ⌜ Rows (source (now src) (now ids) (now ends)) × Wf (source (now src) (now ids) (now ends)) (bufs (now events) (now errors) (now scratch)) s × (part < size) ⌝ }
-    ensures { λ r. ⌜ Did (reads d true (G.last (prog part))) (source (now (src .entry)) (now (ids .entry)) (now (ends .entry))) s r (bufs (now (events .entry)) (now (errors .entry)) (now (scratch .entry))) (bufs (now (events .exit)) (now (errors .exit)) (now (scratch .exit))) ⌝ }
+fn last(
+    p: usize,
+    mut s: State,
+    d: usize,
+    src: &[u8],
+    ids: &[u32],
+    ends: &[u32],
+    events: &mut [u32],
+    errors: &mut [u32],
+    scratch: &mut [u64],
+) -> State
+    requires { ⌜ Rows (source (now src) (now ids) (now ends)) × Wf (source (now src) (now ids) (now ends)) (bufs (now events) (now errors) (now scratch)) s × (p < size) ⌝ }
+    ensures { λ r. ⌜ Did (reads d true (G.last (prog p))) (source (now (src .entry)) (now (ids .entry)) (now (ends .entry))) s r (bufs (now (events .entry)) (now (errors .entry)) (now (scratch .entry))) (bufs (now (events .exit)) (now (errors .exit)) (now (scratch .exit))) ⌝ }
 {
     if s.mode != 0 {
         return s;
     }
     let m = s.mark();
     s = s.trivia(ids, ends, events);
-    s = exec(part, s, d, true, src, ids, ends, events, errors, scratch);
+    s = exec(p, s, d, true, src, ids, ends, events, errors, scratch);
     if s.mode == 1 {
         return s.rewind(m);
     }
@@ -231,7 +412,19 @@ fn last(part: usize, mut s: State, d: usize, src: &[u8], ids: &[u32], ends: &[u3
 }
 
 // An alternative, and where it fails the others.
-fn alt(first: usize, others: usize, mut s: State, d: usize, optional: bool, src: &[u8], ids: &[u32], ends: &[u32], events: &mut [u32], errors: &mut [u32], scratch: &mut [u64]) -> State
+fn alt(
+    first: usize,
+    others: usize,
+    mut s: State,
+    d: usize,
+    optional: bool,
+    src: &[u8],
+    ids: &[u32],
+    ends: &[u32],
+    events: &mut [u32],
+    errors: &mut [u32],
+    scratch: &mut [u64],
+) -> State
     requires { ⌜ Rows (source (now src) (now ids) (now ends)) × Wf (source (now src) (now ids) (now ends)) (bufs (now events) (now errors) (now scratch)) s × (first < others) × (others < size) ⌝ }
     ensures { λ r. ⌜ Did (reads d optional (prog first / prog others)) (source (now (src .entry)) (now (ids .entry)) (now (ends .entry))) s r (bufs (now (events .entry)) (now (errors .entry)) (now (scratch .entry))) (bufs (now (events .exit)) (now (errors .exit)) (now (scratch .exit))) ⌝ }
 {
@@ -245,13 +438,43 @@ fn alt(first: usize, others: usize, mut s: State, d: usize, optional: bool, src:
         return s;
     }
     s = s.retry(m);
-    exec(others, s, d, optional, src, ids, ends, events, errors, scratch)
+    exec(
+        others,
+        s,
+        d,
+        optional,
+        src,
+        ids,
+        ends,
+        events,
+        errors,
+        scratch,
+    )
 }
 
 // An item that begins with a rule keyword: a rule, and recovery behind it.
-pub fn rule_item(s: State, src: &[u8], ids: &[u32], ends: &[u32], events: &mut [u32], errors: &mut [u32], scratch: &mut [u64]) -> State
+pub fn rule_item(
+    s: State,
+    src: &[u8],
+    ids: &[u32],
+    ends: &[u32],
+    events: &mut [u32],
+    errors: &mut [u32],
+    scratch: &mut [u64],
+) -> State
     requires { ⌜ Rows (source (now src) (now ids) (now ends)) × Wf (source (now src) (now ids) (now ends)) (bufs (now events) (now errors) (now scratch)) s ⌝ }
     ensures { λ r. ⌜ Did (P.read-rule limits) (source (now (src .entry)) (now (ids .entry)) (now (ends .entry))) s r (bufs (now (events .entry)) (now (errors .entry)) (now (scratch .entry))) (bufs (now (events .exit)) (now (errors .exit)) (now (scratch .exit))) ⌝ }
 {
-    exec(ITEM, s, 1024, false, src, ids, ends, events, errors, scratch)
+    exec(
+        ITEM,
+        s,
+        1024,
+        false,
+        src,
+        ids,
+        ends,
+        events,
+        errors,
+        scratch,
+    )
 }

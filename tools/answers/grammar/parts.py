@@ -18,7 +18,7 @@ use Rattle.grammar.proofs.Lines.{is-row, is-line, is-eat, proper, node-
 S, D, O = "({args} .src .now)", "({args} .d)", "({args} .optional)"
 ROWS, WF = "({pre} .1 .0)", "({pre} .1 .1)"
 FROM = f"(from (source ({{args}} .src .now) ({{args}} .ids .now) ({{args}} .ends .now)) ({{args}} .s) ({{args}} .events .now) ({{args}} .errors .now) ({{args}} .scratch .now) {WF})"
-PART = "(prog ({args} .part))"
+PART = "(prog ({args} .p))"
 # where a callee has the events among its parameters; errors and scratch follow, where it has them
 EVENTS = {"trivia": 3, "eat": 5, "begin": 4, "end": 8, "recover": 7, "exec": 7, "node": 8, "cached": 8, "then": 7, "when": 8, "many": 6, "opt": 6, "last": 6, "alt": 8}
 LISTS = {"trivia": 1, "eat": 1, "begin": 1, "end": 2, "recover": 2}
@@ -27,7 +27,7 @@ DEPTH = {"exec": 2, "then": 2, "when": 3, "many": 2, "opt": 2, "last": 2, "alt":
 LEVEL = {"exec": "8 * a .0 + 2", "then": "8 * a .0 + 3", "when": "8 * a .1 .0 + 3", "many": "8 * a .0 + 3", "opt": "8 * a .0 + 3", "last": "8 * a .0 + 3", "alt": "8 * a .1 .0 + 3", "node": "0", "cached": "1"}
 MEASURES = {f"μ-{f}": f"4096 * a{' .1' * DEPTH[f]} .0 + {LEVEL[f]}" for f in DEPTH}
 LOOPS = {
-    "many-Inv-loop": "Turns (reads d true (prog part)) (source src ids ends) s₀ s n₀ n events₀ errors₀ scratch₀ events errors scratch",
+    "many-Inv-loop": "Turns (reads d true (prog p)) (source src ids ends) s₀ s n₀ n events₀ errors₀ scratch₀ events errors scratch",
     "many-μ-loop": "n",
 }
 
@@ -177,7 +177,7 @@ EXEC.update({
     "exec-requires-2": falls(f"(plus {FROM} ({{exec}} .ensures))", f"omega (arith, {FIRST} .1, {IN})", f"{FIRST} .1"),
     **lengths(["exec2", "exec"], 10), "returns-6": read("first", f"plus (plus {FROM} ({{exec}} .ensures)) ({{exec2}} .ensures)"),
 })
-for k, (callee, place) in enumerate([("then", "part"), ("when", "set4"), ("many", "part2"), ("opt", "part3"), ("last", "part4"), ("alt", "first2")]):
+for k, (callee, place) in enumerate([("then", "p"), ("when", "set4"), ("many", "p2"), ("opt", "p3"), ("last", "p4"), ("alt", "first2")]):
     sound = f"row-sound {I} {IN} {row(place)}"
     below = f"{sound} .1" if callee == "alt" else sound
     inside = (f"{sound} .0, " if callee == "alt" else "") + f"omega (arith, {below}, {IN})"

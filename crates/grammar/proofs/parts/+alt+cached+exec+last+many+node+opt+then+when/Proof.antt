@@ -285,11 +285,11 @@ exec-exec-requires t c κs = (omega (arith, c .before .before .before .before .b
 exec-exec-requires-2 : (t : ℕ) → exec-lts.Need-exec-requires-2 (exec-cs t) (exec-at t) exec.Post
 exec-exec-requires-2 t c κs = (omega (arith, c .before .before .before .before .before .before .before .before .before .before .before .before .before .before .before .before .before .before .before .before .before .before .before .pre .0, row-sound (c .before .before .before .before .before .before .before .before .before .before .before .before .before .before .before .before .before .before .before .before .before .before .before .args .i) (c .before .before .before .before .before .before .before .before .before .before .before .before .before .before .before .before .before .before .before .before .before .before .before .pre .1 .2) (sym (c .before .before .before .before .before .before .before .before .before .before .before .before .before .before .first .given .1) ∙ c .before .before .before .before .before .before .before .before .before .before .before .before .before .before .before .before .part-at .ensures) .1), ((c .before .before .before .before .before .before .before .before .before .before .before .before .before .before .before .before .before .before .before .before .before .before .before .pre .1 .0), (plus (from (source (c .before .before .before .before .before .before .before .before .before .before .before .before .before .before .before .before .before .before .before .before .before .before .before .args .src .now) (c .before .before .before .before .before .before .before .before .before .before .before .before .before .before .before .before .before .before .before .before .before .before .before .args .ids .now) (c .before .before .before .before .before .before .before .before .before .before .before .before .before .before .before .before .before .before .before .before .before .before .before .args .ends .now)) (c .before .before .before .before .before .before .before .before .before .before .before .before .before .before .before .before .before .before .before .before .before .before .before .args .s) (c .before .before .before .before .before .before .before .before .before .before .before .before .before .before .before .before .before .before .before .before .before .before .before .args .events .now) (c .before .before .before .before .before .before .before .before .before .before .before .before .before .before .before .before .before .before .before .before .before .before .before .args .errors .now) (c .before .before .before .before .before .before .before .before .before .before .before .before .before .before .before .before .before .before .before .before .before .before .before .args .scratch .now) (c .before .before .before .before .before .before .before .before .before .before .before .before .before .before .before .before .before .before .before .before .before .before .before .pre .1 .1)) (c .before .before .before .before .before .before .before .before .before .exec .ensures)) .wf, omega (arith, row-sound (c .before .before .before .before .before .before .before .before .before .before .before .before .before .before .before .before .before .before .before .before .before .before .before .args .i) (c .before .before .before .before .before .before .before .before .before .before .before .before .before .before .before .before .before .before .before .before .before .before .before .pre .1 .2) (sym (c .before .before .before .before .before .before .before .before .before .before .before .before .before .before .first .given .1) ∙ c .before .before .before .before .before .before .before .before .before .before .before .before .before .before .before .before .part-at .ensures) .1, (c .before .before .before .before .before .before .before .before .before .before .before .before .before .before .before .before .before .before .before .before .before .before .before .pre .1 .2))))
 
-exec-enum-known-part : (t : ℕ) → exec-lts.Need-enum-known-part (exec-cs t) (exec-at t) exec.Post
-exec-enum-known-part t c = search needs
+exec-enum-known-p : (t : ℕ) → exec-lts.Need-enum-known-p (exec-cs t) (exec-at t) exec.Post
+exec-enum-known-p t c = search needs
 
 exec-then-requires : (t : ℕ) → exec-lts.Need-then-requires (exec-cs t) (exec-at t) exec.Post
-exec-then-requires t c κs = (omega (arith, c .before .before .before .before .before .before .before .before .before .before .before .before .before .pre .0, row-sound (c .before .before .before .before .before .before .before .before .before .before .before .before .before .args .i) (c .before .before .before .before .before .before .before .before .before .before .before .before .before .pre .1 .2) (sym (c .before .before .before .before .part .given .1) ∙ c .before .before .before .before .before .before .part-at .ensures)), ((c .before .before .before .before .before .before .before .before .before .before .before .before .before .pre .1 .0), (from (source (c .before .before .before .before .before .before .before .before .before .before .before .before .before .args .src .now) (c .before .before .before .before .before .before .before .before .before .before .before .before .before .args .ids .now) (c .before .before .before .before .before .before .before .before .before .before .before .before .before .args .ends .now)) (c .before .before .before .before .before .before .before .before .before .before .before .before .before .args .s) (c .before .before .before .before .before .before .before .before .before .before .before .before .before .args .events .now) (c .before .before .before .before .before .before .before .before .before .before .before .before .before .args .errors .now) (c .before .before .before .before .before .before .before .before .before .before .before .before .before .args .scratch .now) (c .before .before .before .before .before .before .before .before .before .before .before .before .before .pre .1 .1)) .wf, omega (arith, row-sound (c .before .before .before .before .before .before .before .before .before .before .before .before .before .args .i) (c .before .before .before .before .before .before .before .before .before .before .before .before .before .pre .1 .2) (sym (c .before .before .before .before .part .given .1) ∙ c .before .before .before .before .before .before .part-at .ensures), (c .before .before .before .before .before .before .before .before .before .before .before .before .before .pre .1 .2))))
+exec-then-requires t c κs = (omega (arith, c .before .before .before .before .before .before .before .before .before .before .before .before .before .pre .0, row-sound (c .before .before .before .before .before .before .before .before .before .before .before .before .before .args .i) (c .before .before .before .before .before .before .before .before .before .before .before .before .before .pre .1 .2) (sym (c .before .before .before .before .p .given .1) ∙ c .before .before .before .before .before .before .part-at .ensures)), ((c .before .before .before .before .before .before .before .before .before .before .before .before .before .pre .1 .0), (from (source (c .before .before .before .before .before .before .before .before .before .before .before .before .before .args .src .now) (c .before .before .before .before .before .before .before .before .before .before .before .before .before .args .ids .now) (c .before .before .before .before .before .before .before .before .before .before .before .before .before .args .ends .now)) (c .before .before .before .before .before .before .before .before .before .before .before .before .before .args .s) (c .before .before .before .before .before .before .before .before .before .before .before .before .before .args .events .now) (c .before .before .before .before .before .before .before .before .before .before .before .before .before .args .errors .now) (c .before .before .before .before .before .before .before .before .before .before .before .before .before .args .scratch .now) (c .before .before .before .before .before .before .before .before .before .before .before .before .before .pre .1 .1)) .wf, omega (arith, row-sound (c .before .before .before .before .before .before .before .before .before .before .before .before .before .args .i) (c .before .before .before .before .before .before .before .before .before .before .before .before .before .pre .1 .2) (sym (c .before .before .before .before .p .given .1) ∙ c .before .before .before .before .before .before .part-at .ensures), (c .before .before .before .before .before .before .before .before .before .before .before .before .before .pre .1 .2))))
 
 exec-enum-known-set-4 : (t : ℕ) → exec-lts.Need-enum-known-set-4 (exec-cs t) (exec-at t) exec.Post
 exec-enum-known-set-4 t c = search needs
@@ -297,23 +297,23 @@ exec-enum-known-set-4 t c = search needs
 exec-when-requires : (t : ℕ) → exec-lts.Need-when-requires (exec-cs t) (exec-at t) exec.Post
 exec-when-requires t c κs = (omega (arith, c .before .before .before .before .before .before .before .before .before .before .before .before .before .pre .0, row-sound (c .before .before .before .before .before .before .before .before .before .before .before .before .before .args .i) (c .before .before .before .before .before .before .before .before .before .before .before .before .before .pre .1 .2) (sym (c .before .before .before .before .set4 .given .1) ∙ c .before .before .before .before .before .before .part-at .ensures)), ((c .before .before .before .before .before .before .before .before .before .before .before .before .before .pre .1 .0), (from (source (c .before .before .before .before .before .before .before .before .before .before .before .before .before .args .src .now) (c .before .before .before .before .before .before .before .before .before .before .before .before .before .args .ids .now) (c .before .before .before .before .before .before .before .before .before .before .before .before .before .args .ends .now)) (c .before .before .before .before .before .before .before .before .before .before .before .before .before .args .s) (c .before .before .before .before .before .before .before .before .before .before .before .before .before .args .events .now) (c .before .before .before .before .before .before .before .before .before .before .before .before .before .args .errors .now) (c .before .before .before .before .before .before .before .before .before .before .before .before .before .args .scratch .now) (c .before .before .before .before .before .before .before .before .before .before .before .before .before .pre .1 .1)) .wf, omega (arith, row-sound (c .before .before .before .before .before .before .before .before .before .before .before .before .before .args .i) (c .before .before .before .before .before .before .before .before .before .before .before .before .before .pre .1 .2) (sym (c .before .before .before .before .set4 .given .1) ∙ c .before .before .before .before .before .before .part-at .ensures), (c .before .before .before .before .before .before .before .before .before .before .before .before .before .pre .1 .2))))
 
-exec-enum-known-part-2 : (t : ℕ) → exec-lts.Need-enum-known-part-2 (exec-cs t) (exec-at t) exec.Post
-exec-enum-known-part-2 t c = search needs
+exec-enum-known-p-2 : (t : ℕ) → exec-lts.Need-enum-known-p-2 (exec-cs t) (exec-at t) exec.Post
+exec-enum-known-p-2 t c = search needs
 
 exec-many-requires : (t : ℕ) → exec-lts.Need-many-requires (exec-cs t) (exec-at t) exec.Post
-exec-many-requires t c κs = (omega (arith, c .before .before .before .before .before .before .before .before .before .before .before .before .before .pre .0, row-sound (c .before .before .before .before .before .before .before .before .before .before .before .before .before .args .i) (c .before .before .before .before .before .before .before .before .before .before .before .before .before .pre .1 .2) (sym (c .before .before .before .before .part2 .given .1) ∙ c .before .before .before .before .before .before .part-at .ensures)), ((c .before .before .before .before .before .before .before .before .before .before .before .before .before .pre .1 .0), (from (source (c .before .before .before .before .before .before .before .before .before .before .before .before .before .args .src .now) (c .before .before .before .before .before .before .before .before .before .before .before .before .before .args .ids .now) (c .before .before .before .before .before .before .before .before .before .before .before .before .before .args .ends .now)) (c .before .before .before .before .before .before .before .before .before .before .before .before .before .args .s) (c .before .before .before .before .before .before .before .before .before .before .before .before .before .args .events .now) (c .before .before .before .before .before .before .before .before .before .before .before .before .before .args .errors .now) (c .before .before .before .before .before .before .before .before .before .before .before .before .before .args .scratch .now) (c .before .before .before .before .before .before .before .before .before .before .before .before .before .pre .1 .1)) .wf, omega (arith, row-sound (c .before .before .before .before .before .before .before .before .before .before .before .before .before .args .i) (c .before .before .before .before .before .before .before .before .before .before .before .before .before .pre .1 .2) (sym (c .before .before .before .before .part2 .given .1) ∙ c .before .before .before .before .before .before .part-at .ensures), (c .before .before .before .before .before .before .before .before .before .before .before .before .before .pre .1 .2))))
+exec-many-requires t c κs = (omega (arith, c .before .before .before .before .before .before .before .before .before .before .before .before .before .pre .0, row-sound (c .before .before .before .before .before .before .before .before .before .before .before .before .before .args .i) (c .before .before .before .before .before .before .before .before .before .before .before .before .before .pre .1 .2) (sym (c .before .before .before .before .p2 .given .1) ∙ c .before .before .before .before .before .before .part-at .ensures)), ((c .before .before .before .before .before .before .before .before .before .before .before .before .before .pre .1 .0), (from (source (c .before .before .before .before .before .before .before .before .before .before .before .before .before .args .src .now) (c .before .before .before .before .before .before .before .before .before .before .before .before .before .args .ids .now) (c .before .before .before .before .before .before .before .before .before .before .before .before .before .args .ends .now)) (c .before .before .before .before .before .before .before .before .before .before .before .before .before .args .s) (c .before .before .before .before .before .before .before .before .before .before .before .before .before .args .events .now) (c .before .before .before .before .before .before .before .before .before .before .before .before .before .args .errors .now) (c .before .before .before .before .before .before .before .before .before .before .before .before .before .args .scratch .now) (c .before .before .before .before .before .before .before .before .before .before .before .before .before .pre .1 .1)) .wf, omega (arith, row-sound (c .before .before .before .before .before .before .before .before .before .before .before .before .before .args .i) (c .before .before .before .before .before .before .before .before .before .before .before .before .before .pre .1 .2) (sym (c .before .before .before .before .p2 .given .1) ∙ c .before .before .before .before .before .before .part-at .ensures), (c .before .before .before .before .before .before .before .before .before .before .before .before .before .pre .1 .2))))
 
-exec-enum-known-part-3 : (t : ℕ) → exec-lts.Need-enum-known-part-3 (exec-cs t) (exec-at t) exec.Post
-exec-enum-known-part-3 t c = search needs
+exec-enum-known-p-3 : (t : ℕ) → exec-lts.Need-enum-known-p-3 (exec-cs t) (exec-at t) exec.Post
+exec-enum-known-p-3 t c = search needs
 
 exec-opt-requires : (t : ℕ) → exec-lts.Need-opt-requires (exec-cs t) (exec-at t) exec.Post
-exec-opt-requires t c κs = (omega (arith, c .before .before .before .before .before .before .before .before .before .before .before .before .before .pre .0, row-sound (c .before .before .before .before .before .before .before .before .before .before .before .before .before .args .i) (c .before .before .before .before .before .before .before .before .before .before .before .before .before .pre .1 .2) (sym (c .before .before .before .before .part3 .given .1) ∙ c .before .before .before .before .before .before .part-at .ensures)), ((c .before .before .before .before .before .before .before .before .before .before .before .before .before .pre .1 .0), (from (source (c .before .before .before .before .before .before .before .before .before .before .before .before .before .args .src .now) (c .before .before .before .before .before .before .before .before .before .before .before .before .before .args .ids .now) (c .before .before .before .before .before .before .before .before .before .before .before .before .before .args .ends .now)) (c .before .before .before .before .before .before .before .before .before .before .before .before .before .args .s) (c .before .before .before .before .before .before .before .before .before .before .before .before .before .args .events .now) (c .before .before .before .before .before .before .before .before .before .before .before .before .before .args .errors .now) (c .before .before .before .before .before .before .before .before .before .before .before .before .before .args .scratch .now) (c .before .before .before .before .before .before .before .before .before .before .before .before .before .pre .1 .1)) .wf, omega (arith, row-sound (c .before .before .before .before .before .before .before .before .before .before .before .before .before .args .i) (c .before .before .before .before .before .before .before .before .before .before .before .before .before .pre .1 .2) (sym (c .before .before .before .before .part3 .given .1) ∙ c .before .before .before .before .before .before .part-at .ensures), (c .before .before .before .before .before .before .before .before .before .before .before .before .before .pre .1 .2))))
+exec-opt-requires t c κs = (omega (arith, c .before .before .before .before .before .before .before .before .before .before .before .before .before .pre .0, row-sound (c .before .before .before .before .before .before .before .before .before .before .before .before .before .args .i) (c .before .before .before .before .before .before .before .before .before .before .before .before .before .pre .1 .2) (sym (c .before .before .before .before .p3 .given .1) ∙ c .before .before .before .before .before .before .part-at .ensures)), ((c .before .before .before .before .before .before .before .before .before .before .before .before .before .pre .1 .0), (from (source (c .before .before .before .before .before .before .before .before .before .before .before .before .before .args .src .now) (c .before .before .before .before .before .before .before .before .before .before .before .before .before .args .ids .now) (c .before .before .before .before .before .before .before .before .before .before .before .before .before .args .ends .now)) (c .before .before .before .before .before .before .before .before .before .before .before .before .before .args .s) (c .before .before .before .before .before .before .before .before .before .before .before .before .before .args .events .now) (c .before .before .before .before .before .before .before .before .before .before .before .before .before .args .errors .now) (c .before .before .before .before .before .before .before .before .before .before .before .before .before .args .scratch .now) (c .before .before .before .before .before .before .before .before .before .before .before .before .before .pre .1 .1)) .wf, omega (arith, row-sound (c .before .before .before .before .before .before .before .before .before .before .before .before .before .args .i) (c .before .before .before .before .before .before .before .before .before .before .before .before .before .pre .1 .2) (sym (c .before .before .before .before .p3 .given .1) ∙ c .before .before .before .before .before .before .part-at .ensures), (c .before .before .before .before .before .before .before .before .before .before .before .before .before .pre .1 .2))))
 
-exec-enum-known-part-4 : (t : ℕ) → exec-lts.Need-enum-known-part-4 (exec-cs t) (exec-at t) exec.Post
-exec-enum-known-part-4 t c = search needs
+exec-enum-known-p-4 : (t : ℕ) → exec-lts.Need-enum-known-p-4 (exec-cs t) (exec-at t) exec.Post
+exec-enum-known-p-4 t c = search needs
 
 exec-last-requires : (t : ℕ) → exec-lts.Need-last-requires (exec-cs t) (exec-at t) exec.Post
-exec-last-requires t c κs = (omega (arith, c .before .before .before .before .before .before .before .before .before .before .before .before .before .pre .0, row-sound (c .before .before .before .before .before .before .before .before .before .before .before .before .before .args .i) (c .before .before .before .before .before .before .before .before .before .before .before .before .before .pre .1 .2) (sym (c .before .before .before .before .part4 .given .1) ∙ c .before .before .before .before .before .before .part-at .ensures)), ((c .before .before .before .before .before .before .before .before .before .before .before .before .before .pre .1 .0), (from (source (c .before .before .before .before .before .before .before .before .before .before .before .before .before .args .src .now) (c .before .before .before .before .before .before .before .before .before .before .before .before .before .args .ids .now) (c .before .before .before .before .before .before .before .before .before .before .before .before .before .args .ends .now)) (c .before .before .before .before .before .before .before .before .before .before .before .before .before .args .s) (c .before .before .before .before .before .before .before .before .before .before .before .before .before .args .events .now) (c .before .before .before .before .before .before .before .before .before .before .before .before .before .args .errors .now) (c .before .before .before .before .before .before .before .before .before .before .before .before .before .args .scratch .now) (c .before .before .before .before .before .before .before .before .before .before .before .before .before .pre .1 .1)) .wf, omega (arith, row-sound (c .before .before .before .before .before .before .before .before .before .before .before .before .before .args .i) (c .before .before .before .before .before .before .before .before .before .before .before .before .before .pre .1 .2) (sym (c .before .before .before .before .part4 .given .1) ∙ c .before .before .before .before .before .before .part-at .ensures), (c .before .before .before .before .before .before .before .before .before .before .before .before .before .pre .1 .2))))
+exec-last-requires t c κs = (omega (arith, c .before .before .before .before .before .before .before .before .before .before .before .before .before .pre .0, row-sound (c .before .before .before .before .before .before .before .before .before .before .before .before .before .args .i) (c .before .before .before .before .before .before .before .before .before .before .before .before .before .pre .1 .2) (sym (c .before .before .before .before .p4 .given .1) ∙ c .before .before .before .before .before .before .part-at .ensures)), ((c .before .before .before .before .before .before .before .before .before .before .before .before .before .pre .1 .0), (from (source (c .before .before .before .before .before .before .before .before .before .before .before .before .before .args .src .now) (c .before .before .before .before .before .before .before .before .before .before .before .before .before .args .ids .now) (c .before .before .before .before .before .before .before .before .before .before .before .before .before .args .ends .now)) (c .before .before .before .before .before .before .before .before .before .before .before .before .before .args .s) (c .before .before .before .before .before .before .before .before .before .before .before .before .before .args .events .now) (c .before .before .before .before .before .before .before .before .before .before .before .before .before .args .errors .now) (c .before .before .before .before .before .before .before .before .before .before .before .before .before .args .scratch .now) (c .before .before .before .before .before .before .before .before .before .before .before .before .before .pre .1 .1)) .wf, omega (arith, row-sound (c .before .before .before .before .before .before .before .before .before .before .before .before .before .args .i) (c .before .before .before .before .before .before .before .before .before .before .before .before .before .pre .1 .2) (sym (c .before .before .before .before .p4 .given .1) ∙ c .before .before .before .before .before .before .part-at .ensures), (c .before .before .before .before .before .before .before .before .before .before .before .before .before .pre .1 .2))))
 
 exec-enum-known-first-2 : (t : ℕ) → exec-lts.Need-enum-known-first-2 (exec-cs t) (exec-at t) exec.Post
 exec-enum-known-first-2 t c = search needs
@@ -385,7 +385,7 @@ exec-same-length-15 : (t : ℕ) → exec-lts.Need-same-length-15 (exec-cs t) (ex
 exec-same-length-15 t c = c .before .before .before .before .before .before .then .kept .1 .1 .1 .1 .1 .1 .1 .1 .1 .0
 
 exec-returns-7 : (t : ℕ) → exec-lts.Need-returns-7 (exec-cs t) (exec-at t) exec.Post
-exec-returns-7 t c = is-row (c .before .before .before .before .before .before .before .before .before .before .before .before .before .before .before .before .before .before .before .before .args .d) (c .before .before .before .before .before .before .before .before .before .before .before .before .before .before .before .before .before .before .before .before .args .optional) (c .before .before .before .before .before .before .before .before .before .before .before .before .before .before .before .before .before .before .before .before .args .i) (c .before .before .before .before .before .before .before .before .before .before .before .before .before .before .before .before .before .before .before .before .pre .1 .2) (sym (c .before .before .before .before .before .before .before .before .before .before .before .part .given .1) ∙ c .before .before .before .before .before .before .before .before .before .before .before .before .before .part-at .ensures) (c .before .before .before .before .before .before .then .ensures)
+exec-returns-7 t c = is-row (c .before .before .before .before .before .before .before .before .before .before .before .before .before .before .before .before .before .before .before .before .args .d) (c .before .before .before .before .before .before .before .before .before .before .before .before .before .before .before .before .before .before .before .before .args .optional) (c .before .before .before .before .before .before .before .before .before .before .before .before .before .before .before .before .before .before .before .before .args .i) (c .before .before .before .before .before .before .before .before .before .before .before .before .before .before .before .before .before .before .before .before .pre .1 .2) (sym (c .before .before .before .before .before .before .before .before .before .before .before .p .given .1) ∙ c .before .before .before .before .before .before .before .before .before .before .before .before .before .part-at .ensures) (c .before .before .before .before .before .before .then .ensures)
 
 exec-same-length-16 : (t : ℕ) → exec-lts.Need-same-length-16 (exec-cs t) (exec-at t) exec.Post
 exec-same-length-16 t c = c .before .before .before .before .before .before .when .kept .1 .1 .1 .1 .1 .1 .1 .1 .0
@@ -409,7 +409,7 @@ exec-same-length-21 : (t : ℕ) → exec-lts.Need-same-length-21 (exec-cs t) (ex
 exec-same-length-21 t c = c .before .before .before .before .before .before .many .kept .1 .1 .1 .1 .1 .1 .1 .1 .0
 
 exec-returns-9 : (t : ℕ) → exec-lts.Need-returns-9 (exec-cs t) (exec-at t) exec.Post
-exec-returns-9 t c = is-row (c .before .before .before .before .before .before .before .before .before .before .before .before .before .before .before .before .before .before .before .before .args .d) (c .before .before .before .before .before .before .before .before .before .before .before .before .before .before .before .before .before .before .before .before .args .optional) (c .before .before .before .before .before .before .before .before .before .before .before .before .before .before .before .before .before .before .before .before .args .i) (c .before .before .before .before .before .before .before .before .before .before .before .before .before .before .before .before .before .before .before .before .pre .1 .2) (sym (c .before .before .before .before .before .before .before .before .before .before .before .part2 .given .1) ∙ c .before .before .before .before .before .before .before .before .before .before .before .before .before .part-at .ensures) (c .before .before .before .before .before .before .many .ensures)
+exec-returns-9 t c = is-row (c .before .before .before .before .before .before .before .before .before .before .before .before .before .before .before .before .before .before .before .before .args .d) (c .before .before .before .before .before .before .before .before .before .before .before .before .before .before .before .before .before .before .before .before .args .optional) (c .before .before .before .before .before .before .before .before .before .before .before .before .before .before .before .before .before .before .before .before .args .i) (c .before .before .before .before .before .before .before .before .before .before .before .before .before .before .before .before .before .before .before .before .pre .1 .2) (sym (c .before .before .before .before .before .before .before .before .before .before .before .p2 .given .1) ∙ c .before .before .before .before .before .before .before .before .before .before .before .before .before .part-at .ensures) (c .before .before .before .before .before .before .many .ensures)
 
 exec-same-length-22 : (t : ℕ) → exec-lts.Need-same-length-22 (exec-cs t) (exec-at t) exec.Post
 exec-same-length-22 t c = c .before .before .before .before .before .before .opt .kept .1 .1 .1 .1 .1 .1 .0
@@ -421,7 +421,7 @@ exec-same-length-24 : (t : ℕ) → exec-lts.Need-same-length-24 (exec-cs t) (ex
 exec-same-length-24 t c = c .before .before .before .before .before .before .opt .kept .1 .1 .1 .1 .1 .1 .1 .1 .0
 
 exec-returns-10 : (t : ℕ) → exec-lts.Need-returns-10 (exec-cs t) (exec-at t) exec.Post
-exec-returns-10 t c = is-row (c .before .before .before .before .before .before .before .before .before .before .before .before .before .before .before .before .before .before .before .before .args .d) (c .before .before .before .before .before .before .before .before .before .before .before .before .before .before .before .before .before .before .before .before .args .optional) (c .before .before .before .before .before .before .before .before .before .before .before .before .before .before .before .before .before .before .before .before .args .i) (c .before .before .before .before .before .before .before .before .before .before .before .before .before .before .before .before .before .before .before .before .pre .1 .2) (sym (c .before .before .before .before .before .before .before .before .before .before .before .part3 .given .1) ∙ c .before .before .before .before .before .before .before .before .before .before .before .before .before .part-at .ensures) (c .before .before .before .before .before .before .opt .ensures)
+exec-returns-10 t c = is-row (c .before .before .before .before .before .before .before .before .before .before .before .before .before .before .before .before .before .before .before .before .args .d) (c .before .before .before .before .before .before .before .before .before .before .before .before .before .before .before .before .before .before .before .before .args .optional) (c .before .before .before .before .before .before .before .before .before .before .before .before .before .before .before .before .before .before .before .before .args .i) (c .before .before .before .before .before .before .before .before .before .before .before .before .before .before .before .before .before .before .before .before .pre .1 .2) (sym (c .before .before .before .before .before .before .before .before .before .before .before .p3 .given .1) ∙ c .before .before .before .before .before .before .before .before .before .before .before .before .before .part-at .ensures) (c .before .before .before .before .before .before .opt .ensures)
 
 exec-same-length-25 : (t : ℕ) → exec-lts.Need-same-length-25 (exec-cs t) (exec-at t) exec.Post
 exec-same-length-25 t c = c .before .before .before .before .before .before .last .kept .1 .1 .1 .1 .1 .1 .0
@@ -433,7 +433,7 @@ exec-same-length-27 : (t : ℕ) → exec-lts.Need-same-length-27 (exec-cs t) (ex
 exec-same-length-27 t c = c .before .before .before .before .before .before .last .kept .1 .1 .1 .1 .1 .1 .1 .1 .0
 
 exec-returns-11 : (t : ℕ) → exec-lts.Need-returns-11 (exec-cs t) (exec-at t) exec.Post
-exec-returns-11 t c = is-row (c .before .before .before .before .before .before .before .before .before .before .before .before .before .before .before .before .before .before .before .before .args .d) (c .before .before .before .before .before .before .before .before .before .before .before .before .before .before .before .before .before .before .before .before .args .optional) (c .before .before .before .before .before .before .before .before .before .before .before .before .before .before .before .before .before .before .before .before .args .i) (c .before .before .before .before .before .before .before .before .before .before .before .before .before .before .before .before .before .before .before .before .pre .1 .2) (sym (c .before .before .before .before .before .before .before .before .before .before .before .part4 .given .1) ∙ c .before .before .before .before .before .before .before .before .before .before .before .before .before .part-at .ensures) (c .before .before .before .before .before .before .last .ensures)
+exec-returns-11 t c = is-row (c .before .before .before .before .before .before .before .before .before .before .before .before .before .before .before .before .before .before .before .before .args .d) (c .before .before .before .before .before .before .before .before .before .before .before .before .before .before .before .before .before .before .before .before .args .optional) (c .before .before .before .before .before .before .before .before .before .before .before .before .before .before .before .before .before .before .before .before .args .i) (c .before .before .before .before .before .before .before .before .before .before .before .before .before .before .before .before .before .before .before .before .pre .1 .2) (sym (c .before .before .before .before .before .before .before .before .before .before .before .p4 .given .1) ∙ c .before .before .before .before .before .before .before .before .before .before .before .before .before .part-at .ensures) (c .before .before .before .before .before .before .last .ensures)
 
 exec-same-length-28 : (t : ℕ) → exec-lts.Need-same-length-28 (exec-cs t) (exec-at t) exec.Post
 exec-same-length-28 t c = c .before .before .before .before .before .before .alt .kept .1 .1 .1 .1 .1 .1 .1 .1 .0
@@ -451,7 +451,7 @@ abbrev last-cs : ℕ → last-lts.Claims
 last-cs t = (mark-reads.Asked, mark-reads.Learnt, trivia-reads.Asked, trivia-reads.Learnt, exec-below t, exec.Post, rewind-reads.Asked, rewind-reads.Learnt)
 
 last-returns : (t : ℕ) → last-lts.Need-returns (last-cs t) (last-at t) last.Post
-last-returns t c = stops (from (source (c .before .before .before .before .before .before .before .before .args .src .now) (c .before .before .before .before .before .before .before .before .args .ids .now) (c .before .before .before .before .before .before .before .before .args .ends .now)) (c .before .before .before .before .before .before .before .before .args .s) (c .before .before .before .before .before .before .before .before .args .events .now) (c .before .before .before .before .before .before .before .before .args .errors .now) (c .before .before .before .before .before .before .before .before .args .scratch .now) (c .before .before .before .before .before .before .before .before .pre .1 .1)) (c .before .before .before .before .before .before .before .before .args .d) true (G.last (prog (c .before .before .before .before .before .before .before .before .args .part))) tt (c .if1 .taken)
+last-returns t c = stops (from (source (c .before .before .before .before .before .before .before .before .args .src .now) (c .before .before .before .before .before .before .before .before .args .ids .now) (c .before .before .before .before .before .before .before .before .args .ends .now)) (c .before .before .before .before .before .before .before .before .args .s) (c .before .before .before .before .before .before .before .before .args .events .now) (c .before .before .before .before .before .before .before .before .args .errors .now) (c .before .before .before .before .before .before .before .before .args .scratch .now) (c .before .before .before .before .before .before .before .before .pre .1 .1)) (c .before .before .before .before .before .before .before .before .args .d) true (G.last (prog (c .before .before .before .before .before .before .before .before .args .p))) tt (c .if1 .taken)
 
 last-mark-requires : (t : ℕ) → last-lts.Need-mark-requires (last-cs t) (last-at t) last.Post
 last-mark-requires t c κs = search needs
@@ -475,7 +475,7 @@ last-same-length-3 : (t : ℕ) → last-lts.Need-same-length-3 (last-cs t) (last
 last-same-length-3 t c = c .before .before .before .before .before .before .before .before .before .exec .kept .1 .1 .1 .1 .1 .1 .1 .1 .1 .0
 
 last-returns-2 : (t : ℕ) → last-lts.Need-returns-2 (last-cs t) (last-at t) last.Post
-last-returns-2 t c = tried-last (tries (c .before .before .before .before .before .before .before .before .before .before .before .before .before .before .before .before .before .before .before .before .before .before .before .before .before .before .args .d) true (G.last (prog (c .before .before .before .before .before .before .before .before .before .before .before .before .before .before .before .before .before .before .before .before .before .before .before .before .before .before .args .part))) (from (source (c .before .before .before .before .before .before .before .before .before .before .before .before .before .before .before .before .before .before .before .before .before .before .before .before .before .before .args .src .now) (c .before .before .before .before .before .before .before .before .before .before .before .before .before .before .before .before .before .before .before .before .before .before .before .before .before .before .args .ids .now) (c .before .before .before .before .before .before .before .before .before .before .before .before .before .before .before .before .before .before .before .before .before .before .before .before .before .before .args .ends .now)) (c .before .before .before .before .before .before .before .before .before .before .before .before .before .before .before .before .before .before .before .before .before .before .before .before .before .before .args .s) (c .before .before .before .before .before .before .before .before .before .before .before .before .before .before .before .before .before .before .before .before .before .before .before .before .before .before .args .events .now) (c .before .before .before .before .before .before .before .before .before .before .before .before .before .before .before .before .before .before .before .before .before .before .before .before .before .before .args .errors .now) (c .before .before .before .before .before .before .before .before .before .before .before .before .before .before .before .before .before .before .before .before .before .before .before .before .before .before .args .scratch .now) (c .before .before .before .before .before .before .before .before .before .before .before .before .before .before .before .before .before .before .before .before .before .before .before .before .before .before .pre .1 .1)) (c .before .before .before .before .before .before .before .before .before .before .before .before .before .before .before .before .before .before .if1 .left) (c .before .before .before .before .before .before .before .before .before .before .before .before .before .before .before .before .before .mark .ensures)) (plus (plusE (here (from (source (c .before .before .before .before .before .before .before .before .before .before .before .before .before .before .before .before .before .before .before .before .before .before .before .before .before .before .args .src .now) (c .before .before .before .before .before .before .before .before .before .before .before .before .before .before .before .before .before .before .before .before .before .before .before .before .before .before .args .ids .now) (c .before .before .before .before .before .before .before .before .before .before .before .before .before .before .before .before .before .before .before .before .before .before .before .before .before .before .args .ends .now)) (c .before .before .before .before .before .before .before .before .before .before .before .before .before .before .before .before .before .before .before .before .before .before .before .before .before .before .args .s) (c .before .before .before .before .before .before .before .before .before .before .before .before .before .before .before .before .before .before .before .before .before .before .before .before .before .before .args .events .now) (c .before .before .before .before .before .before .before .before .before .before .before .before .before .before .before .before .before .before .before .before .before .before .before .before .before .before .args .errors .now) (c .before .before .before .before .before .before .before .before .before .before .before .before .before .before .before .before .before .before .before .before .before .before .before .before .before .before .args .scratch .now) (c .before .before .before .before .before .before .before .before .before .before .before .before .before .before .before .before .before .before .before .before .before .before .before .before .before .before .pre .1 .1))) (c .before .before .before .before .before .before .before .before .before .before .before .before .before .before .before .trivia .ensures (c .before .before .before .before .before .before .before .before .before .before .before .before .before .before .before .before .before .before .before .before .before .before .before .before .before .before .args .src .now))) (c .before .before .before .before .before .before .before .before .before .exec .ensures)) (c .rewind .ensures ∙ lost-back _ _ (c .before .if2 .taken))
+last-returns-2 t c = tried-last (tries (c .before .before .before .before .before .before .before .before .before .before .before .before .before .before .before .before .before .before .before .before .before .before .before .before .before .before .args .d) true (G.last (prog (c .before .before .before .before .before .before .before .before .before .before .before .before .before .before .before .before .before .before .before .before .before .before .before .before .before .before .args .p))) (from (source (c .before .before .before .before .before .before .before .before .before .before .before .before .before .before .before .before .before .before .before .before .before .before .before .before .before .before .args .src .now) (c .before .before .before .before .before .before .before .before .before .before .before .before .before .before .before .before .before .before .before .before .before .before .before .before .before .before .args .ids .now) (c .before .before .before .before .before .before .before .before .before .before .before .before .before .before .before .before .before .before .before .before .before .before .before .before .before .before .args .ends .now)) (c .before .before .before .before .before .before .before .before .before .before .before .before .before .before .before .before .before .before .before .before .before .before .before .before .before .before .args .s) (c .before .before .before .before .before .before .before .before .before .before .before .before .before .before .before .before .before .before .before .before .before .before .before .before .before .before .args .events .now) (c .before .before .before .before .before .before .before .before .before .before .before .before .before .before .before .before .before .before .before .before .before .before .before .before .before .before .args .errors .now) (c .before .before .before .before .before .before .before .before .before .before .before .before .before .before .before .before .before .before .before .before .before .before .before .before .before .before .args .scratch .now) (c .before .before .before .before .before .before .before .before .before .before .before .before .before .before .before .before .before .before .before .before .before .before .before .before .before .before .pre .1 .1)) (c .before .before .before .before .before .before .before .before .before .before .before .before .before .before .before .before .before .before .if1 .left) (c .before .before .before .before .before .before .before .before .before .before .before .before .before .before .before .before .before .mark .ensures)) (plus (plusE (here (from (source (c .before .before .before .before .before .before .before .before .before .before .before .before .before .before .before .before .before .before .before .before .before .before .before .before .before .before .args .src .now) (c .before .before .before .before .before .before .before .before .before .before .before .before .before .before .before .before .before .before .before .before .before .before .before .before .before .before .args .ids .now) (c .before .before .before .before .before .before .before .before .before .before .before .before .before .before .before .before .before .before .before .before .before .before .before .before .before .before .args .ends .now)) (c .before .before .before .before .before .before .before .before .before .before .before .before .before .before .before .before .before .before .before .before .before .before .before .before .before .before .args .s) (c .before .before .before .before .before .before .before .before .before .before .before .before .before .before .before .before .before .before .before .before .before .before .before .before .before .before .args .events .now) (c .before .before .before .before .before .before .before .before .before .before .before .before .before .before .before .before .before .before .before .before .before .before .before .before .before .before .args .errors .now) (c .before .before .before .before .before .before .before .before .before .before .before .before .before .before .before .before .before .before .before .before .before .before .before .before .before .before .args .scratch .now) (c .before .before .before .before .before .before .before .before .before .before .before .before .before .before .before .before .before .before .before .before .before .before .before .before .before .before .pre .1 .1))) (c .before .before .before .before .before .before .before .before .before .before .before .before .before .before .before .trivia .ensures (c .before .before .before .before .before .before .before .before .before .before .before .before .before .before .before .before .before .before .before .before .before .before .before .before .before .before .args .src .now))) (c .before .before .before .before .before .before .before .before .before .exec .ensures)) (c .rewind .ensures ∙ lost-back _ _ (c .before .if2 .taken))
 
 last-same-length-4 : (t : ℕ) → last-lts.Need-same-length-4 (last-cs t) (last-at t) last.Post
 last-same-length-4 t c = c .before .before .before .before .before .before .before .before .exec .kept .1 .1 .1 .1 .1 .1 .1 .0 ∙ c .before .before .before .before .before .before .before .before .before .before .before .before .before .before .trivia .kept .1 .1 .1 .0
@@ -487,19 +487,19 @@ last-same-length-6 : (t : ℕ) → last-lts.Need-same-length-6 (last-cs t) (last
 last-same-length-6 t c = c .before .before .before .before .before .before .before .before .exec .kept .1 .1 .1 .1 .1 .1 .1 .1 .1 .0
 
 last-returns-3 : (t : ℕ) → last-lts.Need-returns-3 (last-cs t) (last-at t) last.Post
-last-returns-3 t c = tried-last (tries (c .before .before .before .before .before .before .before .before .before .before .before .before .before .before .before .before .before .before .before .before .before .before .before .before .before .args .d) true (G.last (prog (c .before .before .before .before .before .before .before .before .before .before .before .before .before .before .before .before .before .before .before .before .before .before .before .before .before .args .part))) (from (source (c .before .before .before .before .before .before .before .before .before .before .before .before .before .before .before .before .before .before .before .before .before .before .before .before .before .args .src .now) (c .before .before .before .before .before .before .before .before .before .before .before .before .before .before .before .before .before .before .before .before .before .before .before .before .before .args .ids .now) (c .before .before .before .before .before .before .before .before .before .before .before .before .before .before .before .before .before .before .before .before .before .before .before .before .before .args .ends .now)) (c .before .before .before .before .before .before .before .before .before .before .before .before .before .before .before .before .before .before .before .before .before .before .before .before .before .args .s) (c .before .before .before .before .before .before .before .before .before .before .before .before .before .before .before .before .before .before .before .before .before .before .before .before .before .args .events .now) (c .before .before .before .before .before .before .before .before .before .before .before .before .before .before .before .before .before .before .before .before .before .before .before .before .before .args .errors .now) (c .before .before .before .before .before .before .before .before .before .before .before .before .before .before .before .before .before .before .before .before .before .before .before .before .before .args .scratch .now) (c .before .before .before .before .before .before .before .before .before .before .before .before .before .before .before .before .before .before .before .before .before .before .before .before .before .pre .1 .1)) (c .before .before .before .before .before .before .before .before .before .before .before .before .before .before .before .before .before .if1 .left) (c .before .before .before .before .before .before .before .before .before .before .before .before .before .before .before .before .mark .ensures)) (plus (plusE (here (from (source (c .before .before .before .before .before .before .before .before .before .before .before .before .before .before .before .before .before .before .before .before .before .before .before .before .before .args .src .now) (c .before .before .before .before .before .before .before .before .before .before .before .before .before .before .before .before .before .before .before .before .before .before .before .before .before .args .ids .now) (c .before .before .before .before .before .before .before .before .before .before .before .before .before .before .before .before .before .before .before .before .before .before .before .before .before .args .ends .now)) (c .before .before .before .before .before .before .before .before .before .before .before .before .before .before .before .before .before .before .before .before .before .before .before .before .before .args .s) (c .before .before .before .before .before .before .before .before .before .before .before .before .before .before .before .before .before .before .before .before .before .before .before .before .before .args .events .now) (c .before .before .before .before .before .before .before .before .before .before .before .before .before .before .before .before .before .before .before .before .before .before .before .before .before .args .errors .now) (c .before .before .before .before .before .before .before .before .before .before .before .before .before .before .before .before .before .before .before .before .before .before .before .before .before .args .scratch .now) (c .before .before .before .before .before .before .before .before .before .before .before .before .before .before .before .before .before .before .before .before .before .before .before .before .before .pre .1 .1))) (c .before .before .before .before .before .before .before .before .before .before .before .before .before .before .trivia .ensures (c .before .before .before .before .before .before .before .before .before .before .before .before .before .before .before .before .before .before .before .before .before .before .before .before .before .args .src .now))) (c .before .before .before .before .before .before .before .before .exec .ensures)) (lost-on _ _ (c .if2 .left))
+last-returns-3 t c = tried-last (tries (c .before .before .before .before .before .before .before .before .before .before .before .before .before .before .before .before .before .before .before .before .before .before .before .before .before .args .d) true (G.last (prog (c .before .before .before .before .before .before .before .before .before .before .before .before .before .before .before .before .before .before .before .before .before .before .before .before .before .args .p))) (from (source (c .before .before .before .before .before .before .before .before .before .before .before .before .before .before .before .before .before .before .before .before .before .before .before .before .before .args .src .now) (c .before .before .before .before .before .before .before .before .before .before .before .before .before .before .before .before .before .before .before .before .before .before .before .before .before .args .ids .now) (c .before .before .before .before .before .before .before .before .before .before .before .before .before .before .before .before .before .before .before .before .before .before .before .before .before .args .ends .now)) (c .before .before .before .before .before .before .before .before .before .before .before .before .before .before .before .before .before .before .before .before .before .before .before .before .before .args .s) (c .before .before .before .before .before .before .before .before .before .before .before .before .before .before .before .before .before .before .before .before .before .before .before .before .before .args .events .now) (c .before .before .before .before .before .before .before .before .before .before .before .before .before .before .before .before .before .before .before .before .before .before .before .before .before .args .errors .now) (c .before .before .before .before .before .before .before .before .before .before .before .before .before .before .before .before .before .before .before .before .before .before .before .before .before .args .scratch .now) (c .before .before .before .before .before .before .before .before .before .before .before .before .before .before .before .before .before .before .before .before .before .before .before .before .before .pre .1 .1)) (c .before .before .before .before .before .before .before .before .before .before .before .before .before .before .before .before .before .if1 .left) (c .before .before .before .before .before .before .before .before .before .before .before .before .before .before .before .before .mark .ensures)) (plus (plusE (here (from (source (c .before .before .before .before .before .before .before .before .before .before .before .before .before .before .before .before .before .before .before .before .before .before .before .before .before .args .src .now) (c .before .before .before .before .before .before .before .before .before .before .before .before .before .before .before .before .before .before .before .before .before .before .before .before .before .args .ids .now) (c .before .before .before .before .before .before .before .before .before .before .before .before .before .before .before .before .before .before .before .before .before .before .before .before .before .args .ends .now)) (c .before .before .before .before .before .before .before .before .before .before .before .before .before .before .before .before .before .before .before .before .before .before .before .before .before .args .s) (c .before .before .before .before .before .before .before .before .before .before .before .before .before .before .before .before .before .before .before .before .before .before .before .before .before .args .events .now) (c .before .before .before .before .before .before .before .before .before .before .before .before .before .before .before .before .before .before .before .before .before .before .before .before .before .args .errors .now) (c .before .before .before .before .before .before .before .before .before .before .before .before .before .before .before .before .before .before .before .before .before .before .before .before .before .args .scratch .now) (c .before .before .before .before .before .before .before .before .before .before .before .before .before .before .before .before .before .before .before .before .before .before .before .before .before .pre .1 .1))) (c .before .before .before .before .before .before .before .before .before .before .before .before .before .before .trivia .ensures (c .before .before .before .before .before .before .before .before .before .before .before .before .before .before .before .before .before .before .before .before .before .before .before .before .before .args .src .now))) (c .before .before .before .before .before .before .before .before .exec .ensures)) (lost-on _ _ (c .if2 .left))
 
 abbrev many-Inv-loop : many-lts.InvT-loop
-many-Inv-loop part s₀ d src ids ends events₀ errors₀ scratch₀ n₀ s events errors scratch n = Turns (reads d true (prog part)) (source src ids ends) s₀ s n₀ n events₀ errors₀ scratch₀ events errors scratch
+many-Inv-loop p s₀ d src ids ends events₀ errors₀ scratch₀ n₀ s events errors scratch n = Turns (reads d true (prog p)) (source src ids ends) s₀ s n₀ n events₀ errors₀ scratch₀ events errors scratch
 
 abbrev many-μ-loop : many-lts.MeasureT-loop
-many-μ-loop part s₀ d src ids ends events₀ errors₀ scratch₀ n₀ s events errors scratch n = n
+many-μ-loop p s₀ d src ids ends events₀ errors₀ scratch₀ n₀ s events errors scratch n = n
 
 abbrev many-cs : ℕ → many-lts.Claims
 many-cs t = (mark-reads.Asked, mark-reads.Learnt, trivia-reads.Asked, trivia-reads.Learnt, exec-below t, exec.Post, undone-reads.Asked, undone-reads.Learnt)
 
 many-returns : (t : ℕ) → many-lts.Need-returns (many-cs t) (many-at t) many.Post many-Inv-loop many-μ-loop
-many-returns t c = stops (from (source (c .before .before .before .before .before .before .before .before .args .src .now) (c .before .before .before .before .before .before .before .before .args .ids .now) (c .before .before .before .before .before .before .before .before .args .ends .now)) (c .before .before .before .before .before .before .before .before .args .s) (c .before .before .before .before .before .before .before .before .args .events .now) (c .before .before .before .before .before .before .before .before .args .errors .now) (c .before .before .before .before .before .before .before .before .args .scratch .now) (c .before .before .before .before .before .before .before .before .pre .1 .1)) (c .before .before .before .before .before .before .before .before .args .d) true (G.many (prog (c .before .before .before .before .before .before .before .before .args .part))) tt (c .if1 .taken)
+many-returns t c = stops (from (source (c .before .before .before .before .before .before .before .before .args .src .now) (c .before .before .before .before .before .before .before .before .args .ids .now) (c .before .before .before .before .before .before .before .before .args .ends .now)) (c .before .before .before .before .before .before .before .before .args .s) (c .before .before .before .before .before .before .before .before .args .events .now) (c .before .before .before .before .before .before .before .before .args .errors .now) (c .before .before .before .before .before .before .before .before .args .scratch .now) (c .before .before .before .before .before .before .before .before .pre .1 .1)) (c .before .before .before .before .before .before .before .before .args .d) true (G.many (prog (c .before .before .before .before .before .before .before .before .args .p))) tt (c .if1 .taken)
 
 many-sub-n : (t : ℕ) → many-lts.Need-sub-n (many-cs t) (many-at t) many.Post many-Inv-loop many-μ-loop
 many-sub-n t c = omega (arith, (c .before .before .before .before .before .before .before .before .before .pre .1 .1) .0 .0 .here)
@@ -508,7 +508,7 @@ many-add-n : (t : ℕ) → many-lts.Need-add-n (many-cs t) (many-at t) many.Post
 many-add-n t c = omega (arith, (c .before .before .before .before .before .before .before .before .before .pre .1 .0) .lines .few)
 
 many-loop-holds : (t : ℕ) → many-lts.Need-loop-holds (many-cs t) (many-at t) many.Post many-Inv-loop many-μ-loop
-many-loop-holds t c = turns (reads (c .before .before .before .before .before .before .before .before .before .args .d) true (prog (c .before .before .before .before .before .before .before .before .before .args .part))) _ _ _ _ (λ p. sticky-exec p _ (c .before .before .before .before .before .before .before .before .before .args .d) (prog (c .before .before .before .before .before .before .before .before .before .args .part)) true) (c .before .before .before .before .before .before .before .before .before .pre .1 .1) (c .before .if1 .left) refl
+many-loop-holds t c = turns (reads (c .before .before .before .before .before .before .before .before .before .args .d) true (prog (c .before .before .before .before .before .before .before .before .before .args .p))) _ _ _ _ (λ p. sticky-exec p _ (c .before .before .before .before .before .before .before .before .before .args .d) (prog (c .before .before .before .before .before .before .before .before .before .args .p)) true) (c .before .before .before .before .before .before .before .before .before .pre .1 .1) (c .before .if1 .left) refl
 
 many-mark-requires : (t : ℕ) → many-lts.Need-mark-requires (many-cs t) (many-at t) many.Post many-Inv-loop many-μ-loop
 many-mark-requires t c κs = search needs
@@ -598,7 +598,7 @@ abbrev opt-cs : ℕ → opt-lts.Claims
 opt-cs t = (mark-reads.Asked, mark-reads.Learnt, trivia-reads.Asked, trivia-reads.Learnt, exec-below t, exec.Post, retry-reads.Asked, retry-reads.Learnt)
 
 opt-returns : (t : ℕ) → opt-lts.Need-returns (opt-cs t) (opt-at t) opt.Post
-opt-returns t c = stops (from (source (c .before .before .before .before .before .before .before .before .args .src .now) (c .before .before .before .before .before .before .before .before .args .ids .now) (c .before .before .before .before .before .before .before .before .args .ends .now)) (c .before .before .before .before .before .before .before .before .args .s) (c .before .before .before .before .before .before .before .before .args .events .now) (c .before .before .before .before .before .before .before .before .args .errors .now) (c .before .before .before .before .before .before .before .before .args .scratch .now) (c .before .before .before .before .before .before .before .before .pre .1 .1)) (c .before .before .before .before .before .before .before .before .args .d) true (G.opt (prog (c .before .before .before .before .before .before .before .before .args .part))) tt (c .if1 .taken)
+opt-returns t c = stops (from (source (c .before .before .before .before .before .before .before .before .args .src .now) (c .before .before .before .before .before .before .before .before .args .ids .now) (c .before .before .before .before .before .before .before .before .args .ends .now)) (c .before .before .before .before .before .before .before .before .args .s) (c .before .before .before .before .before .before .before .before .args .events .now) (c .before .before .before .before .before .before .before .before .args .errors .now) (c .before .before .before .before .before .before .before .before .args .scratch .now) (c .before .before .before .before .before .before .before .before .pre .1 .1)) (c .before .before .before .before .before .before .before .before .args .d) true (G.opt (prog (c .before .before .before .before .before .before .before .before .args .p))) tt (c .if1 .taken)
 
 opt-mark-requires : (t : ℕ) → opt-lts.Need-mark-requires (opt-cs t) (opt-at t) opt.Post
 opt-mark-requires t c κs = search needs
@@ -622,7 +622,7 @@ opt-same-length-3 : (t : ℕ) → opt-lts.Need-same-length-3 (opt-cs t) (opt-at 
 opt-same-length-3 t c = c .before .before .before .before .before .before .before .before .before .exec .kept .1 .1 .1 .1 .1 .1 .1 .1 .1 .0
 
 opt-returns-2 : (t : ℕ) → opt-lts.Need-returns-2 (opt-cs t) (opt-at t) opt.Post
-opt-returns-2 t c = waives (c .before .before .before .before .before .before .before .before .before .before .before .before .before .before .before .before .before .before .before .before .before .before .before .before .before .before .args .d) true (prog (c .before .before .before .before .before .before .before .before .before .before .before .before .before .before .before .before .before .before .before .before .before .before .before .before .before .before .args .part)) (from (source (c .before .before .before .before .before .before .before .before .before .before .before .before .before .before .before .before .before .before .before .before .before .before .before .before .before .before .args .src .now) (c .before .before .before .before .before .before .before .before .before .before .before .before .before .before .before .before .before .before .before .before .before .before .before .before .before .before .args .ids .now) (c .before .before .before .before .before .before .before .before .before .before .before .before .before .before .before .before .before .before .before .before .before .before .before .before .before .before .args .ends .now)) (c .before .before .before .before .before .before .before .before .before .before .before .before .before .before .before .before .before .before .before .before .before .before .before .before .before .before .args .s) (c .before .before .before .before .before .before .before .before .before .before .before .before .before .before .before .before .before .before .before .before .before .before .before .before .before .before .args .events .now) (c .before .before .before .before .before .before .before .before .before .before .before .before .before .before .before .before .before .before .before .before .before .before .before .before .before .before .args .errors .now) (c .before .before .before .before .before .before .before .before .before .before .before .before .before .before .before .before .before .before .before .before .before .before .before .before .before .before .args .scratch .now) (c .before .before .before .before .before .before .before .before .before .before .before .before .before .before .before .before .before .before .before .before .before .before .before .before .before .before .pre .1 .1)) (c .before .before .before .before .before .before .before .before .before .before .before .before .before .before .before .before .before .before .if1 .left) (c .before .before .before .before .before .before .before .before .before .before .before .before .before .before .before .before .before .mark .ensures) (plus (plusE (here (from (source (c .before .before .before .before .before .before .before .before .before .before .before .before .before .before .before .before .before .before .before .before .before .before .before .before .before .before .args .src .now) (c .before .before .before .before .before .before .before .before .before .before .before .before .before .before .before .before .before .before .before .before .before .before .before .before .before .before .args .ids .now) (c .before .before .before .before .before .before .before .before .before .before .before .before .before .before .before .before .before .before .before .before .before .before .before .before .before .before .args .ends .now)) (c .before .before .before .before .before .before .before .before .before .before .before .before .before .before .before .before .before .before .before .before .before .before .before .before .before .before .args .s) (c .before .before .before .before .before .before .before .before .before .before .before .before .before .before .before .before .before .before .before .before .before .before .before .before .before .before .args .events .now) (c .before .before .before .before .before .before .before .before .before .before .before .before .before .before .before .before .before .before .before .before .before .before .before .before .before .before .args .errors .now) (c .before .before .before .before .before .before .before .before .before .before .before .before .before .before .before .before .before .before .before .before .before .before .before .before .before .before .args .scratch .now) (c .before .before .before .before .before .before .before .before .before .before .before .before .before .before .before .before .before .before .before .before .before .before .before .before .before .before .pre .1 .1))) (c .before .before .before .before .before .before .before .before .before .before .before .before .before .before .before .trivia .ensures (c .before .before .before .before .before .before .before .before .before .before .before .before .before .before .before .before .before .before .before .before .before .before .before .before .before .before .args .src .now))) (c .before .before .before .before .before .before .before .before .before .exec .ensures)) (c .retry .ensures ∙ waived-back _ _ (c .before .if2 .taken))
+opt-returns-2 t c = waives (c .before .before .before .before .before .before .before .before .before .before .before .before .before .before .before .before .before .before .before .before .before .before .before .before .before .before .args .d) true (prog (c .before .before .before .before .before .before .before .before .before .before .before .before .before .before .before .before .before .before .before .before .before .before .before .before .before .before .args .p)) (from (source (c .before .before .before .before .before .before .before .before .before .before .before .before .before .before .before .before .before .before .before .before .before .before .before .before .before .before .args .src .now) (c .before .before .before .before .before .before .before .before .before .before .before .before .before .before .before .before .before .before .before .before .before .before .before .before .before .before .args .ids .now) (c .before .before .before .before .before .before .before .before .before .before .before .before .before .before .before .before .before .before .before .before .before .before .before .before .before .before .args .ends .now)) (c .before .before .before .before .before .before .before .before .before .before .before .before .before .before .before .before .before .before .before .before .before .before .before .before .before .before .args .s) (c .before .before .before .before .before .before .before .before .before .before .before .before .before .before .before .before .before .before .before .before .before .before .before .before .before .before .args .events .now) (c .before .before .before .before .before .before .before .before .before .before .before .before .before .before .before .before .before .before .before .before .before .before .before .before .before .before .args .errors .now) (c .before .before .before .before .before .before .before .before .before .before .before .before .before .before .before .before .before .before .before .before .before .before .before .before .before .before .args .scratch .now) (c .before .before .before .before .before .before .before .before .before .before .before .before .before .before .before .before .before .before .before .before .before .before .before .before .before .before .pre .1 .1)) (c .before .before .before .before .before .before .before .before .before .before .before .before .before .before .before .before .before .before .if1 .left) (c .before .before .before .before .before .before .before .before .before .before .before .before .before .before .before .before .before .mark .ensures) (plus (plusE (here (from (source (c .before .before .before .before .before .before .before .before .before .before .before .before .before .before .before .before .before .before .before .before .before .before .before .before .before .before .args .src .now) (c .before .before .before .before .before .before .before .before .before .before .before .before .before .before .before .before .before .before .before .before .before .before .before .before .before .before .args .ids .now) (c .before .before .before .before .before .before .before .before .before .before .before .before .before .before .before .before .before .before .before .before .before .before .before .before .before .before .args .ends .now)) (c .before .before .before .before .before .before .before .before .before .before .before .before .before .before .before .before .before .before .before .before .before .before .before .before .before .before .args .s) (c .before .before .before .before .before .before .before .before .before .before .before .before .before .before .before .before .before .before .before .before .before .before .before .before .before .before .args .events .now) (c .before .before .before .before .before .before .before .before .before .before .before .before .before .before .before .before .before .before .before .before .before .before .before .before .before .before .args .errors .now) (c .before .before .before .before .before .before .before .before .before .before .before .before .before .before .before .before .before .before .before .before .before .before .before .before .before .before .args .scratch .now) (c .before .before .before .before .before .before .before .before .before .before .before .before .before .before .before .before .before .before .before .before .before .before .before .before .before .before .pre .1 .1))) (c .before .before .before .before .before .before .before .before .before .before .before .before .before .before .before .trivia .ensures (c .before .before .before .before .before .before .before .before .before .before .before .before .before .before .before .before .before .before .before .before .before .before .before .before .before .before .args .src .now))) (c .before .before .before .before .before .before .before .before .before .exec .ensures)) (c .retry .ensures ∙ waived-back _ _ (c .before .if2 .taken))
 
 opt-same-length-4 : (t : ℕ) → opt-lts.Need-same-length-4 (opt-cs t) (opt-at t) opt.Post
 opt-same-length-4 t c = c .before .before .before .before .before .before .before .before .exec .kept .1 .1 .1 .1 .1 .1 .1 .0 ∙ c .before .before .before .before .before .before .before .before .before .before .before .before .before .before .trivia .kept .1 .1 .1 .0
@@ -634,13 +634,13 @@ opt-same-length-6 : (t : ℕ) → opt-lts.Need-same-length-6 (opt-cs t) (opt-at 
 opt-same-length-6 t c = c .before .before .before .before .before .before .before .before .exec .kept .1 .1 .1 .1 .1 .1 .1 .1 .1 .0
 
 opt-returns-3 : (t : ℕ) → opt-lts.Need-returns-3 (opt-cs t) (opt-at t) opt.Post
-opt-returns-3 t c = waives (c .before .before .before .before .before .before .before .before .before .before .before .before .before .before .before .before .before .before .before .before .before .before .before .before .before .args .d) true (prog (c .before .before .before .before .before .before .before .before .before .before .before .before .before .before .before .before .before .before .before .before .before .before .before .before .before .args .part)) (from (source (c .before .before .before .before .before .before .before .before .before .before .before .before .before .before .before .before .before .before .before .before .before .before .before .before .before .args .src .now) (c .before .before .before .before .before .before .before .before .before .before .before .before .before .before .before .before .before .before .before .before .before .before .before .before .before .args .ids .now) (c .before .before .before .before .before .before .before .before .before .before .before .before .before .before .before .before .before .before .before .before .before .before .before .before .before .args .ends .now)) (c .before .before .before .before .before .before .before .before .before .before .before .before .before .before .before .before .before .before .before .before .before .before .before .before .before .args .s) (c .before .before .before .before .before .before .before .before .before .before .before .before .before .before .before .before .before .before .before .before .before .before .before .before .before .args .events .now) (c .before .before .before .before .before .before .before .before .before .before .before .before .before .before .before .before .before .before .before .before .before .before .before .before .before .args .errors .now) (c .before .before .before .before .before .before .before .before .before .before .before .before .before .before .before .before .before .before .before .before .before .before .before .before .before .args .scratch .now) (c .before .before .before .before .before .before .before .before .before .before .before .before .before .before .before .before .before .before .before .before .before .before .before .before .before .pre .1 .1)) (c .before .before .before .before .before .before .before .before .before .before .before .before .before .before .before .before .before .if1 .left) (c .before .before .before .before .before .before .before .before .before .before .before .before .before .before .before .before .mark .ensures) (plus (plusE (here (from (source (c .before .before .before .before .before .before .before .before .before .before .before .before .before .before .before .before .before .before .before .before .before .before .before .before .before .args .src .now) (c .before .before .before .before .before .before .before .before .before .before .before .before .before .before .before .before .before .before .before .before .before .before .before .before .before .args .ids .now) (c .before .before .before .before .before .before .before .before .before .before .before .before .before .before .before .before .before .before .before .before .before .before .before .before .before .args .ends .now)) (c .before .before .before .before .before .before .before .before .before .before .before .before .before .before .before .before .before .before .before .before .before .before .before .before .before .args .s) (c .before .before .before .before .before .before .before .before .before .before .before .before .before .before .before .before .before .before .before .before .before .before .before .before .before .args .events .now) (c .before .before .before .before .before .before .before .before .before .before .before .before .before .before .before .before .before .before .before .before .before .before .before .before .before .args .errors .now) (c .before .before .before .before .before .before .before .before .before .before .before .before .before .before .before .before .before .before .before .before .before .before .before .before .before .args .scratch .now) (c .before .before .before .before .before .before .before .before .before .before .before .before .before .before .before .before .before .before .before .before .before .before .before .before .before .pre .1 .1))) (c .before .before .before .before .before .before .before .before .before .before .before .before .before .before .trivia .ensures (c .before .before .before .before .before .before .before .before .before .before .before .before .before .before .before .before .before .before .before .before .before .before .before .before .before .args .src .now))) (c .before .before .before .before .before .before .before .before .exec .ensures)) (waived-on _ _ (c .if2 .left))
+opt-returns-3 t c = waives (c .before .before .before .before .before .before .before .before .before .before .before .before .before .before .before .before .before .before .before .before .before .before .before .before .before .args .d) true (prog (c .before .before .before .before .before .before .before .before .before .before .before .before .before .before .before .before .before .before .before .before .before .before .before .before .before .args .p)) (from (source (c .before .before .before .before .before .before .before .before .before .before .before .before .before .before .before .before .before .before .before .before .before .before .before .before .before .args .src .now) (c .before .before .before .before .before .before .before .before .before .before .before .before .before .before .before .before .before .before .before .before .before .before .before .before .before .args .ids .now) (c .before .before .before .before .before .before .before .before .before .before .before .before .before .before .before .before .before .before .before .before .before .before .before .before .before .args .ends .now)) (c .before .before .before .before .before .before .before .before .before .before .before .before .before .before .before .before .before .before .before .before .before .before .before .before .before .args .s) (c .before .before .before .before .before .before .before .before .before .before .before .before .before .before .before .before .before .before .before .before .before .before .before .before .before .args .events .now) (c .before .before .before .before .before .before .before .before .before .before .before .before .before .before .before .before .before .before .before .before .before .before .before .before .before .args .errors .now) (c .before .before .before .before .before .before .before .before .before .before .before .before .before .before .before .before .before .before .before .before .before .before .before .before .before .args .scratch .now) (c .before .before .before .before .before .before .before .before .before .before .before .before .before .before .before .before .before .before .before .before .before .before .before .before .before .pre .1 .1)) (c .before .before .before .before .before .before .before .before .before .before .before .before .before .before .before .before .before .if1 .left) (c .before .before .before .before .before .before .before .before .before .before .before .before .before .before .before .before .mark .ensures) (plus (plusE (here (from (source (c .before .before .before .before .before .before .before .before .before .before .before .before .before .before .before .before .before .before .before .before .before .before .before .before .before .args .src .now) (c .before .before .before .before .before .before .before .before .before .before .before .before .before .before .before .before .before .before .before .before .before .before .before .before .before .args .ids .now) (c .before .before .before .before .before .before .before .before .before .before .before .before .before .before .before .before .before .before .before .before .before .before .before .before .before .args .ends .now)) (c .before .before .before .before .before .before .before .before .before .before .before .before .before .before .before .before .before .before .before .before .before .before .before .before .before .args .s) (c .before .before .before .before .before .before .before .before .before .before .before .before .before .before .before .before .before .before .before .before .before .before .before .before .before .args .events .now) (c .before .before .before .before .before .before .before .before .before .before .before .before .before .before .before .before .before .before .before .before .before .before .before .before .before .args .errors .now) (c .before .before .before .before .before .before .before .before .before .before .before .before .before .before .before .before .before .before .before .before .before .before .before .before .before .args .scratch .now) (c .before .before .before .before .before .before .before .before .before .before .before .before .before .before .before .before .before .before .before .before .before .before .before .before .before .pre .1 .1))) (c .before .before .before .before .before .before .before .before .before .before .before .before .before .before .trivia .ensures (c .before .before .before .before .before .before .before .before .before .before .before .before .before .before .before .before .before .before .before .before .before .before .before .before .before .args .src .now))) (c .before .before .before .before .before .before .before .before .exec .ensures)) (waived-on _ _ (c .if2 .left))
 
 abbrev then-cs : ℕ → then-lts.Claims
 then-cs t = (trivia-reads.Asked, trivia-reads.Learnt, exec-below t, exec.Post)
 
 then-returns : (t : ℕ) → then-lts.Need-returns (then-cs t) (then-at t) then.Post
-then-returns t c = stops (from (source (c .before .before .before .before .before .before .before .before .args .src .now) (c .before .before .before .before .before .before .before .before .args .ids .now) (c .before .before .before .before .before .before .before .before .args .ends .now)) (c .before .before .before .before .before .before .before .before .args .s) (c .before .before .before .before .before .before .before .before .args .events .now) (c .before .before .before .before .before .before .before .before .args .errors .now) (c .before .before .before .before .before .before .before .before .args .scratch .now) (c .before .before .before .before .before .before .before .before .pre .1 .1)) (c .before .before .before .before .before .before .before .before .args .d) (c .before .before .before .before .before .before .before .before .args .optional) (G.then (prog (c .before .before .before .before .before .before .before .before .args .part))) tt (c .if1 .taken)
+then-returns t c = stops (from (source (c .before .before .before .before .before .before .before .before .args .src .now) (c .before .before .before .before .before .before .before .before .args .ids .now) (c .before .before .before .before .before .before .before .before .args .ends .now)) (c .before .before .before .before .before .before .before .before .args .s) (c .before .before .before .before .before .before .before .before .args .events .now) (c .before .before .before .before .before .before .before .before .args .errors .now) (c .before .before .before .before .before .before .before .before .args .scratch .now) (c .before .before .before .before .before .before .before .before .pre .1 .1)) (c .before .before .before .before .before .before .before .before .args .d) (c .before .before .before .before .before .before .before .before .args .optional) (G.then (prog (c .before .before .before .before .before .before .before .before .args .p))) tt (c .if1 .taken)
 
 then-trivia-requires : (t : ℕ) → then-lts.Need-trivia-requires (then-cs t) (then-at t) then.Post
 then-trivia-requires t c κs = asksE (from (source (c .before .before .before .before .before .before .before .before .before .args .src .now) (c .before .before .before .before .before .before .before .before .before .args .ids .now) (c .before .before .before .before .before .before .before .before .before .args .ends .now)) (c .before .before .before .before .before .before .before .before .before .args .s) (c .before .before .before .before .before .before .before .before .before .args .events .now) (c .before .before .before .before .before .before .before .before .before .args .errors .now) (c .before .before .before .before .before .before .before .before .before .args .scratch .now) (c .before .before .before .before .before .before .before .before .before .pre .1 .1)) (c .before .before .before .before .before .before .before .before .before .pre .1 .0)
@@ -658,7 +658,7 @@ then-same-length-3 : (t : ℕ) → then-lts.Need-same-length-3 (then-cs t) (then
 then-same-length-3 t c = c .before .before .before .before .before .before .exec .kept .1 .1 .1 .1 .1 .1 .1 .1 .1 .0
 
 then-returns-2 : (t : ℕ) → then-lts.Need-returns-2 (then-cs t) (then-at t) then.Post
-then-returns-2 t c = thence (from (source (c .before .before .before .before .before .before .before .before .before .before .before .before .before .before .before .before .before .before .before .before .before .before .args .src .now) (c .before .before .before .before .before .before .before .before .before .before .before .before .before .before .before .before .before .before .before .before .before .before .args .ids .now) (c .before .before .before .before .before .before .before .before .before .before .before .before .before .before .before .before .before .before .before .before .before .before .args .ends .now)) (c .before .before .before .before .before .before .before .before .before .before .before .before .before .before .before .before .before .before .before .before .before .before .args .s) (c .before .before .before .before .before .before .before .before .before .before .before .before .before .before .before .before .before .before .before .before .before .before .args .events .now) (c .before .before .before .before .before .before .before .before .before .before .before .before .before .before .before .before .before .before .before .before .before .before .args .errors .now) (c .before .before .before .before .before .before .before .before .before .before .before .before .before .before .before .before .before .before .before .before .before .before .args .scratch .now) (c .before .before .before .before .before .before .before .before .before .before .before .before .before .before .before .before .before .before .before .before .before .before .pre .1 .1)) (c .before .before .before .before .before .before .before .before .before .before .before .before .before .before .before .before .before .before .before .before .before .before .args .d) (c .before .before .before .before .before .before .before .before .before .before .before .before .before .before .before .before .before .before .before .before .before .before .args .optional) (prog (c .before .before .before .before .before .before .before .before .before .before .before .before .before .before .before .before .before .before .before .before .before .before .args .part)) (c .before .before .before .before .before .before .before .before .before .before .before .before .before .before .if1 .left) (plus (plusE (here (from (source (c .before .before .before .before .before .before .before .before .before .before .before .before .before .before .before .before .before .before .before .before .before .before .args .src .now) (c .before .before .before .before .before .before .before .before .before .before .before .before .before .before .before .before .before .before .before .before .before .before .args .ids .now) (c .before .before .before .before .before .before .before .before .before .before .before .before .before .before .before .before .before .before .before .before .before .before .args .ends .now)) (c .before .before .before .before .before .before .before .before .before .before .before .before .before .before .before .before .before .before .before .before .before .before .args .s) (c .before .before .before .before .before .before .before .before .before .before .before .before .before .before .before .before .before .before .before .before .before .before .args .events .now) (c .before .before .before .before .before .before .before .before .before .before .before .before .before .before .before .before .before .before .before .before .before .before .args .errors .now) (c .before .before .before .before .before .before .before .before .before .before .before .before .before .before .before .before .before .before .before .before .before .before .args .scratch .now) (c .before .before .before .before .before .before .before .before .before .before .before .before .before .before .before .before .before .before .before .before .before .before .pre .1 .1))) (c .before .before .before .before .before .before .before .before .before .before .before .before .trivia .ensures (c .before .before .before .before .before .before .before .before .before .before .before .before .before .before .before .before .before .before .before .before .before .before .args .src .now))) (c .before .before .before .before .before .before .exec .ensures))
+then-returns-2 t c = thence (from (source (c .before .before .before .before .before .before .before .before .before .before .before .before .before .before .before .before .before .before .before .before .before .before .args .src .now) (c .before .before .before .before .before .before .before .before .before .before .before .before .before .before .before .before .before .before .before .before .before .before .args .ids .now) (c .before .before .before .before .before .before .before .before .before .before .before .before .before .before .before .before .before .before .before .before .before .before .args .ends .now)) (c .before .before .before .before .before .before .before .before .before .before .before .before .before .before .before .before .before .before .before .before .before .before .args .s) (c .before .before .before .before .before .before .before .before .before .before .before .before .before .before .before .before .before .before .before .before .before .before .args .events .now) (c .before .before .before .before .before .before .before .before .before .before .before .before .before .before .before .before .before .before .before .before .before .before .args .errors .now) (c .before .before .before .before .before .before .before .before .before .before .before .before .before .before .before .before .before .before .before .before .before .before .args .scratch .now) (c .before .before .before .before .before .before .before .before .before .before .before .before .before .before .before .before .before .before .before .before .before .before .pre .1 .1)) (c .before .before .before .before .before .before .before .before .before .before .before .before .before .before .before .before .before .before .before .before .before .before .args .d) (c .before .before .before .before .before .before .before .before .before .before .before .before .before .before .before .before .before .before .before .before .before .before .args .optional) (prog (c .before .before .before .before .before .before .before .before .before .before .before .before .before .before .before .before .before .before .before .before .before .before .args .p)) (c .before .before .before .before .before .before .before .before .before .before .before .before .before .before .if1 .left) (plus (plusE (here (from (source (c .before .before .before .before .before .before .before .before .before .before .before .before .before .before .before .before .before .before .before .before .before .before .args .src .now) (c .before .before .before .before .before .before .before .before .before .before .before .before .before .before .before .before .before .before .before .before .before .before .args .ids .now) (c .before .before .before .before .before .before .before .before .before .before .before .before .before .before .before .before .before .before .before .before .before .before .args .ends .now)) (c .before .before .before .before .before .before .before .before .before .before .before .before .before .before .before .before .before .before .before .before .before .before .args .s) (c .before .before .before .before .before .before .before .before .before .before .before .before .before .before .before .before .before .before .before .before .before .before .args .events .now) (c .before .before .before .before .before .before .before .before .before .before .before .before .before .before .before .before .before .before .before .before .before .before .args .errors .now) (c .before .before .before .before .before .before .before .before .before .before .before .before .before .before .before .before .before .before .before .before .before .before .args .scratch .now) (c .before .before .before .before .before .before .before .before .before .before .before .before .before .before .before .before .before .before .before .before .before .before .pre .1 .1))) (c .before .before .before .before .before .before .before .before .before .before .before .before .trivia .ensures (c .before .before .before .before .before .before .before .before .before .before .before .before .before .before .before .before .before .before .before .before .before .before .args .src .now))) (c .before .before .before .before .before .before .exec .ensures))
 
 abbrev when-cs : ℕ → when-lts.Claims
 when-cs t = (sees-reads.Asked, sees-reads.Learnt, trivia-reads.Asked, trivia-reads.Learnt, exec-below t, exec.Post, pass-reads.Asked, pass-reads.Learnt)
@@ -682,13 +682,13 @@ when-same-length-3 : (t : ℕ) → when-lts.Need-same-length-3 (when-cs t) (when
 when-same-length-3 t c = c .before .before .before .before .before .before .exec .kept .1 .1 .1 .1 .1 .1 .1 .1 .1 .0
 
 when-returns : (t : ℕ) → when-lts.Need-returns (when-cs t) (when-at t) when.Post
-when-returns t c = enters (from (source (c .before .before .before .before .before .before .before .before .before .before .before .before .before .before .before .before .before .before .before .before .before .before .args .src .now) (c .before .before .before .before .before .before .before .before .before .before .before .before .before .before .before .before .before .before .before .before .before .before .args .ids .now) (c .before .before .before .before .before .before .before .before .before .before .before .before .before .before .before .before .before .before .before .before .before .before .args .ends .now)) (c .before .before .before .before .before .before .before .before .before .before .before .before .before .before .before .before .before .before .before .before .before .before .args .s) (c .before .before .before .before .before .before .before .before .before .before .before .before .before .before .before .before .before .before .before .before .before .before .args .events .now) (c .before .before .before .before .before .before .before .before .before .before .before .before .before .before .before .before .before .before .before .before .before .before .args .errors .now) (c .before .before .before .before .before .before .before .before .before .before .before .before .before .before .before .before .before .before .before .before .before .before .args .scratch .now) (c .before .before .before .before .before .before .before .before .before .before .before .before .before .before .before .before .before .before .before .before .before .before .pre .1 .1)) (c .before .before .before .before .before .before .before .before .before .before .before .before .before .before .before .before .before .before .before .before .before .before .args .d) (c .before .before .before .before .before .before .before .before .before .before .before .before .before .before .before .before .before .before .before .before .before .before .args .optional) (setOf (c .before .before .before .before .before .before .before .before .before .before .before .before .before .before .before .before .before .before .before .before .before .before .args .set)) (prog (c .before .before .before .before .before .before .before .before .before .before .before .before .before .before .before .before .before .before .before .before .before .before .args .part)) (c .before .before .before .before .before .before .before .before .before .before .before .before .before .before .before .sees .ensures) (c .before .before .before .before .before .before .before .before .before .before .before .before .before .before .if1 .taken) (plus (plusE (here (from (source (c .before .before .before .before .before .before .before .before .before .before .before .before .before .before .before .before .before .before .before .before .before .before .args .src .now) (c .before .before .before .before .before .before .before .before .before .before .before .before .before .before .before .before .before .before .before .before .before .before .args .ids .now) (c .before .before .before .before .before .before .before .before .before .before .before .before .before .before .before .before .before .before .before .before .before .before .args .ends .now)) (c .before .before .before .before .before .before .before .before .before .before .before .before .before .before .before .before .before .before .before .before .before .before .args .s) (c .before .before .before .before .before .before .before .before .before .before .before .before .before .before .before .before .before .before .before .before .before .before .args .events .now) (c .before .before .before .before .before .before .before .before .before .before .before .before .before .before .before .before .before .before .before .before .before .before .args .errors .now) (c .before .before .before .before .before .before .before .before .before .before .before .before .before .before .before .before .before .before .before .before .before .before .args .scratch .now) (c .before .before .before .before .before .before .before .before .before .before .before .before .before .before .before .before .before .before .before .before .before .before .pre .1 .1))) (c .before .before .before .before .before .before .before .before .before .before .before .before .trivia .ensures (c .before .before .before .before .before .before .before .before .before .before .before .before .before .before .before .before .before .before .before .before .before .before .args .src .now))) (c .before .before .before .before .before .before .exec .ensures))
+when-returns t c = enters (from (source (c .before .before .before .before .before .before .before .before .before .before .before .before .before .before .before .before .before .before .before .before .before .before .args .src .now) (c .before .before .before .before .before .before .before .before .before .before .before .before .before .before .before .before .before .before .before .before .before .before .args .ids .now) (c .before .before .before .before .before .before .before .before .before .before .before .before .before .before .before .before .before .before .before .before .before .before .args .ends .now)) (c .before .before .before .before .before .before .before .before .before .before .before .before .before .before .before .before .before .before .before .before .before .before .args .s) (c .before .before .before .before .before .before .before .before .before .before .before .before .before .before .before .before .before .before .before .before .before .before .args .events .now) (c .before .before .before .before .before .before .before .before .before .before .before .before .before .before .before .before .before .before .before .before .before .before .args .errors .now) (c .before .before .before .before .before .before .before .before .before .before .before .before .before .before .before .before .before .before .before .before .before .before .args .scratch .now) (c .before .before .before .before .before .before .before .before .before .before .before .before .before .before .before .before .before .before .before .before .before .before .pre .1 .1)) (c .before .before .before .before .before .before .before .before .before .before .before .before .before .before .before .before .before .before .before .before .before .before .args .d) (c .before .before .before .before .before .before .before .before .before .before .before .before .before .before .before .before .before .before .before .before .before .before .args .optional) (setOf (c .before .before .before .before .before .before .before .before .before .before .before .before .before .before .before .before .before .before .before .before .before .before .args .set)) (prog (c .before .before .before .before .before .before .before .before .before .before .before .before .before .before .before .before .before .before .before .before .before .before .args .p)) (c .before .before .before .before .before .before .before .before .before .before .before .before .before .before .before .sees .ensures) (c .before .before .before .before .before .before .before .before .before .before .before .before .before .before .if1 .taken) (plus (plusE (here (from (source (c .before .before .before .before .before .before .before .before .before .before .before .before .before .before .before .before .before .before .before .before .before .before .args .src .now) (c .before .before .before .before .before .before .before .before .before .before .before .before .before .before .before .before .before .before .before .before .before .before .args .ids .now) (c .before .before .before .before .before .before .before .before .before .before .before .before .before .before .before .before .before .before .before .before .before .before .args .ends .now)) (c .before .before .before .before .before .before .before .before .before .before .before .before .before .before .before .before .before .before .before .before .before .before .args .s) (c .before .before .before .before .before .before .before .before .before .before .before .before .before .before .before .before .before .before .before .before .before .before .args .events .now) (c .before .before .before .before .before .before .before .before .before .before .before .before .before .before .before .before .before .before .before .before .before .before .args .errors .now) (c .before .before .before .before .before .before .before .before .before .before .before .before .before .before .before .before .before .before .before .before .before .before .args .scratch .now) (c .before .before .before .before .before .before .before .before .before .before .before .before .before .before .before .before .before .before .before .before .before .before .pre .1 .1))) (c .before .before .before .before .before .before .before .before .before .before .before .before .trivia .ensures (c .before .before .before .before .before .before .before .before .before .before .before .before .before .before .before .before .before .before .before .before .before .before .args .src .now))) (c .before .before .before .before .before .before .exec .ensures))
 
 when-pass-requires : (t : ℕ) → when-lts.Need-pass-requires (when-cs t) (when-at t) when.Post
 when-pass-requires t c κs = asksP (from (source (c .before .before .before .before .before .before .before .before .args .src .now) (c .before .before .before .before .before .before .before .before .args .ids .now) (c .before .before .before .before .before .before .before .before .args .ends .now)) (c .before .before .before .before .before .before .before .before .args .s) (c .before .before .before .before .before .before .before .before .args .events .now) (c .before .before .before .before .before .before .before .before .args .errors .now) (c .before .before .before .before .before .before .before .before .args .scratch .now) (c .before .before .before .before .before .before .before .before .pre .1 .1)) (c .before .before .before .before .before .before .before .before .pre .1 .0)
 
 when-returns-2 : (t : ℕ) → when-lts.Need-returns-2 (when-cs t) (when-at t) when.Post
-when-returns-2 t c = passes (from (source (c .before .before .before .before .before .before .before .before .before .args .src .now) (c .before .before .before .before .before .before .before .before .before .args .ids .now) (c .before .before .before .before .before .before .before .before .before .args .ends .now)) (c .before .before .before .before .before .before .before .before .before .args .s) (c .before .before .before .before .before .before .before .before .before .args .events .now) (c .before .before .before .before .before .before .before .before .before .args .errors .now) (c .before .before .before .before .before .before .before .before .before .args .scratch .now) (c .before .before .before .before .before .before .before .before .before .pre .1 .1)) (c .before .before .before .before .before .before .before .before .before .args .d) (c .before .before .before .before .before .before .before .before .before .args .optional) (setOf (c .before .before .before .before .before .before .before .before .before .args .set)) (prog (c .before .before .before .before .before .before .before .before .before .args .part)) (c .before .before .sees .ensures) (c .before .if1 .left) (c .pass .ensures (c .before .before .before .before .before .before .before .before .before .args .src .now) (c .before .before .before .before .before .before .before .before .before .args .ends .now))
+when-returns-2 t c = passes (from (source (c .before .before .before .before .before .before .before .before .before .args .src .now) (c .before .before .before .before .before .before .before .before .before .args .ids .now) (c .before .before .before .before .before .before .before .before .before .args .ends .now)) (c .before .before .before .before .before .before .before .before .before .args .s) (c .before .before .before .before .before .before .before .before .before .args .events .now) (c .before .before .before .before .before .before .before .before .before .args .errors .now) (c .before .before .before .before .before .before .before .before .before .args .scratch .now) (c .before .before .before .before .before .before .before .before .before .pre .1 .1)) (c .before .before .before .before .before .before .before .before .before .args .d) (c .before .before .before .before .before .before .before .before .before .args .optional) (setOf (c .before .before .before .before .before .before .before .before .before .args .set)) (prog (c .before .before .before .before .before .before .before .before .before .args .p)) (c .before .before .sees .ensures) (c .before .if1 .left) (c .pass .ensures (c .before .before .before .before .before .before .before .before .before .args .src .now) (c .before .before .before .before .before .before .before .before .before .args .ends .now))
 
 pub +alt+cached+exec+last+many+node+opt+then+when-spec : {M : Type 1} → statement M
 +alt+cached+exec+last+many+node+opt+then+when-spec =
@@ -742,15 +742,15 @@ pub +alt+cached+exec+last+many+node+opt+then+when-spec : {M : Type 1} → statem
     (exec-enum-known-first t)
     (exec-exec-requires t)
     (exec-exec-requires-2 t)
-    (exec-enum-known-part t)
+    (exec-enum-known-p t)
     (exec-then-requires t)
     (exec-enum-known-set-4 t)
     (exec-when-requires t)
-    (exec-enum-known-part-2 t)
+    (exec-enum-known-p-2 t)
     (exec-many-requires t)
-    (exec-enum-known-part-3 t)
+    (exec-enum-known-p-3 t)
     (exec-opt-requires t)
-    (exec-enum-known-part-4 t)
+    (exec-enum-known-p-4 t)
     (exec-last-requires t)
     (exec-enum-known-first-2 t)
     (exec-alt-requires t)

@@ -1,4 +1,4 @@
--- `part_at` meets its contract: a row by its three numbers.
+-- A row by its combinator and operands.
 use native.Mathlib.Omega.{arith}
 use Rattle.grammar.proofs.Lines.{row-of, row-else, past}
 use borrow.Author.Needs.{needs}
@@ -6,31 +6,10 @@ use Rattle.grammar.proofs.parts.part_at.Statement.{statement}
 use Rattle.grammar.proofs.parts.part_at.Tie as tie
 use Rattle.grammar.proofs.parts.part_at.Reads as reads
 use Rattle.grammar.proofs.parts.part_at.Lts as lts
-use Rattle.grammar.proofs.parts.cell.Reads as cell-reads
+use Rattle.grammar.proofs.parts.row_at.Reads as row-at-reads
 
-mul-cell : tie.Need-mul-cell
-mul-cell c = search needs
-
-cell-requires : tie.Need-cell-requires
-cell-requires c κs = search needs
-
-mul-cell-2 : tie.Need-mul-cell-2
-mul-cell-2 c = search needs
-
-add-cell : tie.Need-add-cell
-add-cell c = search needs
-
-cell-requires-2 : tie.Need-cell-requires-2
-cell-requires-2 c κs = search needs
-
-mul-cell-3 : tie.Need-mul-cell-3
-mul-cell-3 c = search needs
-
-add-cell-2 : tie.Need-add-cell-2
-add-cell-2 c = search needs
-
-cell-requires-3 : tie.Need-cell-requires-3
-cell-requires-3 c κs = search needs
+row-at-requires : tie.Need-row-at-requires
+row-at-requires c κs = search needs
 
 cast-first : tie.Need-cast-first
 cast-first c = search needs
@@ -39,53 +18,46 @@ cast-second : tie.Need-cast-second
 cast-second c = search needs
 
 returns : tie.Need-returns
-returns c = row-of _ (c .before .before .before .cell .ensures) (c .before .before .cell2 .ensures) (c .before .cell3 .ensures) 0 (c .match .keys1)
+returns c = row-of _ (c .before .row-at .ensures) 0 (c .match .keys1)
 
 returns-2 : tie.Need-returns-2
-returns-2 c = row-of _ (c .before .before .before .cell .ensures) (c .before .before .cell2 .ensures) (c .before .cell3 .ensures) 1 (c .match .keys2)
+returns-2 c = row-of _ (c .before .row-at .ensures) 1 (c .match .keys2)
 
 returns-3 : tie.Need-returns-3
-returns-3 c = row-of _ (c .before .before .before .cell .ensures) (c .before .before .cell2 .ensures) (c .before .cell3 .ensures) 2 (c .match .keys3)
+returns-3 c = row-of _ (c .before .row-at .ensures) 2 (c .match .keys3)
 
 returns-4 : tie.Need-returns-4
-returns-4 c = row-of _ (c .before .before .before .cell .ensures) (c .before .before .cell2 .ensures) (c .before .cell3 .ensures) 3 (c .match .keys4)
+returns-4 c = row-of _ (c .before .row-at .ensures) 3 (c .match .keys4)
 
 returns-5 : tie.Need-returns-5
-returns-5 c = row-of _ (c .before .before .before .cell .ensures) (c .before .before .cell2 .ensures) (c .before .cell3 .ensures) 4 (c .match .keys5)
+returns-5 c = row-of _ (c .before .row-at .ensures) 4 (c .match .keys5)
 
 returns-6 : tie.Need-returns-6
-returns-6 c = row-of _ (c .before .before .before .cell .ensures) (c .before .before .cell2 .ensures) (c .before .cell3 .ensures) 5 (c .match .keys6)
+returns-6 c = row-of _ (c .before .row-at .ensures) 5 (c .match .keys6)
 
 returns-7 : tie.Need-returns-7
-returns-7 c = row-of _ (c .before .before .before .cell .ensures) (c .before .before .cell2 .ensures) (c .before .cell3 .ensures) 6 (c .match .keys7)
+returns-7 c = row-of _ (c .before .row-at .ensures) 6 (c .match .keys7)
 
 returns-8 : tie.Need-returns-8
-returns-8 c = row-of _ (c .before .before .before .cell .ensures) (c .before .before .cell2 .ensures) (c .before .cell3 .ensures) 7 (c .match .keys8)
+returns-8 c = row-of _ (c .before .row-at .ensures) 7 (c .match .keys8)
 
 returns-9 : tie.Need-returns-9
-returns-9 c = row-of _ (c .before .before .before .cell .ensures) (c .before .before .cell2 .ensures) (c .before .cell3 .ensures) 8 (c .match .keys9)
+returns-9 c = row-of _ (c .before .row-at .ensures) 8 (c .match .keys9)
 
 returns-10 : tie.Need-returns-10
-returns-10 c = row-of _ (c .before .before .before .cell .ensures) (c .before .before .cell2 .ensures) (c .before .cell3 .ensures) 9 (c .match .keys10)
+returns-10 c = row-of _ (c .before .row-at .ensures) 9 (c .match .keys10)
 
 returns-11 : tie.Need-returns-11
-returns-11 c = row-of _ (c .before .before .before .cell .ensures) (c .before .before .cell2 .ensures) (c .before .cell3 .ensures) 10 (c .match .keys11)
+returns-11 c = row-of _ (c .before .row-at .ensures) 10 (c .match .keys11)
 
 returns-12 : tie.Need-returns-12
-returns-12 c = row-else _ (c .before .before .before .cell .ensures) (c .before .before .cell2 .ensures) (c .before .cell3 .ensures) (past 10 (past 9 (past 8 (past 7 (past 6 (past 5 (past 4 (past 3 (past 2 (past 1 (past 0 (omega arith) (c .match .rest .0 .0 .0 .0 .0 .0 .0 .0 .0 .0 .1)) (c .match .rest .0 .0 .0 .0 .0 .0 .0 .0 .0 .1)) (c .match .rest .0 .0 .0 .0 .0 .0 .0 .0 .1)) (c .match .rest .0 .0 .0 .0 .0 .0 .0 .1)) (c .match .rest .0 .0 .0 .0 .0 .0 .1)) (c .match .rest .0 .0 .0 .0 .0 .1)) (c .match .rest .0 .0 .0 .0 .1)) (c .match .rest .0 .0 .0 .1)) (c .match .rest .0 .0 .1)) (c .match .rest .0 .1)) (c .match .rest .1))
+returns-12 c = row-else _ (c .before .row-at .ensures) (past 10 (past 9 (past 8 (past 7 (past 6 (past 5 (past 4 (past 3 (past 2 (past 1 (past 0 (omega arith) (c .match .rest .0 .0 .0 .0 .0 .0 .0 .0 .0 .0 .1)) (c .match .rest .0 .0 .0 .0 .0 .0 .0 .0 .0 .1)) (c .match .rest .0 .0 .0 .0 .0 .0 .0 .0 .1)) (c .match .rest .0 .0 .0 .0 .0 .0 .0 .1)) (c .match .rest .0 .0 .0 .0 .0 .0 .1)) (c .match .rest .0 .0 .0 .0 .0 .1)) (c .match .rest .0 .0 .0 .0 .1)) (c .match .rest .0 .0 .0 .1)) (c .match .rest .0 .0 .1)) (c .match .rest .0 .1)) (c .match .rest .1))
 
 pub part-at-spec : {M : Type 1} → statement M
 part-at-spec =
     tie.close
     (tie.spec
-    mul-cell
-    cell-requires
-    mul-cell-2
-    add-cell
-    cell-requires-2
-    mul-cell-3
-    add-cell-2
-    cell-requires-3
+    row-at-requires
     cast-first
     cast-second
     returns

@@ -1,0 +1,12 @@
+"""A row is what its combinator's digit says; past the last case, each digit that it is not stands in `rest`, the last one outermost."""
+WHERE = "parts/part_at"
+USES = """-- A row by its combinator and operands.
+use native.Mathlib.Omega.{arith}
+use Rattle.grammar.proofs.Lines.{row-of, row-else, past}
+"""
+ROW = "({row-at} .ensures)"
+ANS = {("returns" if k == 0 else f"returns-{k + 1}"): f"row-of _ {ROW} {k} ({{match}} .keys{k + 1})" for k in range(11)}
+OTHER = "(omega arith)"
+for k in range(11):
+    OTHER = f"(past {k} {OTHER} ({{match}} .rest{' .0' * (10 - k)} .1))"
+ANS["returns-12"] = f"row-else _ {ROW} {OTHER}"
