@@ -1,0 +1,50 @@
+/* P2, P4 and P6 of the exact rules and two refusals, through the C face. */
+#include <stdio.h>
+#include <string.h>
+
+#include "../include/stableglow.h"
+
+enum { LENT = 77, ROWS = 8, EVENT_ROOM = 80, ERROR_ROOM = 16 };
+
+static const char SOURCE[] = "rule a{condition:true}";
+/* RULE_KW, WHITESPACE, IDENT, L_BRACE, CONDITION_KW, COLON, TRUE_KW, R_BRACE */
+static const uint32_t IDS[ROWS] = {37, 0, 74, 66, 12, 58, 41, 67};
+static const uint32_t ENDS[ROWS] = {4, 5, 6, 7, 16, 17, 21, 22};
+
+static int failed = 0;
+static uint32_t events[EVENT_ROOM], errors[ERROR_ROOM], answer[5];
+static uint64_t scratch[1];
+
+static void expect(const char *what, int ok) {
+    if (!ok) {
+        failed = 1;
+        printf("differs: %s\n", what);
+    }
+}
+
+/* Reads the first n rows with so many event numbers of room; everything is LENT before. */
+static uint32_t read_rows(size_t n, uint32_t fuel, size_t event_room) {
+    uint32_t starts[ROWS] = {0};
+    for (size_t i = 1; i < ROWS; i++) starts[i] = ENDS[i - 1];
+    for (size_t i = 0; i < EVENT_ROOM; i++) events[i] = LENT;
+    for (size_t i = 0; i < ERROR_ROOM; i++) errors[i] = LENT;
+    scratch[0] = LENT;
+    return stableglow_read((const uint8_t *)SOURCE, ENDS[n - 1], IDS, n, starts, n, ENDS, n, fuel, scratch, 1, events,
+                           event_room, errors, ERROR_ROOM, answer);
+}
+
+static int answered(uint32_t outcome, uint32_t rows, uint32_t count, uint32_t records, uint32_t left) {
+    return answer[0] == outcome && answer[1] == rows && answer[2] == count && answer[3] == records && answer[4] == left;
+}
+
+int main(void) {
+    expect("P2", read_rows(8, 5, EVENT_ROOM) == 0 && answered(0, 8, 18, 0, 0) && scratch[0] == 0 && errors[0] == 0);
+    expect("P2 with room exact", read_rows(8, 5, 72) == 0 && answered(0, 8, 18, 0, 0) && events[72] == LENT);
+    expect("P2 with four numbers less", read_rows(8, 5, 68) == 7 && answered(0, 0, 0, 0, 0) && events[0] == 0 && events[67] == 0);
+    expect("P4", read_rows(8, 1, EVENT_ROOM) == 0 && answered(1, 0, 6, 0, 0));
+    const uint32_t end_of_file[] = {21, 21, 3, 2, 83, 67};
+    expect("P6", read_rows(7, 5, EVENT_ROOM) == 0 && answered(0, 7, answer[2], 1, 0) && memcmp(errors, end_of_file, sizeof end_of_file) == 0);
+    expect("no room at all", read_rows(8, 5, 0) == 7 && answered(0, 0, 0, 0, 0) && events[0] == LENT && errors[0] == 0 && scratch[0] == 0);
+    puts(failed ? "0 passed, 1 failed" : "1 passed, 0 failed");
+    return failed;
+}
