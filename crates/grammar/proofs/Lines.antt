@@ -5,14 +5,16 @@ use mathlib.Core.Bool.{Bool, true, false}
 use mathlib.Core.Logic.{_⊎_, inl, inr}
 use mathlib.Core.List.{List, [], _∷_}
 use native.Mathlib.Omega.{arith}
+use native.Mathlib.Nat.{le-refl}
 use native.Mathlib.Decide.{ℕ-discrete}
 use borrow.Author.Tests.{eqb-true, ltb-true, eq-eqb, ne-eqb}
 use lib.Dec.{eqb, ltb}
-use lib.ListN.{getD, List·getD-eq-default}
+use lib.ListN.{length, getD, List·getD-eq-default}
 use Rattle.kinds.specs.Kinds as k
 use Rattle.kinds.specs.Sets.{setOf}
 use Rattle.kinds.proofs.Tables.{both, both-left, both-right, all, all-sound}
-use Rattle.peg.specs.Prog.{Prog, node}
+use Rattle.peg.specs.Prog.{Prog}
+use Rattle.peg.specs.Prog as G
 use Rattle.peg.specs.Grammar.{grammar, kind, rule-decl}
 use Rattle.peg.specs.Run as P
 use Rattle.peg.specs.Render.{Source}
@@ -20,8 +22,12 @@ use Rattle.peg.proofs.Every.{productions}
 use Rattle.reader.specs.declared.state.State.{State}
 use Rattle.reader.specs.declared.names.Label.{Label}
 use Rattle.reader.specs.declared.names.Label.the-variants.{Ids, As}
-use Rattle.reader.specs.Means.{limits, Bufs}
-use Rattle.reader.specs.Did.{Did, Proper, namesOf}
+use Rattle.reader.specs.declared.state.Mark.{Mark}
+use Rattle.reader.specs.Change.{markOf}
+use Rattle.reader.specs.Means.{limits, Bufs, bufs}
+use Rattle.reader.specs.Did.{Wf, Did, Events, Plain, Proper, namesOf, ahead}
+use Rattle.reader.proofs.Core as core
+use Rattle.grammar.proofs.Cycle.{from, plus, plusE, stops, thence, Tries, tries, enters, passes}
 use Rattle.reader.specs.Bits.{ifb}
 use Rattle.grammar.specs.declared.parts.Part.{Part}
 use Rattle.grammar.specs.declared.parts.Part.the-variants.{Eat, Unless, Recover, Node, Memo, Seq, Then, When, Many, Opt, Last, Alt}
@@ -211,3 +217,46 @@ item-stands = refl
 pub is-item : {x : Source} {s r : State} {b b′ : Bufs} → Did (reads (limits .depth) false (prog item)) x s r b b′ → Did (P.read-rule limits) x s r b b′
 unfolding P.read-rule
 is-item {x} {s} {r} {b} {b′} y = subst (λ (q : Prog). Did (reads (limits .depth) false q) x s r b b′) item-stands y
+
+-- a part whose end is read in the loop's next turn: s is where the state i₀ s₀ has come to, and whatever reads row i from there has read row i₀
+pub record Going (d : ℕ) (o : Bool) (x : Source) (i₀ : ℕ) (s₀ : State) (ev₀ er₀ sc₀ : List ℕ) (i : ℕ) (s : State) (ev er sc : List ℕ) : Type 0 where
+  pub go : {z : State} {b : Bufs} → Did (reads d o (prog i)) x s z (bufs ev er sc) b → Did (reads d o (prog i₀)) x s₀ z (bufs ev₀ er₀ sc₀) b
+  pub wf : Wf x (bufs ev er sc) s
+  pub inside : i < size
+  pub below : i ≤ i₀
+  pub events : length ev ≡ length ev₀
+  pub errors : length er ≡ length er₀
+  pub scratch : length sc ≡ length sc₀
+
+pub going : (d : ℕ) (o : Bool) {x : Source} (i : ℕ) {s : State} (ev er sc : List ℕ) → Wf x (bufs ev er sc) s → i < size → Going d o x i s ev er sc i s ev er sc
+going d o i ev er sc w h = record { go = λ y. y; wf = w; inside = h; below = le-refl i; events = refl; errors = refl; scratch = refl }
+
+pub goes-on : {d : ℕ} {o : Bool} {x : Source} {i₀ i j : ℕ} {s₀ s r : State} {ev₀ er₀ sc₀ ev er sc ev′ er′ sc′ : List ℕ} → Going d o x i₀ s₀ ev₀ er₀ sc₀ i s ev er sc → Wf x (bufs ev′ er′ sc′) r → j < i →
+    ((z : State) (b : Bufs) → Did (reads d o (prog j)) x r z (bufs ev′ er′ sc′) b → Did (reads d o (prog i)) x s z (bufs ev er sc) b) → length ev′ ≡ length ev → length er′ ≡ length er → length sc′ ≡ length sc → Going d o x i₀ s₀ ev₀ er₀ sc₀ j r ev′ er′ sc′
+goes-on g w h f k l m =
+    record { go = λ y. g .go (f _ _ y); wf = w; inside = omega (arith, h, g .inside); below = omega (arith, h, g .below); events = k ∙ g .events; errors = l ∙ g .errors; scratch = m ∙ g .scratch }
+
+module _ (d : ℕ) (o : Bool) (i : ℕ) (h : i < size) {x : Source} {s : State} (ev er sc : List ℕ) (w : Wf x (bufs ev er sc) s) where
+  still : Did (λ a. a) x s s (bufs ev er sc) (bufs ev er sc)
+  still = from x s ev er sc w
+
+  pub seq-goes : {p q : ℕ} → Seq p q ≡ partOf i → {r z : State} {b b′ : Bufs} → Did (reads d o (prog p)) x s r (bufs ev er sc) b → Did (reads d o (prog q)) x r z b b′ → Did (reads d o (prog i)) x s z (bufs ev er sc) b′
+  seq-goes e y z = is-row d o i h e (core.then y z)
+
+  pub then-stops : {p : ℕ} → Then p ≡ partOf i → (s .mode ≡ 0 → ⊥) → Did (reads d o (prog i)) x s s (bufs ev er sc) (bufs ev er sc)
+  then-stops {p} e n = is-row d o i h e (stops still d o (G.then (prog p)) tt n)
+
+  pub then-goes : {p : ℕ} → Then p ≡ partOf i → s .mode ≡ 0 → {r z : State} {ev′ : List ℕ} {b : Bufs} → Events P.trivia x s r ev ev′ → Did (reads d o (prog p)) x r z (bufs ev′ er sc) b → Did (reads d o (prog i)) x s z (bufs ev er sc) b
+  then-goes {p} e good t y = is-row d o i h e (thence still d o (prog p) good (plus (plusE still t) y))
+
+  pub when-passes : {S p : ℕ} → When S p ≡ partOf i → {v : Bool} → v ≡ ahead (setOf S) (x .ids) s → v ≡ false → {q : State} → (ahead (setOf S) (x .ids) s ≡ false → Plain (P.branches (setOf S) (λ a. a)) x s q) → Did (reads d o (prog i)) x s q (bufs ev er sc) (bufs ev er sc)
+  when-passes {S} {p} e sees n y = is-row d o i h e (passes still d o (setOf S) (prog p) sees n y)
+
+  pub when-goes : {S p : ℕ} → When S p ≡ partOf i → {v : Bool} → v ≡ ahead (setOf S) (x .ids) s → v ≡ true → {r z : State} {ev′ : List ℕ} {b : Bufs} → Events P.trivia x s r ev ev′ → Did (reads d o (prog p)) x r z (bufs ev′ er sc) b → Did (reads d o (prog i)) x s z (bufs ev er sc) b
+  when-goes {S} {p} e sees n t y = is-row d o i h e (enters still d o (setOf S) (prog p) sees n (plus (plusE still t) y))
+
+  pub alt-stops : {p q : ℕ} → Alt p q ≡ partOf i → (s .mode ≡ 0 → ⊥) → Did (reads d o (prog i)) x s s (bufs ev er sc) (bufs ev er sc)
+  alt-stops {p} {q} e n = is-row d o i h e (stops still d o (G._/_ (prog p) (prog q)) tt n)
+
+  pub alt-tries : {p q : ℕ} → Alt p q ≡ partOf i → s .mode ≡ 0 → {m : Mark} → m ≡ markOf s → Tries (reads d o (prog i)) d o (G._/_ (prog p) (prog q)) x s s m (bufs ev er sc) (bufs ev er sc)
+  alt-tries {p} {q} e good k = let t = tries d o (G._/_ (prog p) (prog q)) still good k in record { go = λ y. is-row d o i h e (t .go y); here = still; good = good; mark = k }

@@ -92,9 +92,10 @@ fn bit_of(kind: u32, row: usize) -> usize
     2 * row + 1
 }
 
-// A part of a line, where d more nodes may be opened; optional says whether a part around it may be left out.
+// A part of a line, where d more nodes may be opened; optional says whether a part around it may be left out. What a part ends with is read in the next
+// turn of the loop and not by a call, so that an open node takes little of the stack.
 fn exec(
-    i: usize,
+    mut i: usize,
     mut s: State,
     d: usize,
     optional: bool,
@@ -108,92 +109,78 @@ fn exec(
     requires { ⌜ Rows (source (now src) (now ids) (now ends)) × Wf (source (now src) (now ids) (now ends)) (bufs (now events) (now errors) (now scratch)) s × (i < size) ⌝ }
     ensures { λ r. ⌜ Did (reads d optional (prog i)) (source (now (src .entry)) (now (ids .entry)) (now (ends .entry))) s r (bufs (now (events .entry)) (now (errors .entry)) (now (scratch .entry))) (bufs (now (events .exit)) (now (errors .exit)) (now (scratch .exit))) ⌝ }
 {
-    match part_at(i) {
-        Part::Eat(set, name) => s.eat(set, label(name), ids, ends, events),
-        Part::Unless(set) => s.unless(set, ids),
-        Part::Recover(set) => s.recover(d, optional, set, src, ids, ends, events, errors),
-        Part::Node(kind, line) => node(
-            kind,
-            line,
-            s,
-            d,
-            optional,
-            src,
-            ids,
-            ends,
-            events,
-            errors,
-            scratch,
-        ),
-        Part::Memo(kind, line) => cached(
-            kind,
-            line,
-            s,
-            d,
-            optional,
-            src,
-            ids,
-            ends,
-            events,
-            errors,
-            scratch,
-        ),
-        Part::Seq(first, second) => {
-            s = exec(
-                first,
-                s,
-                d,
-                optional,
-                src,
-                ids,
-                ends,
-                events,
-                errors,
-                scratch,
-            );
-            exec(
-                second,
-                s,
-                d,
-                optional,
-                src,
-                ids,
-                ends,
-                events,
-                errors,
-                scratch,
-            )
+    loop {
+        match part_at(i) {
+            Part::Eat(set, name) => return s.eat(set, label(name), ids, ends, events),
+            Part::Unless(set) => return s.unless(set, ids),
+            Part::Recover(set) => {
+                return s.recover(d, optional, set, src, ids, ends, events, errors);
+            }
+            Part::Node(kind, line) => {
+                return node(
+                    kind,
+                    line,
+                    s,
+                    d,
+                    optional,
+                    src,
+                    ids,
+                    ends,
+                    events,
+                    errors,
+                    scratch,
+                );
+            }
+            Part::Memo(kind, line) => {
+                return cached(
+                    kind,
+                    line,
+                    s,
+                    d,
+                    optional,
+                    src,
+                    ids,
+                    ends,
+                    events,
+                    errors,
+                    scratch,
+                );
+            }
+            Part::Many(p) => return many(p, s, d, src, ids, ends, events, errors, scratch),
+            Part::Opt(p) => return opt(p, s, d, src, ids, ends, events, errors, scratch),
+            Part::Last(p) => return last(p, s, d, src, ids, ends, events, errors, scratch),
+            Part::Seq(p, q) => {
+                s = exec(p, s, d, optional, src, ids, ends, events, errors, scratch);
+                i = q;
+            }
+            Part::Then(p) => {
+                if s.mode != 0 {
+                    return s;
+                }
+                s = s.trivia(ids, ends, events);
+                i = p;
+            }
+            Part::When(set, p) => {
+                if !s.sees(set, ids) {
+                    return s.pass(set, ids);
+                }
+                s = s.trivia(ids, ends, events);
+                i = p;
+            }
+            Part::Alt(p, q) => {
+                if s.mode != 0 {
+                    return s;
+                }
+                let m = s.mark();
+                s = s.trivia(ids, ends, events);
+                s = exec(p, s, d, true, src, ids, ends, events, errors, scratch);
+                if s.mode != 1 {
+                    return s;
+                }
+                s = s.retry(m);
+                i = q;
+            }
         }
-        Part::Then(p) => then(p, s, d, optional, src, ids, ends, events, errors, scratch),
-        Part::When(set, p) => when(
-            set,
-            p,
-            s,
-            d,
-            optional,
-            src,
-            ids,
-            ends,
-            events,
-            errors,
-            scratch,
-        ),
-        Part::Many(p) => many(p, s, d, src, ids, ends, events, errors, scratch),
-        Part::Opt(p) => opt(p, s, d, src, ids, ends, events, errors, scratch),
-        Part::Last(p) => last(p, s, d, src, ids, ends, events, errors, scratch),
-        Part::Alt(first, others) => alt(
-            first,
-            others,
-            s,
-            d,
-            optional,
-            src,
-            ids,
-            ends,
-            events,
-            errors,
-            scratch,
-        ),
     }
 }
 
@@ -279,53 +266,6 @@ fn cached(
     s.remembers(bit, scratch)
 }
 
-// `then`: past trivia.
-fn then(
-    p: usize,
-    mut s: State,
-    d: usize,
-    optional: bool,
-    src: &[u8],
-    ids: &[u32],
-    ends: &[u32],
-    events: &mut [u32],
-    errors: &mut [u32],
-    scratch: &mut [u64],
-) -> State
-    requires { ⌜ Rows (source (now src) (now ids) (now ends)) × Wf (source (now src) (now ids) (now ends)) (bufs (now events) (now errors) (now scratch)) s × (p < size) ⌝ }
-    ensures { λ r. ⌜ Did (reads d optional (G.then (prog p))) (source (now (src .entry)) (now (ids .entry)) (now (ends .entry))) s r (bufs (now (events .entry)) (now (errors .entry)) (now (scratch .entry))) (bufs (now (events .exit)) (now (errors .exit)) (now (scratch .exit))) ⌝ }
-{
-    if s.mode != 0 {
-        return s;
-    }
-    s = s.trivia(ids, ends, events);
-    exec(p, s, d, optional, src, ids, ends, events, errors, scratch)
-}
-
-// `if_next`: where a row of the set stands next.
-fn when(
-    set: usize,
-    p: usize,
-    mut s: State,
-    d: usize,
-    optional: bool,
-    src: &[u8],
-    ids: &[u32],
-    ends: &[u32],
-    events: &mut [u32],
-    errors: &mut [u32],
-    scratch: &mut [u64],
-) -> State
-    requires { ⌜ Rows (source (now src) (now ids) (now ends)) × Wf (source (now src) (now ids) (now ends)) (bufs (now events) (now errors) (now scratch)) s × (p < size) ⌝ }
-    ensures { λ r. ⌜ Did (reads d optional (ifnext (setOf set) (prog p))) (source (now (src .entry)) (now (ids .entry)) (now (ends .entry))) s r (bufs (now (events .entry)) (now (errors .entry)) (now (scratch .entry))) (bufs (now (events .exit)) (now (errors .exit)) (now (scratch .exit))) ⌝ }
-{
-    if s.sees(set, ids) {
-        s = s.trivia(ids, ends, events);
-        return exec(p, s, d, optional, src, ids, ends, events, errors, scratch);
-    }
-    s.pass(set, ids)
-}
-
 // A repetition; its rows are a bound that is never reached.
 fn many(
     p: usize,
@@ -409,47 +349,6 @@ fn last(
         return s.rewind(m);
     }
     s
-}
-
-// An alternative, and where it fails the others.
-fn alt(
-    first: usize,
-    others: usize,
-    mut s: State,
-    d: usize,
-    optional: bool,
-    src: &[u8],
-    ids: &[u32],
-    ends: &[u32],
-    events: &mut [u32],
-    errors: &mut [u32],
-    scratch: &mut [u64],
-) -> State
-    requires { ⌜ Rows (source (now src) (now ids) (now ends)) × Wf (source (now src) (now ids) (now ends)) (bufs (now events) (now errors) (now scratch)) s × (first < others) × (others < size) ⌝ }
-    ensures { λ r. ⌜ Did (reads d optional (prog first / prog others)) (source (now (src .entry)) (now (ids .entry)) (now (ends .entry))) s r (bufs (now (events .entry)) (now (errors .entry)) (now (scratch .entry))) (bufs (now (events .exit)) (now (errors .exit)) (now (scratch .exit))) ⌝ }
-{
-    if s.mode != 0 {
-        return s;
-    }
-    let m = s.mark();
-    s = s.trivia(ids, ends, events);
-    s = exec(first, s, d, true, src, ids, ends, events, errors, scratch);
-    if s.mode != 1 {
-        return s;
-    }
-    s = s.retry(m);
-    exec(
-        others,
-        s,
-        d,
-        optional,
-        src,
-        ids,
-        ends,
-        events,
-        errors,
-        scratch,
-    )
 }
 
 // An item that begins with a rule keyword: a rule, and recovery behind it.

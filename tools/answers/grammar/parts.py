@@ -5,28 +5,29 @@ use native.Mathlib.Omega.{arith}
 use mathlib.Core.Path.{_≡_, refl, sym, _∙_}
 use mathlib.Core.Bool.{true}
 use Prim.Native.Nat.{_+_, _*_, _-_}
-use Rattle.kinds.specs.Sets.{setOf}
 use Rattle.peg.specs.Prog as G
-use Rattle.peg.specs.Prog.{_/_}
 use Rattle.reader.specs.Means.{source}
+use Rattle.reader.proofs.Lists.{not-yes, not-no}
 use Rattle.reader.proofs.Sticky.{sticky-exec}
 use Rattle.grammar.specs.Table.{prog, production, reads}
-use Rattle.grammar.proofs.Cycle.{from, here, plus, plusE, plusB, plusP, asksE, asksB, asksP, asksX, stops, thence, tries, tried, again, tried-last, lost-back, lost-on, waived-back, waived-on, waives, enters, passes, Turns, turns, turns-more, turns-undone, turns-over, begun, closing, made, none-made}
+use Rattle.grammar.proofs.Cycle.{from, here, plus, plusE, plusB, plusP, asksE, asksB, asksP, asksX, stops, tries, tried, again, tried-last, lost-back, lost-on, waived-back, waived-on, waives, Turns, turns, turns-more, turns-undone, turns-over, begun, closing, made, none-made}
 use Rattle.grammar.proofs.Known.{bit-in, bit-in-still, found-bit, known-idle, known-hit, known-through, known-failed}
-use Rattle.grammar.proofs.Lines.{is-row, is-line, is-eat, proper, node-line, memo-line, row-sound}
+use Rattle.grammar.proofs.Lines.{is-row, is-line, is-eat, proper, node-line, memo-line, row-sound, Going, going, goes-on, seq-goes, then-stops, then-goes, when-passes, when-goes, alt-stops, alt-tries}
 '''
 S, D, O = "({args} .src .now)", "({args} .d)", "({args} .optional)"
 ROWS, WF = "({pre} .1 .0)", "({pre} .1 .1)"
 FROM = f"(from (source ({{args}} .src .now) ({{args}} .ids .now) ({{args}} .ends .now)) ({{args}} .s) ({{args}} .events .now) ({{args}} .errors .now) ({{args}} .scratch .now) {WF})"
 PART = "(prog ({args} .p))"
 # where a callee has the events among its parameters; errors and scratch follow, where it has them
-EVENTS = {"trivia": 3, "eat": 5, "begin": 4, "end": 8, "recover": 7, "exec": 7, "node": 8, "cached": 8, "then": 7, "when": 8, "many": 6, "opt": 6, "last": 6, "alt": 8}
+EVENTS = {"trivia": 3, "eat": 5, "begin": 4, "end": 8, "recover": 7, "exec": 7, "node": 8, "cached": 8, "many": 6, "opt": 6, "last": 6}
 LISTS = {"trivia": 1, "eat": 1, "begin": 1, "end": 2, "recover": 2}
 # what each function's measure adds to 4,096 times the depth that is left
-DEPTH = {"exec": 2, "then": 2, "when": 3, "many": 2, "opt": 2, "last": 2, "alt": 3, "node": 3, "cached": 3}
-LEVEL = {"exec": "8 * a .0 + 2", "then": "8 * a .0 + 3", "when": "8 * a .1 .0 + 3", "many": "8 * a .0 + 3", "opt": "8 * a .0 + 3", "last": "8 * a .0 + 3", "alt": "8 * a .1 .0 + 3", "node": "0", "cached": "1"}
+DEPTH = {"exec": 2, "many": 2, "opt": 2, "last": 2, "node": 3, "cached": 3}
+LEVEL = {"exec": "8 * a .0 + 2", "many": "8 * a .0 + 3", "opt": "8 * a .0 + 3", "last": "8 * a .0 + 3", "node": "0", "cached": "1"}
 MEASURES = {f"μ-{f}": f"4096 * a{' .1' * DEPTH[f]} .0 + {LEVEL[f]}" for f in DEPTH}
 LOOPS = {
+    "exec-Inv-loop": "Going d optional (source src ids ends) i₀ s₀ events₀ errors₀ scratch₀ i s events errors scratch",
+    "exec-μ-loop": "i",
     "many-Inv-loop": "Turns (reads d true (prog p)) (source src ids ends) s₀ s n₀ n events₀ errors₀ scratch₀ events errors scratch",
     "many-μ-loop": "n",
 }
@@ -53,20 +54,6 @@ PAST = f"(plusE (here {FROM}) ({{trivia}} .ensures {S}))"
 READ = f"(plus {PAST} ({{exec}} .ensures))"
 STARTS = {"trivia-requires": f"asksE {FROM} {ROWS}", "exec-requires": falls(PAST, INSIDE)}
 
-THEN = {
-    "returns": f"stops {FROM} {D} {O} (G.then {PART}) tt ({{if1}} .taken)",
-    **STARTS, **lengths(["exec", "trivia"]),
-    "returns-2": f"thence {FROM} {D} {O} {PART} ({{if1}} .left) {READ}",
-}
-NEXT = f"{FROM} {D} {O} (setOf ({{args}} .set)) {PART} ({{sees}} .ensures)"
-WHEN = {
-    "sees-requires": f"{FROM} .wf .0",
-    **STARTS, **lengths(["exec", "trivia"]),
-    "returns": f"enters {NEXT} ({{if1}} .taken) {READ}",
-    "pass-requires": f"asksP {FROM} {ROWS}",
-    "returns-2": f"passes {NEXT} ({{if1}} .left) ({{pass}} .ensures {S} ({{args}} .ends .now))",
-}
-
 
 def marked(prog, one, other):
     """A part from a mark on: what is said where it failed, and where it did not."""
@@ -80,20 +67,6 @@ WAIVES = f"waives {D} true {PART} {FROM} ({{if1}} .left) ({{mark}} .ensures) {RE
 OPT = marked("G.opt", f"{WAIVES} ({{retry}} .ensures ∙ waived-back _ _ ({{if2}} .taken))", f"{WAIVES} (waived-on _ _ ({{if2}} .left))")
 LASTLY = f"tried-last (tries {D} true (G.last {PART}) {FROM} ({{if1}} .left) ({{mark}} .ensures)) {READ}"
 LAST = marked("G.last", f"{LASTLY} ({{rewind}} .ensures ∙ lost-back _ _ ({{if2}} .taken))", f"{LASTLY} (lost-on _ _ ({{if2}} .left))")
-
-CHOICE = "prog ({args} .first) / prog ({args} .others)"
-TRIES = f"(tries {D} {O} ({CHOICE}) {FROM} ({{if1}} .left) ({{mark}} .ensures))"
-AGAIN = f"(again {TRIES} {READ} ({{if2}} .left) ({{retry}} .ensures))"
-ALT = {
-    "returns": f"stops {FROM} {D} {O} ({CHOICE}) tt ({{if1}} .taken)",
-    "trivia-requires": f"asksE {FROM} {ROWS}",
-    "exec-requires": falls(PAST, "omega (arith, {pre} .1 .2, {pre} .1 .3)", "{pre} .1 .2"),
-    **lengths(["exec", "trivia"]),
-    "returns-2": f"tried {TRIES} {READ} ({{if2}} .taken)",
-    "exec-requires-2": falls(f"{AGAIN} .here", "{pre} .1 .3"),
-    **lengths(["exec2", "exec", "trivia"], 4),
-    "returns-3": f"{AGAIN} .go ({{exec2}} .ensures)",
-}
 
 INV = "({loop} .inv)"
 ROUND = f"(plus (plusE ({INV} .here) ({{trivia}} .ensures {S})) ({{exec}} .ensures))"
@@ -146,40 +119,81 @@ CACHED = {
     "returns-4": f"known-failed {SEEN} ({{if2}} .left) ({{node}} .ensures) ({{if3}} .left) ({{remembers}} .ensures) ({{remembers}} .kept .1 .1 .0)",
 }
 
-I, IN = "({args} .i)", "({pre} .1 .2)"
+# a row of the table, in the loop
+X = "(source ({args} .src .now) ({args} .ids .now) ({args} .ends .now))"
+I, IN = "({loop} .i)", "({loop} .inv .inside)"
+LISTS_NOW = "({loop} .events) ({loop} .errors) ({loop} .scratch)"
+HERE = f"(from {X} ({{loop}} .s) {LISTS_NOW} ({{loop}} .inv .wf))"
+AT = f"{D} {O} {I} {IN} {LISTS_NOW} ({{loop}} .inv .wf)"
 
 
 def row(place):
     return f"(sym ({{{place}}} .given .1) ∙ {{part-at}} .ensures)"
 
 
+def sound(place):
+    return f"row-sound {I} {IN} {row(place)}"
+
+
 def read(place, did):
-    return f"is-row {D} {O} {I} {IN} {row(place)} ({did})"
+    return f"{INV} .go (is-row {D} {O} {I} {IN} {row(place)} ({did}))"
 
 
-NAME = f"(row-sound {I} {IN} {row('set')})"
+def below(more, *facts):
+    return f"(omega (arith, {{pre}} .0, {INV} .below{''.join(', ' + f for f in facts)}), ({ROWS}, {more}))"
+
+
+def on(wf, fact, goes, calls):
+    kept = [" ∙ ".join(f"{{{c}}} .kept{' .1' * (EVENTS[c.rstrip('0123456789')] + b)} .0" for c in calls if b < LISTS.get(c.rstrip("0123456789"), 3)) or "refl" for b in range(3)]
+    return f"goes-on {INV} ({wf} .wf) ({fact}) (λ z b y. {goes}) ({kept[0]}) ({kept[1]}) ({kept[2]})"
+
+
+def returns(k, calls, answer):
+    return {**lengths(calls, 3 * k - 2, BEFORE), ("returns" if k == 1 else f"returns-{k}"): answer}
+
+
+def trivia(k):
+    return f"({{trivia{k}}} .ensures {S})"
+
+
+FIRST = f"(plus {HERE} ({{exec}} .ensures))"
+TRIES = f"(alt-tries {AT} {row('p6')} ({{if3}} .left) ({{mark}} .ensures))"
+TRIED = f"(plus (plusE ({TRIES} .here) {trivia(3)}) ({{exec2}} .ensures))"
+AGAIN = f"(again {TRIES} {TRIED} ({{if4}} .left) ({{retry}} .ensures))"
 EXEC = {
-    "label-requires": NAME,
-    "eat-requires": f"asksX {FROM} {ROWS} 0 (proper _ {NAME} ({{label}} .ensures))",
-    "unless-requires": f"asksP {FROM} {ROWS}",
-    "recover-requires": f"asksB {FROM} {ROWS}",
-    "node-requires": falls(FROM, f"node-line {I} {IN} {row('kind')}"),
-    "cached-requires": falls(FROM, f"memo-line {I} {IN} {row('kind2')}, row-sound {I} {IN} {row('kind2')} .0"),
-    **lengths(["eat"], 1), "returns": f"is-eat {D} {O} {I} {IN} {row('set')} ({{label}} .ensures) (plusE {FROM} ({{eat}} .ensures {S}))",
-    "returns-2": read("set2", f"plusP {FROM} ({{unless}} .ensures {S} ({{args}} .ends .now))"),
-    **lengths(["recover"], 2), "returns-3": read("set3", f"plusB {FROM} ({{recover}} .ensures)"),
-    **lengths(["node"], 4), "returns-4": read("kind", "{node} .ensures"),
-    **lengths(["cached"], 7), "returns-5": read("kind2", "{cached} .ensures"),
+    "loop-holds": f"going {D} {O} ({{args}} .i) ({{args}} .events .now) ({{args}} .errors .now) ({{args}} .scratch .now) {WF} ({{pre}} .1 .2)",
+    "part-at-requires": IN,
+    "label-requires": sound("set"),
+    "eat-requires": f"asksX {HERE} {ROWS} 0 (proper _ ({sound('set')}) ({{label}} .ensures))",
+    **returns(1, ["eat"], f"{INV} .go (is-eat {D} {O} {I} {IN} {row('set')} ({{label}} .ensures) (plusE {HERE} ({{eat}} .ensures {S})))"),
+    "unless-requires": f"asksP {HERE} {ROWS}",
+    **returns(2, [], read("set2", f"plusP {HERE} ({{unless}} .ensures {S} ({{args}} .ends .now))")),
+    "recover-requires": f"asksB {HERE} {ROWS}",
+    **returns(3, ["recover"], read("set3", f"plusB {HERE} ({{recover}} .ensures)")),
+    "node-requires": below(f"{INV} .wf, node-line {I} {IN} {row('kind')}"),
+    **returns(4, ["node"], read("kind", "{node} .ensures")),
+    "cached-requires": below(f"{INV} .wf, memo-line {I} {IN} {row('kind2')}, {sound('kind2')} .0"),
+    **returns(5, ["cached"], read("kind2", "{cached} .ensures")),
+    "exec-requires": below(f"{INV} .wf, omega (arith, {sound('p4')} .0, {IN})", f"{sound('p4')} .0"),
+    "loop-less": f"{sound('p4')} .1",
+    "loop-again": on(FIRST, f"{sound('p4')} .1", f"seq-goes {AT} {row('p4')} ({{exec}} .ensures) y", ["exec"]),
+    **returns(9, [], f"{INV} .go (then-stops {AT} {row('p5')} ({{if1}} .taken))"),
+    "trivia-requires": f"asksE {HERE} {ROWS}",
+    "loop-less-2": sound("p5"),
+    "loop-again-2": on(f"(plusE {HERE} {trivia('')})", sound("p5"), f"then-goes {AT} {row('p5')} ({{if1}} .left) {trivia('')} y", ["trivia"]),
+    "sees-requires": f"{HERE} .wf .0",
+    "pass-requires": f"asksP {HERE} {ROWS}",
+    **returns(10, [], f"{INV} .go (when-passes {AT} {row('set4')} ({{sees}} .ensures) (not-yes _ ({{if2}} .taken)) ({{pass}} .ensures {S} ({{args}} .ends .now)))"),
+    "trivia-requires-2": f"asksE {HERE} {ROWS}",
+    "loop-less-3": sound("set4"),
+    "loop-again-3": on(f"(plusE {HERE} {trivia(2)})", sound("set4"), f"when-goes {AT} {row('set4')} ({{sees}} .ensures) (not-no _ ({{if2}} .left)) {trivia(2)} y", ["trivia2"]),
+    **returns(11, [], f"{INV} .go (alt-stops {AT} {row('p6')} ({{if3}} .taken))"),
+    "trivia-requires-3": f"asksE {HERE} {ROWS}",
+    "exec-requires-2": below(f"(plusE {HERE} {trivia(3)}) .wf, omega (arith, {sound('p6')}, {IN})", sound("p6")),
+    **returns(12, ["exec2", "trivia3"], f"{INV} .go (tried {TRIES} {TRIED} ({{if4}} .taken))"),
+    "loop-less-4": f"{sound('p6')} .1",
+    "loop-again-4": on(f"({AGAIN} .here)", f"{sound('p6')} .1", f"{AGAIN} .go y", ["exec2", "trivia3"]),
 }
-FIRST = f"row-sound {I} {IN} {row('first')}"
-EXEC.update({
-    "exec-requires": falls(FROM, f"omega (arith, {FIRST} .0, {IN})", f"{FIRST} .0"),
-    "exec-requires-2": falls(f"(plus {FROM} ({{exec}} .ensures))", f"omega (arith, {FIRST} .1, {IN})", f"{FIRST} .1"),
-    **lengths(["exec2", "exec"], 10), "returns-6": read("first", f"plus (plus {FROM} ({{exec}} .ensures)) ({{exec2}} .ensures)"),
-})
-for k, (callee, place) in enumerate([("then", "p"), ("when", "set4"), ("many", "p2"), ("opt", "p3"), ("last", "p4"), ("alt", "first2")]):
-    sound = f"row-sound {I} {IN} {row(place)}"
-    below = f"{sound} .1" if callee == "alt" else sound
-    inside = (f"{sound} .0, " if callee == "alt" else "") + f"omega (arith, {below}, {IN})"
-    EXEC.update({f"{callee}-requires": falls(FROM, inside, below), **lengths([callee], 13 + 3 * k), f"returns-{7 + k}": read(place, f"{{{callee}}} .ensures")})
-ANSWERS = {"then": THEN, "when": WHEN, "opt": OPT, "last": LAST, "alt": ALT, "many": MANY, "node": NODE, "cached": CACHED, "exec": EXEC}
+for k, (callee, place) in enumerate([("many", "p"), ("opt", "p2"), ("last", "p3")]):
+    EXEC.update({f"{callee}-requires": below(f"{INV} .wf, omega (arith, {sound(place)}, {IN})", sound(place)), **returns(6 + k, [callee], read(place, f"{{{callee}}} .ensures"))})
+ANSWERS = {"opt": OPT, "last": LAST, "many": MANY, "node": NODE, "cached": CACHED, "exec": EXEC}
