@@ -1,0 +1,629 @@
+// Runs the public reader on the small files and at the edges of its refusals. A line has the case and the refusal's number. Where that is 0, outcome, rows
+// covered, counts of events and of error records, and fuel left stand behind it; a line for each error record follows, and where they are asked for one
+// for each event. Rooms and scratch are lent full of fives: the program looks whether a refusal of 1 to 6 left them as lent, 7 and 8 all zero, and an
+// answer all zero behind its lists and in scratch. Ids, kinds and names have their numbers in docs/KINDS.md.
+use desk::read::Reading;
+use desk::read::read;
+use libc::STDOUT_FILENO;
+
+fn number(n: u64) {
+    io::write_all(STDOUT_FILENO, b" ");
+    io::print_decimal(STDOUT_FILENO, n);
+}
+
+fn figure(n: u32) {
+    number(n as u64);
+}
+
+fn line_end() {
+    io::write_all(STDOUT_FILENO, b"\n");
+}
+
+fn wide(n: u32) -> usize {
+    n as usize
+}
+
+// The numbers of one line, from an index on and up to another.
+fn numbers(l: &[u32], from: usize, to: usize) {
+    let mut i = from;
+    while i < l.len() {
+        if i >= to {
+            line_end();
+            return;
+        }
+        figure(l[i]);
+        i += 1;
+    }
+    line_end();
+}
+
+fn event_lines(events: &[u32], count: usize) {
+    let mut i: usize = 0;
+    while i < 100 {
+        if i >= count {
+            return;
+        }
+        numbers(events, 4 * i, 4 * i + 4);
+        i += 1;
+    }
+}
+
+// The line of the record that begins there, and where the next one begins.
+fn record(errors: &[u32], at: usize) -> usize {
+    if at > 1000 {
+        return at;
+    }
+    if at + 3 >= errors.len() {
+        return at;
+    }
+    let names = wide(errors[at + 3]);
+    if names > 1000 {
+        return at;
+    }
+    let to = at + 4 + names;
+    io::write_all(STDOUT_FILENO, b" error");
+    numbers(errors, at, to);
+    to
+}
+
+fn records(errors: &[u32], count: u32) -> usize {
+    let mut at: usize = 0;
+    let mut n: u32 = 0;
+    while n < count {
+        at = record(errors, at);
+        n += 1;
+    }
+    at
+}
+
+// Whether all numbers are that one, from an index on.
+fn all(l: &[u32], from: usize, mark: u32) -> bool {
+    let mut i = from;
+    while i < l.len() {
+        if l[i] != mark {
+            return false;
+        }
+        i += 1;
+    }
+    true
+}
+
+fn all_words(l: &[u64], mark: u64) -> bool {
+    let mut i = 0;
+    while i < l.len() {
+        if l[i] != mark {
+            return false;
+        }
+        i += 1;
+    }
+    true
+}
+
+// Whether scratch is full of that number, and the rooms from these indices on.
+fn full(mark: u32, scratch: &[u64], events: &[u32], ev: usize, errors: &[u32], er: usize) -> bool {
+    if !all(events, ev, mark) {
+        return false;
+    }
+    if !all(errors, er, mark) {
+        return false;
+    }
+    all_words(scratch, mark as u64)
+}
+
+fn say(yes: bool, good: &[u8], bad: &[u8]) {
+    if yes {
+        io::write_all(STDOUT_FILENO, good);
+        return;
+    }
+    io::write_all(STDOUT_FILENO, bad);
+}
+
+fn refused(n: u32, scratch: &[u64], events: &[u32], errors: &[u32]) {
+    figure(n);
+    if n < 7 {
+        say(
+            full(5, scratch, events, 0, errors, 0),
+            b" as lent\n",
+            b" changed\n",
+        );
+        return;
+    }
+    say(
+        full(0, scratch, events, 0, errors, 0),
+        b" zero\n",
+        b" not zero\n",
+    );
+}
+
+// The lists behind an answer's line.
+fn lists(count: usize, noted: u32, scratch: &[u64], events: &[u32], errors: &[u32], listed: bool) {
+    let er = records(errors, noted);
+    if listed {
+        event_lines(events, count);
+    }
+    if count < 1000000 {
+        say(
+            full(0, scratch, events, 4 * count, errors, er),
+            b" rest zero\n",
+            b" rest not zero\n",
+        );
+    }
+}
+
+fn figures(outcome: u32, covered: usize, count: usize, noted: u32, left: u32) {
+    number(0);
+    figure(outcome);
+    number(covered as u64);
+    number(count as u64);
+    figure(noted);
+    figure(left);
+    line_end();
+}
+
+fn tell(name: &[u8], r: Reading, scratch: &[u64], list: &[u32], notes: &[u32], listed: bool) {
+    io::write_all(STDOUT_FILENO, name);
+    io::write_all(STDOUT_FILENO, b":");
+    match r {
+        Reading::Refused(n) => refused(n, scratch, list, notes),
+        Reading::Answered {
+            outcome,
+            covered,
+            events,
+            errors,
+            left,
+        } => {
+            figures(outcome, covered, events, errors, left);
+            lists(events, errors, scratch, list, notes, listed)
+        }
+    }
+    ;
+}
+
+fn show(
+    name: &[u8],
+    src: &[u8],
+    ids: &[u32],
+    starts: &[u32],
+    ends: &[u32],
+    fuel: u32,
+    scratch: &mut [u64],
+    events: &mut [u32],
+    errors: &mut [u32],
+    listed: bool,
+) {
+    let r = read(src, ids, starts, ends, fuel, scratch, events, errors);
+    tell(name, r, scratch, events, errors, listed);
+}
+
+fn in_rooms(
+    name: &[u8],
+    src: &[u8],
+    ids: &[u32],
+    starts: &[u32],
+    ends: &[u32],
+    fuel: u32,
+    words: usize,
+    event_room: usize,
+    error_room: usize,
+    listed: bool,
+) {
+    let mut scratch = [5u64; 1];
+    let mut events = [5u32; 128];
+    let mut errors = [5u32; 32];
+    if words <= 1 {
+        if event_room <= 128 {
+            if error_room <= 32 {
+                show(
+                    name,
+                    src,
+                    ids,
+                    starts,
+                    ends,
+                    fuel,
+                    &mut scratch[..words],
+                    &mut events[..event_room],
+                    &mut errors[..error_room],
+                    listed,
+                );
+            }
+        }
+    }
+}
+
+fn case(name: &[u8], src: &[u8], ids: &[u32], starts: &[u32], ends: &[u32], fuel: u32) {
+    in_rooms(name, src, ids, starts, ends, fuel, 1, 128, 32, false);
+}
+
+// No row.
+fn none(name: &[u8], src: &[u8], words: usize, room: usize) {
+    let ids = [0u32; 1];
+    let starts = [0u32; 1];
+    let ends = [0u32; 1];
+    in_rooms(
+        name,
+        src,
+        &ids[..0],
+        &starts[..0],
+        &ends[..0],
+        0,
+        words,
+        room,
+        0,
+        false,
+    );
+}
+
+// R, with that fuel.
+fn rule(name: &[u8], fuel: u32, words: usize, event_room: usize, error_room: usize, listed: bool) {
+    let ids = [37, 0, 74, 66, 12, 58, 41, 67];
+    let starts = [0, 4, 5, 6, 7, 16, 17, 21];
+    let ends = [4, 5, 6, 7, 16, 17, 21, 22];
+    in_rooms(
+        name,
+        b"rule a{condition:true}",
+        &ids,
+        &starts,
+        &ends,
+        fuel,
+        words,
+        event_room,
+        error_room,
+        listed,
+    );
+}
+
+fn p6() {
+    let ids = [37, 0, 74, 66, 12, 58, 41];
+    let starts = [0, 4, 5, 6, 7, 16, 17];
+    let ends = [4, 5, 6, 7, 16, 17, 21];
+    case(b"P6", b"rule a{condition:true", &ids, &starts, &ends, 5);
+}
+
+fn p7(name: &[u8], event_room: usize, error_room: usize) {
+    let ids = [3, 0, 37, 0, 74, 66, 12, 58, 41, 67];
+    let starts = [0, 1, 2, 6, 7, 8, 9, 18, 19, 23];
+    let ends = [1, 2, 6, 7, 8, 9, 18, 19, 23, 24];
+    in_rooms(
+        name,
+        b"@ rule a{condition:true}",
+        &ids,
+        &starts,
+        &ends,
+        5,
+        1,
+        event_room,
+        error_room,
+        false,
+    );
+}
+
+fn p8() {
+    let ids = [37, 0, 74, 66, 12, 58, 41, 0, 37, 0, 74, 66, 12, 58, 41, 67];
+    let starts = [0, 4, 5, 6, 7, 16, 17, 21, 22, 26, 27, 28, 29, 38, 39, 43];
+    let ends = [4, 5, 6, 7, 16, 17, 21, 22, 26, 27, 28, 29, 38, 39, 43, 44];
+    in_rooms(
+        b"P8",
+        b"rule a{condition:true rule b{condition:true}",
+        &ids,
+        &starts,
+        &ends,
+        6,
+        1,
+        128,
+        32,
+        true,
+    );
+}
+
+fn small_files() {
+    none(b"P1", b"", 1, 128);
+    rule(b"P2", 5, 1, 128, 32, true);
+    rule(b"P3", 4, 1, 128, 32, false);
+    rule(b"P4", 1, 1, 128, 32, true);
+    rule(b"P5", 0, 1, 128, 32, false);
+    p6();
+    p7(b"P7", 128, 32);
+    p8();
+}
+
+fn next(n: u32) -> u32 {
+    if n < 1000000 {
+        return n + 1;
+    }
+    n
+}
+
+// Each number is one more than the one before.
+fn count_up(l: &mut [u32], from: u32) {
+    let mut n = from;
+    let mut i = 0;
+    while i < l.len() {
+        l[i] = n;
+        n = next(n);
+        i += 1;
+    }
+}
+
+fn in_words(name: &[u8], src: &[u8], ids: &[u32], starts: &[u32], ends: &[u32], words: usize) {
+    let mut scratch = [5u64; 2049];
+    let mut events = [5u32; 262160];
+    let mut errors = [5u32; 4];
+    if words <= 2049 {
+        show(
+            name,
+            src,
+            ids,
+            starts,
+            ends,
+            9,
+            &mut scratch[..words],
+            &mut events,
+            &mut errors,
+            false,
+        );
+    }
+}
+
+// Lists of these lengths, whose rows are a byte of white space each.
+fn rows(name: &[u8], a: usize, b: usize, c: usize, words: usize) {
+    let src = [32u8; 65537];
+    let ids = [0u32; 65537];
+    let mut starts = [0u32; 65537];
+    let mut ends = [0u32; 65537];
+    count_up(&mut starts, 0);
+    count_up(&mut ends, 1);
+    if a <= 65537 {
+        if b <= 65537 {
+            if c <= 65537 {
+                in_words(name, &src[..c], &ids[..a], &starts[..b], &ends[..c], words);
+            }
+        }
+    }
+}
+
+// One row.
+fn one(name: &[u8], src: &[u8], id: u32, start: u32, end: u32) {
+    let ids = [id];
+    let starts = [start];
+    let ends = [end];
+    case(name, src, &ids, &starts, &ends, 9);
+}
+
+fn most(src: &[u8; 1048576]) {
+    one(b"source of 1048576", src, 0, 0, 1048576);
+}
+
+fn too_many(src: &[u8; 1048577]) {
+    one(b"source of 1048577", src, 0, 0, 1048577);
+}
+
+// White space, all one row.
+fn sizes() {
+    let src = [32u8; 1048576];
+    most(&src);
+    let more = [32u8; 1048577];
+    too_many(&more);
+}
+
+fn many_rows() {
+    rows(b"65536 rows", 65536, 65536, 65536, 2049);
+    rows(b"65537 rows", 65537, 65537, 65537, 2049);
+    rows(b"65537 ids", 65537, 65536, 65536, 2049);
+    rows(b"65537 starts", 65536, 65537, 65536, 2049);
+    rows(b"65537 ends", 65536, 65536, 65537, 2049);
+    rows(b"65535 starts", 65536, 65535, 65536, 2049);
+}
+
+// Three rows over three bytes.
+fn three(name: &[u8], ids: &[u32], starts: &[u32], ends: &[u32]) {
+    case(name, b"a b", ids, starts, ends, 9);
+}
+
+fn lengths() {
+    let ids = [74, 0, 74];
+    let wrong = [74, 82, 74];
+    let starts = [0, 1, 2];
+    let ends = [1, 2, 3];
+    three(b"ids short", &ids[..2], &starts, &ends);
+    three(b"starts short", &ids, &starts[..2], &ends);
+    three(b"ends short", &ids, &starts, &ends[..2]);
+    three(b"2 before 3", &wrong, &starts[..2], &ends);
+}
+
+fn single() {
+    one(b"id 81", b"a", 81, 0, 1);
+    one(b"id 82", b"a", 82, 0, 1);
+    one(b"id 4294967295", b"a", 4294967295, 0, 1);
+    one(b"3 before 4", b"a", 82, 0, 0);
+    one(b"two bytes", b"ab", 74, 0, 2);
+    one(b"first start 1", b"ab", 74, 1, 2);
+    one(b"last end short", b"ab", 74, 0, 1);
+    one(b"last end far", b"a", 74, 0, 2);
+    none(b"no rows", b"a", 1, 128);
+}
+
+fn tiling() {
+    let ids = [74, 0, 74];
+    let two = [74, 74];
+    let empty_starts = [0, 1, 1];
+    let empty_ends = [1, 1, 3];
+    three(b"empty row", &ids, &empty_starts, &empty_ends);
+    let back_starts = [0, 2, 1];
+    let back_ends = [2, 1, 3];
+    three(b"end before start", &ids, &back_starts, &back_ends);
+    let gap_starts = [0, 2];
+    let gap_ends = [1, 3];
+    three(b"gap", &two, &gap_starts, &gap_ends);
+    let over_starts = [0, 1];
+    let over_ends = [2, 3];
+    three(b"overlap", &two, &over_starts, &over_ends);
+}
+
+fn imports() {
+    one(b"4 before 5", b"import", 25, 0, 5);
+    one(b"import", b"import", 25, 0, 6);
+    one(b"include", b"include", 27, 0, 7);
+    let ids = [74, 0, 25];
+    let starts = [0, 1, 2];
+    let ends = [1, 2, 3];
+    three(b"import last", &ids, &starts, &ends);
+    in_rooms(
+        b"5 before 6",
+        b"a b",
+        &ids,
+        &starts,
+        &ends,
+        9,
+        0,
+        128,
+        32,
+        false,
+    );
+}
+
+fn words() {
+    none(b"P1, no words", b"", 0, 128);
+    rule(b"P2, no words", 5, 0, 128, 32, false);
+    rule(b"6 before 7", 5, 0, 0, 32, false);
+    rows(b"31 rows, 1 word", 31, 31, 31, 1);
+    rows(b"32 rows, 1 word", 32, 32, 32, 1);
+    rows(b"32 rows, 2 words", 32, 32, 32, 2);
+    rows(b"65536 rows, 2048 words", 65536, 65536, 65536, 2048);
+}
+
+fn rooms() {
+    none(b"P1, room 8", b"", 1, 8);
+    none(b"P1, room 4", b"", 1, 4);
+    rule(b"P2, room 72", 5, 1, 72, 0, false);
+    rule(b"P2, room 71", 5, 1, 71, 0, false);
+    rule(b"P2, room 68", 5, 1, 68, 0, false);
+    rule(b"P2, room 3", 5, 1, 3, 0, false);
+    rule(b"P2, room 0", 5, 1, 0, 0, false);
+    rule(b"P3, rooms 68 6", 4, 1, 68, 6, false);
+    rule(b"P3, rooms 64 6", 4, 1, 64, 6, false);
+    rule(b"P3, rooms 68 5", 4, 1, 68, 5, false);
+    rule(b"P3, rooms 68 3", 4, 1, 68, 3, false);
+    rule(b"P3, rooms 68 0", 4, 1, 68, 0, false);
+    rule(b"P3, rooms 44 5", 4, 1, 44, 5, false);
+    rule(b"P3, rooms 40 5", 4, 1, 40, 5, false);
+}
+
+// Form 10's record comes before its event.
+fn stray_rooms() {
+    p7(b"P7, rooms 92 4", 92, 4);
+    p7(b"P7, rooms 88 4", 88, 4);
+    p7(b"P7, rooms 92 3", 92, 3);
+    p7(b"P7, rooms 4 3", 4, 3);
+    p7(b"P7, rooms 4 4", 4, 4);
+    p7(b"P7, rooms 3 3", 3, 3);
+    p7(b"P7, rooms 0 0", 0, 0);
+}
+
+// A number stands where a rule's name is expected.
+fn text(name: &[u8], src: &[u8], end: u32) {
+    let ids = [37, 0, 80];
+    let starts = [0, 4, 5];
+    let ends = [4, 5, end];
+    case(name, src, &ids, &starts, &ends, 9);
+}
+
+fn copy(from: &[u8], to: &mut [u8]) {
+    let mut i = 0;
+    while i < to.len() {
+        if i >= from.len() {
+            return;
+        }
+        to[i] = from[i];
+        i += 1;
+    }
+}
+
+fn lay(from: &[u32], to: &mut [u32]) {
+    let mut i = 0;
+    while i < to.len() {
+        if i >= from.len() {
+            return;
+        }
+        to[i] = from[i];
+        i += 1;
+    }
+}
+
+fn put_byte(to: &mut [u8], at: usize, b: u8) {
+    if at < to.len() {
+        to[at] = b;
+    }
+}
+
+fn put(to: &mut [u32], at: usize, n: u32) {
+    if at < to.len() {
+        to[at] = n;
+    }
+}
+
+fn deep(name: &[u8], src: &[u8], ids: &[u32], starts: &[u32], ends: &[u32]) {
+    let mut scratch = [5u64; 33];
+    let mut events = [5u32; 12304];
+    let mut errors = [5u32; 16];
+    show(
+        name,
+        src,
+        ids,
+        starts,
+        ends,
+        10000,
+        &mut scratch,
+        &mut events,
+        &mut errors,
+        false,
+    );
+}
+
+// A rule whose condition is a 1 behind so many minus signs: 1,016 open 1,024 nodes. This run needs 16.5 MB of stack (ulimit -s).
+fn signs(name: &[u8], n: usize) {
+    let mut src = [45u8; 1036];
+    let mut ids = [61u32; 1025];
+    let mut starts = [0u32; 1025];
+    let mut ends = [0u32; 1025];
+    let first_ids = [37u32, 0, 74, 66, 12, 58];
+    let first_starts = [0u32, 4, 5, 6, 7, 16];
+    let first_ends = [4u32, 5, 6, 7, 16, 17];
+    copy(b"rule a{condition:", &mut src);
+    lay(&first_ids, &mut ids);
+    count_up(&mut starts, 11);
+    lay(&first_starts, &mut starts);
+    count_up(&mut ends, 12);
+    lay(&first_ends, &mut ends);
+    if n <= 1017 {
+        put_byte(&mut src, n + 17, b'1');
+        put_byte(&mut src, n + 18, b'}');
+        put(&mut ids, n + 6, 80);
+        put(&mut ids, n + 7, 67);
+        let size = n + 19;
+        let many = n + 8;
+        deep(
+            name,
+            &src[..size],
+            &ids[..many],
+            &starts[..many],
+            &ends[..many],
+        );
+    }
+}
+
+fn main() {
+    small_files();
+    sizes();
+    many_rows();
+    lengths();
+    single();
+    tiling();
+    imports();
+    words();
+    rooms();
+    stray_rooms();
+    text(b"text of 15", b"rule 123456789012345", 20);
+    text(b"text of 16", b"rule 1234567890123456", 21);
+    signs(b"1016 signs", 1016);
+    signs(b"1017 signs", 1017);
+}

@@ -1,0 +1,392 @@
+// Reads the rows of one file from standard input, and writes what the reader and the merger make of them (document 01, "Small files").
+use desk::read::Reading;
+use libc::STDIN_FILENO;
+use libc::STDOUT_FILENO;
+use listing::Line;
+use listing::Next;
+use merger::Merged;
+ghost use Prim.Native.Nat.{_+_, _≤_};
+ghost use lib.ListN.{length};
+
+// "It takes 65,536 bytes and 4,096 rows (more is refusal 1)".
+const MOST_BYTES: usize = 65536;
+
+const MOST_ROWS: usize = 4096;
+
+// How far the lines were taken. One row and one byte too many are counted, and no more, since that is all that refusal 1 asks.
+struct Taken {
+    // How many lines have read.
+    lines: u64,
+    // Where, in the bytes at hand, the next line begins.
+    at: usize,
+    rows: usize,
+    size: usize,
+    fuel: u32,
+}
+
+enum Step {
+    On(Taken),
+    // The number of the line that does not read.
+    Unread(u64),
+}
+
+enum Source {
+    Bytes(usize),
+    Unreadable,
+}
+
+// The number, from 1, of the line behind those that have read. No run has so many lines that it wraps.
+fn next_number(t: Taken) -> u64 {
+    std::num::wrapping_add_u64(t.lines, 1)
+}
+
+// One read into the bytes from a place on: how many came, 0 where the input ends or a read fails.
+fn read_on(fd: i32, bytes: &mut [u8], at: usize) -> usize
+    requires { ⌜ at ≤ length (now bytes) ⌝ }
+    ensures { λ r. ⌜ at + r ≤ length (now (bytes .entry)) ⌝ }
+{
+    let rest = &mut bytes[at..];
+    let got = libc::read(fd, rest);
+    io::count(got, rest)
+}
+
+// All that the room has place for. Only a read that fails is told apart from the end, by `libc::read` itself.
+fn read_source(fd: i32, room: &mut [u8]) -> Source {
+    let mut size = 0;
+    while size < room.len() {
+        let rest = &mut room[size..];
+        let got = libc::read(fd, rest);
+        if got < 0 {
+            return Source::Unreadable;
+        }
+        let n = io::count(got, rest);
+        if n == 0 {
+            return Source::Bytes(size);
+        }
+        size += n;
+    }
+    Source::Bytes(size)
+}
+
+fn open_source(name: &[u8], room: &mut [u8]) -> Source {
+    let fd = os::open_read(name);
+    if fd < 0 {
+        return Source::Unreadable;
+    }
+    let source = read_source(fd, room);
+    libc::close(fd);
+    source
+}
+
+// The first line. The file is read at once, since one that cannot be opened or read counts as this line, whatever lines follow.
+fn take_source(line: &[u8], source: &mut [u8; 65537]) -> Step {
+    let Line::Source { from, to, fuel } = listing::read_line(line) else {
+        return Step::Unread(1);
+    };
+    let Source::Bytes(size) = open_source(&line[from..to], source) else {
+        return Step::Unread(1);
+    };
+    Step::On(Taken {
+        lines: 1,
+        at: 0,
+        rows: 0,
+        size,
+        fuel,
+    })
+}
+
+// A line behind the first. Rows past the most still have to read, and are not kept.
+fn take_row(
+    t: Taken,
+    line: &[u8],
+    ids: &mut [u32; 4096],
+    starts: &mut [u32; 4096],
+    ends: &mut [u32; 4096],
+) -> Step {
+    let Line::Row { id, start, end } = listing::read_line(line) else {
+        return Step::Unread(next_number(t));
+    };
+    let mut next = t;
+    next.lines = next_number(t);
+    let n = t.rows;
+    if n < MOST_ROWS {
+        ids[n] = id;
+        starts[n] = start;
+        ends[n] = end;
+        next.rows = n + 1;
+        return Step::On(next);
+    }
+    next.rows = MOST_ROWS + 1;
+    Step::On(next)
+}
+
+fn take_line(
+    t: Taken,
+    line: &[u8],
+    source: &mut [u8; 65537],
+    ids: &mut [u32; 4096],
+    starts: &mut [u32; 4096],
+    ends: &mut [u32; 4096],
+) -> Step {
+    if t.lines == 0 {
+        return take_source(line, source);
+    }
+    take_row(t, line, ids, starts, ends)
+}
+
+// The lines whose ends are in the bytes.
+fn take_lines(
+    first: Taken,
+    bytes: &[u8],
+    source: &mut [u8; 65537],
+    ids: &mut [u32; 4096],
+    starts: &mut [u32; 4096],
+    ends: &mut [u32; 4096],
+) -> Step {
+    let mut t = first;
+    let mut at = 0;
+    while at < bytes.len() {
+        let Next::Whole { to, next } = listing::next_line(bytes, at) else {
+            break;
+        };
+        let step = take_line(t, &bytes[at..to], source, ids, starts, ends);
+        let Step::On(after) = step else {
+            return step;
+        };
+        t = after;
+        at = next;
+    }
+    t.at = at;
+    Step::On(t)
+}
+
+// What stands behind the last line feed, if anything does: the last line may lack its own. "Empty input .. counts as line 1."
+fn take_last(
+    t: Taken,
+    line: &[u8],
+    source: &mut [u8; 65537],
+    ids: &mut [u32; 4096],
+    starts: &mut [u32; 4096],
+    ends: &mut [u32; 4096],
+) -> Step {
+    if line.len() != 0 {
+        return take_line(t, line, source, ids, starts, ends);
+    }
+    if t.lines == 0 {
+        return Step::Unread(1);
+    }
+    Step::On(t)
+}
+
+// Moves the bytes from a place up to another to the front, and answers how many they are.
+fn move_front(bytes: &mut [u8], at: usize, end: usize) -> usize
+    requires { ⌜ end ≤ length (now bytes) ⌝ }
+    ensures { λ r. ⌜ r ≤ length (now (bytes .entry)) ⌝ }
+{
+    let mut from = at;
+    let mut to = 0;
+    while from < end {
+        bytes[to] = bytes[from];
+        from += 1;
+        to += 1;
+    }
+    to
+}
+
+// The whole input, in pieces. The buffer has place for more than the longest line that reads: where it is full of one line, nothing more can come, and
+// that line, taken as the last, does not read. A proved loop has to end, so this one counts down from a number that no run uses up.
+fn take_input(
+    buffer: &mut [u8],
+    source: &mut [u8; 65537],
+    ids: &mut [u32; 4096],
+    starts: &mut [u32; 4096],
+    ends: &mut [u32; 4096],
+) -> Step {
+    let mut t = Taken {
+        lines: 0,
+        at: 0,
+        rows: 0,
+        size: 0,
+        fuel: 0,
+    };
+    let mut held = 0;
+    let mut turns = 0xffff_ffff_ffff_ffffu64;
+    while 0 < turns {
+        let more = read_on(STDIN_FILENO, buffer, held);
+        if more == 0 {
+            return take_last(t, &buffer[..held], source, ids, starts, ends);
+        }
+        let end = held + more;
+        let step = take_lines(t, &buffer[..end], source, ids, starts, ends);
+        let Step::On(next) = step else {
+            return step;
+        };
+        t = next;
+        held = move_front(buffer, next.at, end);
+        turns -= 1;
+    }
+    Step::Unread(next_number(t))
+}
+
+fn write_head() {
+    let mut room = [0u8; 4096];
+    let k = listing::head_line(&mut room);
+    io::write_all(STDOUT_FILENO, &room[..k]);
+}
+
+fn write_unread(number: u64) {
+    let mut room = [0u8; 4096];
+    let k = listing::unread_line(number, &mut room);
+    io::write_all(STDOUT_FILENO, &room[..k]);
+}
+
+fn write_refusal(refusal: u32) {
+    let mut room = [0u8; 4096];
+    let k = listing::refusal_line(refusal, &mut room);
+    io::write_all(STDOUT_FILENO, &room[..k]);
+}
+
+fn write_result(outcome: u32, rows: u32, fuel: u32) {
+    let mut room = [0u8; 4096];
+    let k = listing::result_line(outcome, rows, fuel, &mut room);
+    io::write_all(STDOUT_FILENO, &room[..k]);
+}
+
+fn write_event(sort: u32, second: u32, start: u32, end: u32, errors: &[u32]) {
+    let mut room = [0u8; 4096];
+    let k = listing::event_line(sort, second, start, end, errors, &mut room);
+    io::write_all(STDOUT_FILENO, &room[..k]);
+}
+
+fn write_events(events: &[u32], errors: &[u32]) {
+    let mut i = 0;
+    while i < events.len() / 4 {
+        let at = i * 4;
+        write_event(
+            events[at],
+            events[at + 1],
+            events[at + 2],
+            events[at + 3],
+            errors,
+        );
+        i += 1;
+    }
+}
+
+// The first events of a list. Neither the reader nor the merger counts more than its room has.
+fn first_events(list: &[u32], count: usize) -> &[u32] {
+    if list.len() / 4 < count {
+        return list;
+    }
+    let n = count * 4;
+    &list[..n]
+}
+
+// The reader's list is merged and written. Whether it was, so that the result can follow.
+fn write_merged(events: &[u32], errors: &[u32]) -> bool {
+    let mut room = [0u32; 16384];
+    match merger::merge(events, &mut room) {
+        Merged::Malformed => {
+            write_refusal(9);
+            false
+        }
+        Merged::Unpaired => {
+            write_refusal(10);
+            false
+        }
+        Merged::Full => {
+            write_refusal(7);
+            false
+        }
+        Merged::Events(n) => {
+            write_events(first_events(&room, n), errors);
+            true
+        }
+    }
+}
+
+// Rows covered as the listing takes them: they are rows that were read, so that every count of them fits.
+fn row_count(covered: usize) -> u32 {
+    if MOST_ROWS < covered {
+        return MOST_ROWS as u32;
+    }
+    covered as u32
+}
+
+// "It .. has room for 4,096 events and 16,384 numbers of error records." 129 words of scratch are what 4,096 rows ask for.
+fn answer(source: &[u8], ids: &[u32], starts: &[u32], ends: &[u32], fuel: u32) {
+    let mut scratch = [0u64; 129];
+    let mut events = [0u32; 16384];
+    let mut errors = [0u32; 16384];
+    let reading = desk::read::read(
+        source,
+        ids,
+        starts,
+        ends,
+        fuel,
+        &mut scratch,
+        &mut events,
+        &mut errors,
+    );
+    match reading {
+        Reading::Refused(n) => write_refusal(n),
+        Reading::Answered {
+            outcome,
+            covered,
+            events: count,
+            errors: _,
+            left,
+        } => {
+            if write_merged(first_events(&events, count), &errors) {
+                write_result(outcome, row_count(covered), left);
+            }
+        }
+    }
+}
+
+fn answer_within(t: Taken, source: &[u8], ids: &[u32], starts: &[u32], ends: &[u32])
+    requires { ⌜ (65536 ≤ length (now source)) × (4096 ≤ length (now ids)) × (4096 ≤ length (now starts)) × (4096 ≤ length (now ends)) ⌝ }
+{
+    let size = t.size;
+    let rows = t.rows;
+    if MOST_BYTES < size {
+        write_refusal(1);
+        return;
+    }
+    if MOST_ROWS < rows {
+        write_refusal(1);
+        return;
+    }
+    answer(
+        &source[..size],
+        &ids[..rows],
+        &starts[..rows],
+        &ends[..rows],
+        t.fuel,
+    );
+}
+
+// As arrays, so that their lengths are known from their types.
+fn answer_taken(
+    t: Taken,
+    source: &[u8; 65537],
+    ids: &[u32; 4096],
+    starts: &[u32; 4096],
+    ends: &[u32; 4096],
+) {
+    answer_within(t, source, ids, starts, ends);
+}
+
+fn main() {
+    let mut buffer = [0u8; 16384];
+    let mut source = [0u8; 65537];
+    let mut ids = [0u32; 4096];
+    let mut starts = [0u32; 4096];
+    let mut ends = [0u32; 4096];
+    write_head();
+    let step = take_input(&mut buffer, &mut source, &mut ids, &mut starts, &mut ends);
+    match step {
+        Step::Unread(number) => write_unread(number),
+        Step::On(t) => answer_taken(t, &source, &ids, &starts, &ends),
+    }
+}
