@@ -46,6 +46,9 @@ impl Question {
             source.extend_from_slice(text);
             ends.push(source.len() as u32);
         }
+        // No slack, so that a memory checker sees a read past an end.
+        source.shrink_to_fit();
+        [&mut ids, &mut starts, &mut ends].into_iter().for_each(Vec::shrink_to_fit);
         let scratch = scratch_words(ids.len());
         let event_room = 4 * (64 * (ids.len() + 1)).max(16_384);
         let error_room = (32 * (ids.len() + 1)).max(4_096);

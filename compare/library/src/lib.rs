@@ -31,6 +31,44 @@ extern "C" {
     ) -> u32;
 }
 
+/// The buffers that a reading is lent.
+pub struct Lent<'a> {
+    pub scratch: &'a mut [u64],
+    pub events: &'a mut [u32],
+    pub errors: &'a mut [u32],
+}
+
+/// Reads a question's rows into lent buffers, whatever rooms the question names.
+pub fn read_into(q: &Question, lent: Lent, answer: &mut [u32; 5]) -> u32 {
+    // SAFETY: every pointer comes with the length of the slice that it was taken from, the slices do
+    // not overlap, and the answer has the five cells that the face writes.
+    unsafe {
+        stableglow_read(
+            q.source.as_ptr(),
+            q.source.len(),
+            q.ids.as_ptr(),
+            q.ids.len(),
+            q.starts.as_ptr(),
+            q.starts.len(),
+            q.ends.as_ptr(),
+            q.ends.len(),
+            q.fuel,
+            lent.scratch.as_mut_ptr(),
+            lent.scratch.len(),
+            lent.events.as_mut_ptr(),
+            lent.events.len(),
+            lent.errors.as_mut_ptr(),
+            lent.errors.len(),
+            answer.as_mut_ptr(),
+        )
+    }
+}
+
+pub fn merge_into(events: &[u32], room: &mut [u32], count: &mut u32) -> u32 {
+    // SAFETY: as above.
+    unsafe { stableglow_merge(events.as_ptr(), events.len(), room.as_mut_ptr(), room.len(), count) }
+}
+
 pub struct Library;
 
 impl Side for Library {
@@ -40,38 +78,15 @@ impl Side for Library {
         let mut errors = vec![LENT; q.error_room];
         // The answer's cells are the face's own, so they are written whatever comes.
         let mut answer = [LENT; 5];
-        // SAFETY: every pointer comes with the length of the slice that it was taken from, the slices do
-        // not overlap, and the answer has the five cells that the face writes.
-        let refusal = unsafe {
-            stableglow_read(
-                q.source.as_ptr(),
-                q.source.len(),
-                q.ids.as_ptr(),
-                q.ids.len(),
-                q.starts.as_ptr(),
-                q.starts.len(),
-                q.ends.as_ptr(),
-                q.ends.len(),
-                q.fuel,
-                scratch.as_mut_ptr(),
-                scratch.len(),
-                events.as_mut_ptr(),
-                events.len(),
-                errors.as_mut_ptr(),
-                errors.len(),
-                answer.as_mut_ptr(),
-            )
-        };
+        let lent = Lent { scratch: &mut scratch, events: &mut events, errors: &mut errors };
+        let refusal = read_into(q, lent, &mut answer);
         Reply { refusal, answer, scratch, events, errors }
     }
 
     fn merge(&self, events: &[u32], room: usize) -> Merged {
         let mut room = vec![LENT; room];
-        let mut count = [LENT];
-        // SAFETY: as above.
-        let refusal = unsafe {
-            stableglow_merge(events.as_ptr(), events.len(), room.as_mut_ptr(), room.len(), count.as_mut_ptr())
-        };
-        Merged { refusal, count: count[0], room }
+        let mut count = LENT;
+        let refusal = merge_into(events, &mut room, &mut count);
+        Merged { refusal, count, room }
     }
 }

@@ -26,10 +26,7 @@ pub struct Probed {
 
 /// Reads rows that tile the source. Answers outcomes 0 and 1 alone: the Rust has no limit of depth.
 pub fn read(question: &Question) -> Reading {
-    let spans = question.starts.iter().zip(&question.ends).map(|(s, e)| Span(*s..*e));
-    let rows: Vec<tokenizer::Token> =
-        question.ids.iter().zip(spans).map(|(id, span)| tokenizer::Token::new(*id, span)).collect();
-    let probed = parser::Parser::probe(&question.source, &rows, question.fuel as usize);
+    let probed = parser::Parser::probe(&question.source, &tokens(question), question.fuel as usize);
     let (raw, records) = with_records(probed.events.iter().cloned(), &question.source);
     let (merged, again) = with_records(ErrorMerger::new(probed.events.into_iter()), &question.source);
     assert_eq!(records, again, "merging leaves errors alone");
@@ -41,6 +38,17 @@ pub fn read(question: &Question) -> Reading {
         rows: probed.rows as u32,
         fuel: probed.fuel as u32,
     }
+}
+
+/// The merged events, with all made ready and nothing read yet: the reading is in taking them out.
+pub fn merged(question: &Question) -> impl Iterator<Item = cst::Event> + use<'_> {
+    let fuel = question.fuel as usize;
+    ErrorMerger::new(parser::Parser::with_rows(&question.source, &tokens(question), fuel))
+}
+
+fn tokens(question: &Question) -> Vec<tokenizer::Token> {
+    let spans = question.starts.iter().zip(&question.ends).map(|(s, e)| Span(*s..*e));
+    question.ids.iter().zip(spans).map(|(id, span)| tokenizer::Token::new(*id, span)).collect()
 }
 
 /// The Rust's merger on any list; an error keeps its index as its message.

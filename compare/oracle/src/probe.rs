@@ -5,11 +5,17 @@ use super::{Parser, ParserImpl, State};
 use crate::Probed;
 use crate::tokenizer::{Token, Tokenizer};
 
-impl Parser<'_> {
-    /// Reads the given rows with the given fuel by the parser's own iterator.
-    pub fn probe(source: &[u8], rows: &[Token], fuel: usize) -> Probed {
+impl<'src> Parser<'src> {
+    /// A parser that is to read the given rows with the given fuel.
+    pub fn with_rows(source: &'src [u8], rows: &[Token], fuel: usize) -> Self {
         let mut parser = ParserImpl::from(Tokenizer::with_rows(source, rows));
         parser.fuel = fuel;
+        Self { parser }
+    }
+
+    /// Reads the given rows with the given fuel by the parser's own iterator.
+    pub fn probe(source: &'src [u8], rows: &[Token], fuel: usize) -> Probed {
+        let mut parser = Self::with_rows(source, rows, fuel).parser;
         let mut events = Vec::new();
         let mut seen = false;
         while let Some(event) = parser.next() {
