@@ -143,8 +143,6 @@ def row(part):
     if r not in known:
         known[r] = len(rows)
         rows.append(r)
-    if op == "Alt" and not r[1] < r[2]:
-        raise SystemExit(f"an alternative stands behind those that follow it: {r}")
     return known[r]
 
 

@@ -23,14 +23,14 @@ use Rattle.reader.specs.declared.state.State.{State}
 use Rattle.reader.specs.declared.names.Label.{Label}
 use Rattle.reader.specs.declared.names.Label.the-variants.{Ids, As}
 use Rattle.reader.specs.declared.state.Mark.{Mark}
-use Rattle.reader.specs.Change.{markOf}
+use Rattle.reader.specs.Change.{markOf, gone, withMode}
 use Rattle.reader.specs.Means.{limits, Bufs, bufs}
 use Rattle.reader.specs.Did.{Wf, Did, Events, Plain, Proper, namesOf, ahead}
 use Rattle.reader.proofs.Core as core
-use Rattle.grammar.proofs.Cycle.{from, plus, plusE, stops, thence, Tries, tries, enters, passes}
+use Rattle.grammar.proofs.Cycle.{from, plus, plusE, stops, thence, Tries, tries, tried, again, tried-last, lost-back, lost-on, waives, waived-back, waived-on, enters, passes}
 use Rattle.reader.specs.Bits.{ifb}
 use Rattle.grammar.specs.declared.parts.Part.{Part}
-use Rattle.grammar.specs.declared.parts.Part.the-variants.{Eat, Unless, Recover, Node, Memo, Seq, Then, When, Many, Opt, Last, Alt}
+use Rattle.grammar.specs.declared.parts.Part.the-variants.{Eat, Unless, Recover, Node, Memo, Seq, Then, When, Many, Try}
 use Rattle.grammar.specs.Rows.{size, item}
 use Rattle.grammar.specs.Table.{rowOf, split, labelOf, reads, made, partOf, production, progOf, prog, Line, Cached}
 
@@ -49,9 +49,9 @@ module _ (i : ℕ) {r : ℕ} (e : r ≡ rowOf i) where
   pub row-of : (m : ℕ) → r / 16777216 ≡ m → made m first second ≡ partOf i
   row-of m h = sym (ap (λ (c : ℕ). made c first second) h) ∙ whole
 
-  pub row-else : 11 ≤ r / 16777216 → Alt first second ≡ partOf i
+  pub row-else : 9 ≤ r / 16777216 → Try (r / 16777216) first second ≡ partOf i
   row-else h =
-      sym (List·getD-eq-default (Eat first second ∷ Unless first ∷ Recover first ∷ Node first second ∷ Memo first second ∷ Seq first second ∷ Then first ∷ When first second ∷ Many first ∷ Opt first ∷ Last first ∷ []) (Alt first second) h)
+      sym (List·getD-eq-default (Eat first second ∷ Unless first ∷ Recover first ∷ Node first second ∷ Memo first second ∷ Seq first second ∷ Then first ∷ When first second ∷ Many first ∷ []) (Try (r / 16777216) first second) h)
       ∙ whole
 
 -- a number that is none of those before
@@ -101,9 +101,7 @@ sound i (Seq j h) = both (ltb j i) (ltb h i)
 sound i (Then j) = ltb j i
 sound i (When s j) = ltb j i
 sound i (Many j) = ltb j i
-sound i (Opt j) = ltb j i
-sound i (Last j) = ltb j i
-sound i (Alt j h) = both (ltb j h) (ltb h i)
+sound i (Try n j h) = both (ltb j i) (ltb h i)
 
 tested : all (λ i. sound i (partOf i)) size ≡ true
 unfolding prog partOf rowOf production productions kind
@@ -119,9 +117,7 @@ Sound i (Seq j h) = (j < i) × (h < i)
 Sound i (Then j) = j < i
 Sound i (When s j) = j < i
 Sound i (Many j) = j < i
-Sound i (Opt j) = j < i
-Sound i (Last j) = j < i
-Sound i (Alt j h) = (j < h) × (h < i)
+Sound i (Try n j h) = (j < i) × (h < i)
 
 two-facts : {A B : Type 0} {a b : Bool} → (a ≡ true → A) → (b ≡ true → B) → both a b ≡ true → A × B
 two-facts {A} {B} {a} {b} f g t = (f (both-left a b t), g (both-right a b t))
@@ -143,9 +139,7 @@ sound-so i (Seq j h) t = two-facts (ltb-true j i) (ltb-true h i) t
 sound-so i (Then j) t = ltb-true j i t
 sound-so i (When s j) t = ltb-true j i t
 sound-so i (Many j) t = ltb-true j i t
-sound-so i (Opt j) t = ltb-true j i t
-sound-so i (Last j) t = ltb-true j i t
-sound-so i (Alt j h) t = two-facts (ltb-true j h) (ltb-true h i) t
+sound-so i (Try n j h) t = two-facts (ltb-true j i) (ltb-true h i) t
 
 pub row-sound : (i : ℕ) → i < size → {p : Part} → p ≡ partOf i → Sound i p
 row-sound i h {p} e = sound-so i p (ap (sound i) e ∙ all-sound (λ j. sound j (partOf j)) size tested i h)
@@ -161,9 +155,7 @@ called f (Seq j h) = prog 0
 called f (Then j) = prog 0
 called f (When s j) = prog 0
 called f (Many j) = prog 0
-called f (Opt j) = prog 0
-called f (Last j) = prog 0
-called f (Alt j h) = prog 0
+called f (Try n j h) = prog 0
 
 abbrev lineOf : Part → Prog
 lineOf = called (λ a j. prog j)
@@ -255,8 +247,47 @@ module _ (d : ℕ) (o : Bool) (i : ℕ) (h : i < size) {x : Source} {s : State} 
   pub when-goes : {S p : ℕ} → When S p ≡ partOf i → {v : Bool} → v ≡ ahead (setOf S) (x .ids) s → v ≡ true → {r z : State} {ev′ : List ℕ} {b : Bufs} → Events P.trivia x s r ev ev′ → Did (reads d o (prog p)) x r z (bufs ev′ er sc) b → Did (reads d o (prog i)) x s z (bufs ev er sc) b
   when-goes {S} {p} e sees n t y = is-row d o i h e (enters still d o (setOf S) (prog p) sees n (plus (plusE still t) y))
 
-  pub alt-stops : {p q : ℕ} → Alt p q ≡ partOf i → (s .mode ≡ 0 → ⊥) → Did (reads d o (prog i)) x s s (bufs ev er sc) (bufs ev er sc)
-  alt-stops {p} {q} e n = is-row d o i h e (stops still d o (G._/_ (prog p) (prog q)) tt n)
+  -- alternatives: by how they go on where the first fails
+  module _ {n p q : ℕ} (e : Try n p q ≡ partOf i) where
+    as-opt : n ≡ 9 → {z : State} {b : Bufs} → Did (reads d o (G.opt (prog p))) x s z (bufs ev er sc) b → Did (reads d o (prog i)) x s z (bufs ev er sc) b
+    as-opt k {z} {b} y = is-row d o i h e (subst (λ (c : Bool). Did (reads d o (ifb c (G.opt (prog p)) (ifb (eqb n 10) (G.last (prog p)) (G._/_ (prog p) (prog q))))) x s z (bufs ev er sc) b) (sym (eq-eqb n 9 k)) y)
 
-  pub alt-tries : {p q : ℕ} → Alt p q ≡ partOf i → s .mode ≡ 0 → {m : Mark} → m ≡ markOf s → Tries (reads d o (prog i)) d o (G._/_ (prog p) (prog q)) x s s m (bufs ev er sc) (bufs ev er sc)
-  alt-tries {p} {q} e good k = let t = tries d o (G._/_ (prog p) (prog q)) still good k in record { go = λ y. is-row d o i h e (t .go y); here = still; good = good; mark = k }
+    as-last : (n ≡ 9 → ⊥) → n ≡ 10 → {z : State} {b : Bufs} → Did (reads d o (G.last (prog p))) x s z (bufs ev er sc) b → Did (reads d o (prog i)) x s z (bufs ev er sc) b
+    as-last j k {z} {b} y =
+        is-row d o i h e (subst (λ (c : Bool). Did (reads d o (ifb c (G.opt (prog p)) (ifb (eqb n 10) (G.last (prog p)) (G._/_ (prog p) (prog q))))) x s z (bufs ev er sc) b) (sym (ne-eqb n 9 j))
+        (subst (λ (c : Bool). Did (reads d o (ifb c (G.last (prog p)) (G._/_ (prog p) (prog q)))) x s z (bufs ev er sc) b) (sym (eq-eqb n 10 k)) y))
+
+    as-alt : (n ≡ 9 → ⊥) → (n ≡ 10 → ⊥) → {z : State} {b : Bufs} → Did (reads d o (G._/_ (prog p) (prog q))) x s z (bufs ev er sc) b → Did (reads d o (prog i)) x s z (bufs ev er sc) b
+    as-alt j k {z} {b} y =
+        is-row d o i h e (subst (λ (c : Bool). Did (reads d o (ifb c (G.opt (prog p)) (ifb (eqb n 10) (G.last (prog p)) (G._/_ (prog p) (prog q))))) x s z (bufs ev er sc) b) (sym (ne-eqb n 9 j))
+        (subst (λ (c : Bool). Did (reads d o (ifb c (G.last (prog p)) (G._/_ (prog p) (prog q)))) x s z (bufs ev er sc) b) (sym (ne-eqb n 10 k)) y))
+
+    -- whichever of the three it is
+    by-how : {z : State} {b : Bufs} → Did (reads d o (G.opt (prog p))) x s z (bufs ev er sc) b → Did (reads d o (G.last (prog p))) x s z (bufs ev er sc) b → Did (reads d o (G._/_ (prog p) (prog q))) x s z (bufs ev er sc) b → Did (reads d o (prog i)) x s z (bufs ev er sc) b
+    by-how {z} {b} y₁ y₂ y₃ = go (ℕ-discrete n 9) (ℕ-discrete n 10)
+      where
+        go : Dec (n ≡ 9) → Dec (n ≡ 10) → Did (reads d o (prog i)) x s z (bufs ev er sc) b
+        go (yes k) c = as-opt k y₁
+        go (no j) (yes k) = as-last j k y₂
+        go (no j) (no k) = as-alt j k y₃
+
+    pub try-stops : (s .mode ≡ 0 → ⊥) → Did (reads d o (prog i)) x s s (bufs ev er sc) (bufs ev er sc)
+    try-stops k = by-how (stops still d o (G.opt (prog p)) tt k) (stops still d o (G.last (prog p)) tt k) (stops still d o (G._/_ (prog p) (prog q)) tt k)
+
+    module _ (good : s .mode ≡ 0) {m : Mark} (mark : m ≡ markOf s) {r : State} {b : Bufs} (y : Did (λ a. reads d true (prog p) (P.trivia a)) x s r (bufs ev er sc) b) where
+      pub try-on : (r .mode ≡ 1 → ⊥) → Did (reads d o (prog i)) x s r (bufs ev er sc) b
+      try-on k =
+          by-how (waives d o (prog p) still good mark y (waived-on m r k)) (tried-last (tries d o (G.last (prog p)) still good mark) y (lost-on m r k))
+          (tried (tries d o (G._/_ (prog p) (prog q)) still good mark) y k)
+
+      pub try-opt : r .mode ≡ 1 → n ≡ 9 → {z : State} → z ≡ withMode 0 (gone m r) → Did (reads d o (prog i)) x s z (bufs ev er sc) b
+      try-opt k j f = as-opt j (waives d o (prog p) still good mark y (f ∙ waived-back m r k))
+
+      pub try-last : r .mode ≡ 1 → (n ≡ 9 → ⊥) → n ≡ 10 → {z : State} → z ≡ gone m r → Did (reads d o (prog i)) x s z (bufs ev er sc) b
+      try-last k j l f = as-last j l (tried-last (tries d o (G.last (prog p)) still good mark) y (f ∙ lost-back m r k))
+
+      pub others : r .mode ≡ 1 → {z : State} → z ≡ withMode 0 (gone m r) → Tries (λ a. reads d o (G._/_ (prog p) (prog q)) a) d o (prog q) x s z m (bufs ev er sc) b
+      others k f = again (tries d o (G._/_ (prog p) (prog q)) still good mark) y k f
+
+      pub try-others : (n ≡ 9 → ⊥) → (n ≡ 10 → ⊥) → (k : r .mode ≡ 1) → {z z′ : State} {b′ : Bufs} → z ≡ withMode 0 (gone m r) → Did (reads d o (prog q)) x z z′ b b′ → Did (reads d o (prog i)) x s z′ (bufs ev er sc) b′
+      try-others j l k f w = as-alt j l (others k f .go w)

@@ -18,13 +18,13 @@ use Rattle.reader.specs.declared.names.Label.the-variants.{Ids, As}
 use Rattle.reader.specs.Bits.{ifb}
 use Rattle.reader.specs.Did.{namesOf}
 use Rattle.grammar.specs.declared.parts.Part.{Part}
-use Rattle.grammar.specs.declared.parts.Part.the-variants.{Eat, Unless, Recover, Node, Memo, Seq, Then, When, Many, Opt, Last, Alt}
+use Rattle.grammar.specs.declared.parts.Part.the-variants.{Eat, Unless, Recover, Node, Memo, Seq, Then, When, Many, Try}
 use Rattle.grammar.specs.Rows.{rows, size}
 
 -- the combinator's number and its two operands
 abbrev pub made : ℕ → ℕ → ℕ → Part
 made n a b =
-    getD (Eat a b ∷ Unless a ∷ Recover a ∷ Node a b ∷ Memo a b ∷ Seq a b ∷ Then a ∷ When a b ∷ Many a ∷ Opt a ∷ Last a ∷ []) n (Alt a b)
+    getD (Eat a b ∷ Unless a ∷ Recover a ∷ Node a b ∷ Memo a b ∷ Seq a b ∷ Then a ∷ When a b ∷ Many a ∷ []) n (Try n a b)
 
 unfoldable pub rowOf : ℕ → ℕ
 rowOf i = getD rows i 0
@@ -55,9 +55,7 @@ progOf g (Seq i j) = g i ⨟ g j
 progOf g (Then i) = then (g i)
 progOf g (When s i) = ifnext (setOf s) (g i)
 progOf g (Many i) = many (g i)
-progOf g (Opt i) = opt (g i)
-progOf g (Last i) = last (g i)
-progOf g (Alt i j) = G._/_ (g i) (g j)
+progOf g (Try n i j) = ifb (eqb n 9) (opt (g i)) (ifb (eqb n 10) (last (g i)) (G._/_ (g i) (g j)))
 
 -- no part holds others more than 40 deep
 abbrev decode : ℕ → ℕ → Prog

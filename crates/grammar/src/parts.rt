@@ -20,6 +20,11 @@ ghost use Rattle.reader.specs.Did.{Wf, Did};
 ghost use Rattle.grammar.specs.Rows.{size};
 ghost use Rattle.grammar.specs.Table.{rowOf, partOf, labelOf, prog, production, reads, Line, Cached, Bit};
 
+// `opt`, and the last alternative of several.
+const OPTIONAL: u32 = 9;
+
+const LAST: u32 = 10;
+
 // A combinator of the module with its operands: sets and names by number, a production by its kind and the row of its line, parts by
 // their rows.
 pub enum Part {
@@ -32,9 +37,8 @@ pub enum Part {
     Then(usize),
     When(usize, usize),
     Many(usize),
-    Opt(usize),
-    Last(usize),
-    Alt(usize, usize),
+    // Alternatives by how they go on where the first fails: not at all, by failing, or with others.
+    Try(u32, usize, usize),
 }
 
 fn row_at(i: usize) -> u32
@@ -64,9 +68,7 @@ fn part_at(i: usize) -> Part
         6 => Part::Then(first),
         7 => Part::When(first, second),
         8 => Part::Many(first),
-        9 => Part::Opt(first),
-        10 => Part::Last(first),
-        _ => Part::Alt(first, second),
+        _ => Part::Try(n, first, second),
     }
 }
 
@@ -147,8 +149,6 @@ fn exec(
                 );
             }
             Part::Many(p) => return many(p, s, d, src, ids, ends, events, errors, scratch),
-            Part::Opt(p) => return opt(p, s, d, src, ids, ends, events, errors, scratch),
-            Part::Last(p) => return last(p, s, d, src, ids, ends, events, errors, scratch),
             Part::Seq(p, q) => {
                 s = exec(p, s, d, optional, src, ids, ends, events, errors, scratch);
                 i = q;
@@ -167,7 +167,7 @@ fn exec(
                 s = s.trivia(ids, ends, events);
                 i = p;
             }
-            Part::Alt(p, q) => {
+            Part::Try(how, p, q) => {
                 if s.mode != 0 {
                     return s;
                 }
@@ -176,6 +176,12 @@ fn exec(
                 s = exec(p, s, d, true, src, ids, ends, events, errors, scratch);
                 if s.mode != 1 {
                     return s;
+                }
+                if how == OPTIONAL {
+                    return s.retry(m);
+                }
+                if how == LAST {
+                    return s.rewind(m);
                 }
                 s = s.retry(m);
                 i = q;
@@ -293,60 +299,6 @@ fn many(
             return s.undone(m);
         }
         n -= 1;
-    }
-    s
-}
-
-// `opt`: where it fails, back to the mark in good order.
-fn opt(
-    p: usize,
-    mut s: State,
-    d: usize,
-    src: &[u8],
-    ids: &[u32],
-    ends: &[u32],
-    events: &mut [u32],
-    errors: &mut [u32],
-    scratch: &mut [u64],
-) -> State
-    requires { ⌜ Rows (source (now src) (now ids) (now ends)) × Wf (source (now src) (now ids) (now ends)) (bufs (now events) (now errors) (now scratch)) s × (p < size) ⌝ }
-    ensures { λ r. ⌜ Did (reads d true (G.opt (prog p))) (source (now (src .entry)) (now (ids .entry)) (now (ends .entry))) s r (bufs (now (events .entry)) (now (errors .entry)) (now (scratch .entry))) (bufs (now (events .exit)) (now (errors .exit)) (now (scratch .exit))) ⌝ }
-{
-    if s.mode != 0 {
-        return s;
-    }
-    let m = s.mark();
-    s = s.trivia(ids, ends, events);
-    s = exec(p, s, d, true, src, ids, ends, events, errors, scratch);
-    if s.mode == 1 {
-        return s.retry(m);
-    }
-    s
-}
-
-// The last alternative: where it fails, back to the mark.
-fn last(
-    p: usize,
-    mut s: State,
-    d: usize,
-    src: &[u8],
-    ids: &[u32],
-    ends: &[u32],
-    events: &mut [u32],
-    errors: &mut [u32],
-    scratch: &mut [u64],
-) -> State
-    requires { ⌜ Rows (source (now src) (now ids) (now ends)) × Wf (source (now src) (now ids) (now ends)) (bufs (now events) (now errors) (now scratch)) s × (p < size) ⌝ }
-    ensures { λ r. ⌜ Did (reads d true (G.last (prog p))) (source (now (src .entry)) (now (ids .entry)) (now (ends .entry))) s r (bufs (now (events .entry)) (now (errors .entry)) (now (scratch .entry))) (bufs (now (events .exit)) (now (errors .exit)) (now (scratch .exit))) ⌝ }
-{
-    if s.mode != 0 {
-        return s;
-    }
-    let m = s.mark();
-    s = s.trivia(ids, ends, events);
-    s = exec(p, s, d, true, src, ids, ends, events, errors, scratch);
-    if s.mode == 1 {
-        return s.rewind(m);
     }
     s
 }

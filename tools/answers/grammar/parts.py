@@ -10,20 +10,20 @@ use Rattle.reader.specs.Means.{source}
 use Rattle.reader.proofs.Lists.{not-yes, not-no}
 use Rattle.reader.proofs.Sticky.{sticky-exec}
 use Rattle.grammar.specs.Table.{prog, production, reads}
-use Rattle.grammar.proofs.Cycle.{from, here, plus, plusE, plusB, plusP, asksE, asksB, asksP, asksX, stops, tries, tried, again, tried-last, lost-back, lost-on, waived-back, waived-on, waives, Turns, turns, turns-more, turns-undone, turns-over, begun, closing, made, none-made}
+use Rattle.grammar.proofs.Cycle.{from, here, plus, plusE, plusB, plusP, asksE, asksB, asksP, asksX, stops, Turns, turns, turns-more, turns-undone, turns-over, begun, closing, made, none-made}
 use Rattle.grammar.proofs.Known.{bit-in, bit-in-still, found-bit, known-idle, known-hit, known-through, known-failed}
-use Rattle.grammar.proofs.Lines.{is-row, is-line, is-eat, proper, node-line, memo-line, row-sound, Going, going, goes-on, seq-goes, then-stops, then-goes, when-passes, when-goes, alt-stops, alt-tries}
+use Rattle.grammar.proofs.Lines.{is-row, is-line, is-eat, proper, node-line, memo-line, row-sound, Going, going, goes-on, seq-goes, then-stops, then-goes, when-passes, when-goes, try-stops, try-on, try-opt, try-last, others, try-others}
 '''
 S, D, O = "({args} .src .now)", "({args} .d)", "({args} .optional)"
 ROWS, WF = "({pre} .1 .0)", "({pre} .1 .1)"
 FROM = f"(from (source ({{args}} .src .now) ({{args}} .ids .now) ({{args}} .ends .now)) ({{args}} .s) ({{args}} .events .now) ({{args}} .errors .now) ({{args}} .scratch .now) {WF})"
 PART = "(prog ({args} .p))"
 # where a callee has the events among its parameters; errors and scratch follow, where it has them
-EVENTS = {"trivia": 3, "eat": 5, "begin": 4, "end": 8, "recover": 7, "exec": 7, "node": 8, "cached": 8, "many": 6, "opt": 6, "last": 6}
+EVENTS = {"trivia": 3, "eat": 5, "begin": 4, "end": 8, "recover": 7, "exec": 7, "node": 8, "cached": 8, "many": 6}
 LISTS = {"trivia": 1, "eat": 1, "begin": 1, "end": 2, "recover": 2}
 # what each function's measure adds to 4,096 times the depth that is left
-DEPTH = {"exec": 2, "many": 2, "opt": 2, "last": 2, "node": 3, "cached": 3}
-LEVEL = {"exec": "8 * a .0 + 2", "many": "8 * a .0 + 3", "opt": "8 * a .0 + 3", "last": "8 * a .0 + 3", "node": "0", "cached": "1"}
+DEPTH = {"exec": 2, "many": 2, "node": 3, "cached": 3}
+LEVEL = {"exec": "8 * a .0 + 2", "many": "8 * a .0 + 3", "node": "0", "cached": "1"}
 MEASURES = {f"μ-{f}": f"4096 * a{' .1' * DEPTH[f]} .0 + {LEVEL[f]}" for f in DEPTH}
 LOOPS = {
     "exec-Inv-loop": "Going d optional (source src ids ends) i₀ s₀ events₀ errors₀ scratch₀ i s events errors scratch",
@@ -54,19 +54,6 @@ PAST = f"(plusE (here {FROM}) ({{trivia}} .ensures {S}))"
 READ = f"(plus {PAST} ({{exec}} .ensures))"
 STARTS = {"trivia-requires": f"asksE {FROM} {ROWS}", "exec-requires": falls(PAST, INSIDE)}
 
-
-def marked(prog, one, other):
-    """A part from a mark on: what is said where it failed, and where it did not."""
-    return {
-        "returns": f"stops {FROM} {D} true ({prog} {PART}) tt ({{if1}} .taken)",
-        **STARTS, **lengths(["exec", "trivia"]), "returns-2": one, **lengths(["exec", "trivia"], 4), "returns-3": other,
-    }
-
-
-WAIVES = f"waives {D} true {PART} {FROM} ({{if1}} .left) ({{mark}} .ensures) {READ}"
-OPT = marked("G.opt", f"{WAIVES} ({{retry}} .ensures ∙ waived-back _ _ ({{if2}} .taken))", f"{WAIVES} (waived-on _ _ ({{if2}} .left))")
-LASTLY = f"tried-last (tries {D} true (G.last {PART}) {FROM} ({{if1}} .left) ({{mark}} .ensures)) {READ}"
-LAST = marked("G.last", f"{LASTLY} ({{rewind}} .ensures ∙ lost-back _ _ ({{if2}} .taken))", f"{LASTLY} (lost-on _ _ ({{if2}} .left))")
 
 INV = "({loop} .inv)"
 ROUND = f"(plus (plusE ({INV} .here) ({{trivia}} .ensures {S})) ({{exec}} .ensures))"
@@ -157,9 +144,9 @@ def trivia(k):
 
 
 FIRST = f"(plus {HERE} ({{exec}} .ensures))"
-TRIES = f"(alt-tries {AT} {row('p6')} ({{if3}} .left) ({{mark}} .ensures))"
-TRIED = f"(plus (plusE ({TRIES} .here) {trivia(3)}) ({{exec2}} .ensures))"
-AGAIN = f"(again {TRIES} {TRIED} ({{if4}} .left) ({{retry}} .ensures))"
+TRIED = f"(plus (plusE {HERE} {trivia(3)}) ({{exec2}} .ensures))"
+TRY = f"{AT} {row('how')}"
+CAME = f"{TRY} ({{if3}} .left) ({{mark}} .ensures) {TRIED}"
 EXEC = {
     "loop-holds": f"going {D} {O} ({{args}} .i) ({{args}} .events .now) ({{args}} .errors .now) ({{args}} .scratch .now) {WF} ({{pre}} .1 .2)",
     "part-at-requires": IN,
@@ -174,26 +161,28 @@ EXEC = {
     **returns(4, ["node"], read("kind", "{node} .ensures")),
     "cached-requires": below(f"{INV} .wf, memo-line {I} {IN} {row('kind2')}, {sound('kind2')} .0"),
     **returns(5, ["cached"], read("kind2", "{cached} .ensures")),
-    "exec-requires": below(f"{INV} .wf, omega (arith, {sound('p4')} .0, {IN})", f"{sound('p4')} .0"),
-    "loop-less": f"{sound('p4')} .1",
-    "loop-again": on(FIRST, f"{sound('p4')} .1", f"seq-goes {AT} {row('p4')} ({{exec}} .ensures) y", ["exec"]),
-    **returns(9, [], f"{INV} .go (then-stops {AT} {row('p5')} ({{if1}} .taken))"),
+    "exec-requires": below(f"{INV} .wf, omega (arith, {sound('p2')} .0, {IN})", f"{sound('p2')} .0"),
+    "loop-less": f"{sound('p2')} .1",
+    "loop-again": on(FIRST, f"{sound('p2')} .1", f"seq-goes {AT} {row('p2')} ({{exec}} .ensures) y", ["exec"]),
+    **returns(7, [], f"{INV} .go (then-stops {AT} {row('p3')} ({{if1}} .taken))"),
     "trivia-requires": f"asksE {HERE} {ROWS}",
-    "loop-less-2": sound("p5"),
-    "loop-again-2": on(f"(plusE {HERE} {trivia('')})", sound("p5"), f"then-goes {AT} {row('p5')} ({{if1}} .left) {trivia('')} y", ["trivia"]),
+    "loop-less-2": sound("p3"),
+    "loop-again-2": on(f"(plusE {HERE} {trivia('')})", sound("p3"), f"then-goes {AT} {row('p3')} ({{if1}} .left) {trivia('')} y", ["trivia"]),
     "sees-requires": f"{HERE} .wf .0",
     "pass-requires": f"asksP {HERE} {ROWS}",
-    **returns(10, [], f"{INV} .go (when-passes {AT} {row('set4')} ({{sees}} .ensures) (not-yes _ ({{if2}} .taken)) ({{pass}} .ensures {S} ({{args}} .ends .now)))"),
+    **returns(8, [], f"{INV} .go (when-passes {AT} {row('set4')} ({{sees}} .ensures) (not-yes _ ({{if2}} .taken)) ({{pass}} .ensures {S} ({{args}} .ends .now)))"),
     "trivia-requires-2": f"asksE {HERE} {ROWS}",
     "loop-less-3": sound("set4"),
     "loop-again-3": on(f"(plusE {HERE} {trivia(2)})", sound("set4"), f"when-goes {AT} {row('set4')} ({{sees}} .ensures) (not-no _ ({{if2}} .left)) {trivia(2)} y", ["trivia2"]),
-    **returns(11, [], f"{INV} .go (alt-stops {AT} {row('p6')} ({{if3}} .taken))"),
+    **returns(9, [], f"{INV} .go (try-stops {TRY} ({{if3}} .taken))"),
     "trivia-requires-3": f"asksE {HERE} {ROWS}",
-    "exec-requires-2": below(f"(plusE {HERE} {trivia(3)}) .wf, omega (arith, {sound('p6')}, {IN})", sound("p6")),
-    **returns(12, ["exec2", "trivia3"], f"{INV} .go (tried {TRIES} {TRIED} ({{if4}} .taken))"),
-    "loop-less-4": f"{sound('p6')} .1",
-    "loop-again-4": on(f"({AGAIN} .here)", f"{sound('p6')} .1", f"{AGAIN} .go y", ["exec2", "trivia3"]),
+    "exec-requires-2": below(f"(plusE {HERE} {trivia(3)}) .wf, omega (arith, {sound('how')} .0, {IN})", f"{sound('how')} .0"),
+    **returns(10, ["exec2", "trivia3"], f"{INV} .go (try-on {CAME} ({{if4}} .taken))"),
+    **returns(11, ["exec2", "trivia3"], f"{INV} .go (try-opt {CAME} ({{if4}} .left) ({{if5}} .taken) ({{retry}} .ensures))"),
+    **returns(12, ["exec2", "trivia3"], f"{INV} .go (try-last {CAME} ({{if4}} .left) ({{if5}} .left) ({{if6}} .taken) ({{rewind}} .ensures))"),
+    "loop-less-4": f"{sound('how')} .1",
+    "loop-again-4": on(f"(others {CAME} ({{if4}} .left) ({{retry2}} .ensures) .here)", f"{sound('how')} .1", f"try-others {CAME} ({{if5}} .left) ({{if6}} .left) ({{if4}} .left) ({{retry2}} .ensures) y", ["exec2", "trivia3"]),
 }
-for k, (callee, place) in enumerate([("many", "p"), ("opt", "p2"), ("last", "p3")]):
+for k, (callee, place) in enumerate([("many", "p")]):
     EXEC.update({f"{callee}-requires": below(f"{INV} .wf, omega (arith, {sound(place)}, {IN})", sound(place)), **returns(6 + k, [callee], read(place, f"{{{callee}}} .ensures"))})
-ANSWERS = {"opt": OPT, "last": LAST, "many": MANY, "node": NODE, "cached": CACHED, "exec": EXEC}
+ANSWERS = {"many": MANY, "node": NODE, "cached": CACHED, "exec": EXEC}

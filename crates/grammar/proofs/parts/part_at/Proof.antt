@@ -45,13 +45,7 @@ returns-9 : tie.Need-returns-9
 returns-9 c = row-of _ (c .before .row-at .ensures) 8 (c .match .keys9)
 
 returns-10 : tie.Need-returns-10
-returns-10 c = row-of _ (c .before .row-at .ensures) 9 (c .match .keys10)
-
-returns-11 : tie.Need-returns-11
-returns-11 c = row-of _ (c .before .row-at .ensures) 10 (c .match .keys11)
-
-returns-12 : tie.Need-returns-12
-returns-12 c = row-else _ (c .before .row-at .ensures) (past 10 (past 9 (past 8 (past 7 (past 6 (past 5 (past 4 (past 3 (past 2 (past 1 (past 0 (omega arith) (c .match .rest .0 .0 .0 .0 .0 .0 .0 .0 .0 .0 .1)) (c .match .rest .0 .0 .0 .0 .0 .0 .0 .0 .0 .1)) (c .match .rest .0 .0 .0 .0 .0 .0 .0 .0 .1)) (c .match .rest .0 .0 .0 .0 .0 .0 .0 .1)) (c .match .rest .0 .0 .0 .0 .0 .0 .1)) (c .match .rest .0 .0 .0 .0 .0 .1)) (c .match .rest .0 .0 .0 .0 .1)) (c .match .rest .0 .0 .0 .1)) (c .match .rest .0 .0 .1)) (c .match .rest .0 .1)) (c .match .rest .1))
+returns-10 c = row-else _ (c .before .row-at .ensures) (past 8 (past 7 (past 6 (past 5 (past 4 (past 3 (past 2 (past 1 (past 0 (omega arith) (c .match .rest .0 .0 .0 .0 .0 .0 .0 .0 .1)) (c .match .rest .0 .0 .0 .0 .0 .0 .0 .1)) (c .match .rest .0 .0 .0 .0 .0 .0 .1)) (c .match .rest .0 .0 .0 .0 .0 .1)) (c .match .rest .0 .0 .0 .0 .1)) (c .match .rest .0 .0 .0 .1)) (c .match .rest .0 .0 .1)) (c .match .rest .0 .1)) (c .match .rest .1))
 
 pub part-at-spec : {M : Type 1} → statement M
 part-at-spec =
@@ -69,6 +63,4 @@ part-at-spec =
     returns-7
     returns-8
     returns-9
-    returns-10
-    returns-11
-    returns-12)
+    returns-10)

@@ -9,30 +9,24 @@ use Rattle.reader.specs.Means.{source}
 use Rattle.reader.proofs.Lists.{not-yes, not-no}
 use Rattle.reader.proofs.Sticky.{sticky-exec}
 use Rattle.grammar.specs.Table.{prog, production, reads}
-use Rattle.grammar.proofs.Cycle.{from, here, plus, plusE, plusB, plusP, asksE, asksB, asksP, asksX, stops, tries, tried, again, tried-last, lost-back, lost-on, waived-back, waived-on, waives, Turns, turns, turns-more, turns-undone, turns-over, begun, closing, made, none-made}
+use Rattle.grammar.proofs.Cycle.{from, here, plus, plusE, plusB, plusP, asksE, asksB, asksP, asksX, stops, Turns, turns, turns-more, turns-undone, turns-over, begun, closing, made, none-made}
 use Rattle.grammar.proofs.Known.{bit-in, bit-in-still, found-bit, known-idle, known-hit, known-through, known-failed}
-use Rattle.grammar.proofs.Lines.{is-row, is-line, is-eat, proper, node-line, memo-line, row-sound, Going, going, goes-on, seq-goes, then-stops, then-goes, when-passes, when-goes, alt-stops, alt-tries}
+use Rattle.grammar.proofs.Lines.{is-row, is-line, is-eat, proper, node-line, memo-line, row-sound, Going, going, goes-on, seq-goes, then-stops, then-goes, when-passes, when-goes, try-stops, try-on, try-opt, try-last, others, try-others}
 use Prim.Native.Nat.{ℕ, _<_}
 use borrow.Fn.Kinds.{In}
 use borrow.Fn.PlainCycle.{Measures, is, falls, and}
 use Rattle.grammar.proofs.parts.cached.Reads as cached
 use Rattle.grammar.proofs.parts.cached.Kinds as cached-kinds
-use Rattle.grammar.proofs.parts.+cached+exec+last+many+node+opt.Lts-cached as cached-lts
+use Rattle.grammar.proofs.parts.+cached+exec+many+node.Lts-cached as cached-lts
 use Rattle.grammar.proofs.parts.exec.Reads as exec
 use Rattle.grammar.proofs.parts.exec.Kinds as exec-kinds
-use Rattle.grammar.proofs.parts.+cached+exec+last+many+node+opt.Lts-exec as exec-lts
-use Rattle.grammar.proofs.parts.last.Reads as last
-use Rattle.grammar.proofs.parts.last.Kinds as last-kinds
-use Rattle.grammar.proofs.parts.+cached+exec+last+many+node+opt.Lts-last as last-lts
+use Rattle.grammar.proofs.parts.+cached+exec+many+node.Lts-exec as exec-lts
 use Rattle.grammar.proofs.parts.many.Reads as many
 use Rattle.grammar.proofs.parts.many.Kinds as many-kinds
-use Rattle.grammar.proofs.parts.+cached+exec+last+many+node+opt.Lts-many as many-lts
+use Rattle.grammar.proofs.parts.+cached+exec+many+node.Lts-many as many-lts
 use Rattle.grammar.proofs.parts.node.Reads as node
 use Rattle.grammar.proofs.parts.node.Kinds as node-kinds
-use Rattle.grammar.proofs.parts.+cached+exec+last+many+node+opt.Lts-node as node-lts
-use Rattle.grammar.proofs.parts.opt.Reads as opt
-use Rattle.grammar.proofs.parts.opt.Kinds as opt-kinds
-use Rattle.grammar.proofs.parts.+cached+exec+last+many+node+opt.Lts-opt as opt-lts
+use Rattle.grammar.proofs.parts.+cached+exec+many+node.Lts-node as node-lts
 use Rattle.grammar.proofs.parts.bit_of.Reads as bit-of-reads
 use Rattle.grammar.proofs.parts.label.Reads as label-reads
 use Rattle.grammar.proofs.parts.part_at.Reads as part-at-reads
@@ -50,8 +44,8 @@ use Rattle.reader.proofs.state.State.sees.Reads as sees-reads
 use Rattle.reader.proofs.state.State.trivia.Reads as trivia-reads
 use Rattle.reader.proofs.state.State.undone.Reads as undone-reads
 use Rattle.reader.proofs.state.State.unless.Reads as unless-reads
-use Rattle.grammar.proofs.parts.+cached+exec+last+many+node+opt.{statement}
-use Rattle.grammar.proofs.parts.+cached+exec+last+many+node+opt.Tie.{close}
+use Rattle.grammar.proofs.parts.+cached+exec+many+node.{statement}
+use Rattle.grammar.proofs.parts.+cached+exec+many+node.Tie.{close}
 
 abbrev μ-cached : Measures 6 cached-kinds.ps ℕ
 μ-cached κs a = 4096 * a .1 .1 .1 .0 + 1
@@ -59,17 +53,11 @@ abbrev μ-cached : Measures 6 cached-kinds.ps ℕ
 abbrev μ-exec : Measures 6 exec-kinds.ps ℕ
 μ-exec κs a = 4096 * a .1 .1 .0 + 8 * a .0 + 2
 
-abbrev μ-last : Measures 6 last-kinds.ps ℕ
-μ-last κs a = 4096 * a .1 .1 .0 + 8 * a .0 + 3
-
 abbrev μ-many : Measures 6 many-kinds.ps ℕ
 μ-many κs a = 4096 * a .1 .1 .0 + 8 * a .0 + 3
 
 abbrev μ-node : Measures 6 node-kinds.ps ℕ
 μ-node κs a = 4096 * a .1 .1 .1 .0 + 0
-
-abbrev μ-opt : Measures 6 opt-kinds.ps ℕ
-μ-opt κs a = 4096 * a .1 .1 .0 + 8 * a .0 + 3
 
 abbrev cached-at : ℕ → In 6 cached-kinds.ps
 cached-at t = and 6 cached-kinds.ps (is 6 cached-kinds.ps μ-cached t) cached.Pre
@@ -83,12 +71,6 @@ exec-at t = and 6 exec-kinds.ps (is 6 exec-kinds.ps μ-exec t) exec.Pre
 abbrev exec-below : ℕ → In 6 exec-kinds.ps
 exec-below t = and 6 exec-kinds.ps (falls 6 exec-kinds.ps _<_ μ-exec t) exec.Pre
 
-abbrev last-at : ℕ → In 6 last-kinds.ps
-last-at t = and 6 last-kinds.ps (is 6 last-kinds.ps μ-last t) last.Pre
-
-abbrev last-below : ℕ → In 6 last-kinds.ps
-last-below t = and 6 last-kinds.ps (falls 6 last-kinds.ps _<_ μ-last t) last.Pre
-
 abbrev many-at : ℕ → In 6 many-kinds.ps
 many-at t = and 6 many-kinds.ps (is 6 many-kinds.ps μ-many t) many.Pre
 
@@ -100,12 +82,6 @@ node-at t = and 6 node-kinds.ps (is 6 node-kinds.ps μ-node t) node.Pre
 
 abbrev node-below : ℕ → In 6 node-kinds.ps
 node-below t = and 6 node-kinds.ps (falls 6 node-kinds.ps _<_ μ-node t) node.Pre
-
-abbrev opt-at : ℕ → In 6 opt-kinds.ps
-opt-at t = and 6 opt-kinds.ps (is 6 opt-kinds.ps μ-opt t) opt.Pre
-
-abbrev opt-below : ℕ → In 6 opt-kinds.ps
-opt-below t = and 6 opt-kinds.ps (falls 6 opt-kinds.ps _<_ μ-opt t) opt.Pre
 
 abbrev cached-cs : ℕ → cached-lts.Claims
 cached-cs t = (bit-of-reads.Asked, bit-of-reads.Learnt, seen-reads.Asked, seen-reads.Learnt, node-below t, node.Post, remembers-reads.Asked, remembers-reads.Learnt)
@@ -162,7 +138,7 @@ abbrev exec-μ-loop : exec-lts.MeasureT-loop
 exec-μ-loop i₀ s₀ d optional src ids ends events₀ errors₀ scratch₀ i s events errors scratch = i
 
 abbrev exec-cs : ℕ → exec-lts.Claims
-exec-cs t = (part-at-reads.Asked, part-at-reads.Learnt, label-reads.Asked, label-reads.Learnt, eat-reads.Asked, eat-reads.Learnt, unless-reads.Asked, unless-reads.Learnt, recover-reads.Asked, recover-reads.Learnt, node-below t, node.Post, cached-below t, cached.Post, many-below t, many.Post, opt-below t, opt.Post, last-below t, last.Post, exec-below t, exec.Post, trivia-reads.Asked, trivia-reads.Learnt, sees-reads.Asked, sees-reads.Learnt, pass-reads.Asked, pass-reads.Learnt, mark-reads.Asked, mark-reads.Learnt, retry-reads.Asked, retry-reads.Learnt)
+exec-cs t = (part-at-reads.Asked, part-at-reads.Learnt, label-reads.Asked, label-reads.Learnt, eat-reads.Asked, eat-reads.Learnt, unless-reads.Asked, unless-reads.Learnt, recover-reads.Asked, recover-reads.Learnt, node-below t, node.Post, cached-below t, cached.Post, many-below t, many.Post, exec-below t, exec.Post, trivia-reads.Asked, trivia-reads.Learnt, sees-reads.Asked, sees-reads.Learnt, pass-reads.Asked, pass-reads.Learnt, mark-reads.Asked, mark-reads.Learnt, retry-reads.Asked, retry-reads.Learnt, rewind-reads.Asked, rewind-reads.Learnt)
 
 exec-loop-holds : (t : ℕ) → exec-lts.Need-loop-holds (exec-cs t) (exec-at t) exec.Post exec-Inv-loop exec-μ-loop
 exec-loop-holds t c = going (c .before .before .before .before .before .before .args .d) (c .before .before .before .before .before .before .args .optional) (c .before .before .before .before .before .before .args .i) (c .before .before .before .before .before .before .args .events .now) (c .before .before .before .before .before .before .args .errors .now) (c .before .before .before .before .before .before .args .scratch .now) (c .before .before .before .before .before .before .pre .1 .1) (c .before .before .before .before .before .before .pre .1 .2)
@@ -284,53 +260,71 @@ exec-returns-6 t c = (c .before .before .before .before .before .before .before 
 exec-enum-known-p-2 : (t : ℕ) → exec-lts.Need-enum-known-p-2 (exec-cs t) (exec-at t) exec.Post exec-Inv-loop exec-μ-loop
 exec-enum-known-p-2 t c = search needs
 
-exec-opt-requires : (t : ℕ) → exec-lts.Need-opt-requires (exec-cs t) (exec-at t) exec.Post exec-Inv-loop exec-μ-loop
-exec-opt-requires t c κs = (omega (arith, c .before .before .before .before .before .before .before .before .before .before .before .before .before .before .pre .0, (c .before .before .before .before .before .before .before .loop .inv) .below, row-sound (c .before .before .before .before .before .before .before .loop .i) (c .before .before .before .before .before .before .before .loop .inv .inside) (sym (c .before .before .before .before .p2 .given .1) ∙ c .before .before .before .before .before .before .part-at .ensures)), ((c .before .before .before .before .before .before .before .before .before .before .before .before .before .before .pre .1 .0), (c .before .before .before .before .before .before .before .loop .inv) .wf, omega (arith, row-sound (c .before .before .before .before .before .before .before .loop .i) (c .before .before .before .before .before .before .before .loop .inv .inside) (sym (c .before .before .before .before .p2 .given .1) ∙ c .before .before .before .before .before .before .part-at .ensures), (c .before .before .before .before .before .before .before .loop .inv .inside))))
+exec-exec-requires : (t : ℕ) → exec-lts.Need-exec-requires (exec-cs t) (exec-at t) exec.Post exec-Inv-loop exec-μ-loop
+exec-exec-requires t c κs = (omega (arith, c .before .before .before .before .before .before .before .before .before .before .before .before .before .before .pre .0, (c .before .before .before .before .before .before .before .loop .inv) .below, row-sound (c .before .before .before .before .before .before .before .loop .i) (c .before .before .before .before .before .before .before .loop .inv .inside) (sym (c .before .before .before .before .p2 .given .1) ∙ c .before .before .before .before .before .before .part-at .ensures) .0), ((c .before .before .before .before .before .before .before .before .before .before .before .before .before .before .pre .1 .0), (c .before .before .before .before .before .before .before .loop .inv) .wf, omega (arith, row-sound (c .before .before .before .before .before .before .before .loop .i) (c .before .before .before .before .before .before .before .loop .inv .inside) (sym (c .before .before .before .before .p2 .given .1) ∙ c .before .before .before .before .before .before .part-at .ensures) .0, (c .before .before .before .before .before .before .before .loop .inv .inside))))
 
-exec-same-length-19 : (t : ℕ) → exec-lts.Need-same-length-19 (exec-cs t) (exec-at t) exec.Post exec-Inv-loop exec-μ-loop
-exec-same-length-19 t c = c .before .before .before .before .before .before .opt .kept .1 .1 .1 .1 .1 .1 .0 ∙ (c .before .before .before .before .before .before .before .before .before .before .before .before .before .before .loop .inv) .events
+exec-loop-less : (t : ℕ) → exec-lts.Need-loop-less (exec-cs t) (exec-at t) exec.Post exec-Inv-loop exec-μ-loop
+exec-loop-less t c = row-sound (c .before .before .before .before .before .before .before .before .before .before .before .before .before .before .loop .i) (c .before .before .before .before .before .before .before .before .before .before .before .before .before .before .loop .inv .inside) (sym (c .before .before .before .before .before .before .before .before .before .before .before .p2 .given .1) ∙ c .before .before .before .before .before .before .before .before .before .before .before .before .before .part-at .ensures) .1
 
-exec-same-length-20 : (t : ℕ) → exec-lts.Need-same-length-20 (exec-cs t) (exec-at t) exec.Post exec-Inv-loop exec-μ-loop
-exec-same-length-20 t c = c .before .before .before .before .before .before .opt .kept .1 .1 .1 .1 .1 .1 .1 .0 ∙ (c .before .before .before .before .before .before .before .before .before .before .before .before .before .before .loop .inv) .errors
-
-exec-same-length-21 : (t : ℕ) → exec-lts.Need-same-length-21 (exec-cs t) (exec-at t) exec.Post exec-Inv-loop exec-μ-loop
-exec-same-length-21 t c = c .before .before .before .before .before .before .opt .kept .1 .1 .1 .1 .1 .1 .1 .1 .0 ∙ (c .before .before .before .before .before .before .before .before .before .before .before .before .before .before .loop .inv) .scratch
-
-exec-returns-7 : (t : ℕ) → exec-lts.Need-returns-7 (exec-cs t) (exec-at t) exec.Post exec-Inv-loop exec-μ-loop
-exec-returns-7 t c = (c .before .before .before .before .before .before .before .before .before .before .before .before .before .before .loop .inv) .go (is-row (c .before .before .before .before .before .before .before .before .before .before .before .before .before .before .before .before .before .before .before .before .before .args .d) (c .before .before .before .before .before .before .before .before .before .before .before .before .before .before .before .before .before .before .before .before .before .args .optional) (c .before .before .before .before .before .before .before .before .before .before .before .before .before .before .loop .i) (c .before .before .before .before .before .before .before .before .before .before .before .before .before .before .loop .inv .inside) (sym (c .before .before .before .before .before .before .before .before .before .before .before .p2 .given .1) ∙ c .before .before .before .before .before .before .before .before .before .before .before .before .before .part-at .ensures) (c .before .before .before .before .before .before .opt .ensures))
+exec-loop-again : (t : ℕ) → exec-lts.Need-loop-again (exec-cs t) (exec-at t) exec.Post exec-Inv-loop exec-μ-loop
+exec-loop-again t c = goes-on (c .before .before .before .before .before .before .before .before .before .before .before .before .before .before .loop .inv) ((plus (from (source (c .before .before .before .before .before .before .before .before .before .before .before .before .before .before .before .before .before .before .before .before .before .args .src .now) (c .before .before .before .before .before .before .before .before .before .before .before .before .before .before .before .before .before .before .before .before .before .args .ids .now) (c .before .before .before .before .before .before .before .before .before .before .before .before .before .before .before .before .before .before .before .before .before .args .ends .now)) (c .before .before .before .before .before .before .before .before .before .before .before .before .before .before .loop .s) (c .before .before .before .before .before .before .before .before .before .before .before .before .before .before .loop .events) (c .before .before .before .before .before .before .before .before .before .before .before .before .before .before .loop .errors) (c .before .before .before .before .before .before .before .before .before .before .before .before .before .before .loop .scratch) (c .before .before .before .before .before .before .before .before .before .before .before .before .before .before .loop .inv .wf)) (c .before .before .before .before .before .before .exec .ensures)) .wf) (row-sound (c .before .before .before .before .before .before .before .before .before .before .before .before .before .before .loop .i) (c .before .before .before .before .before .before .before .before .before .before .before .before .before .before .loop .inv .inside) (sym (c .before .before .before .before .before .before .before .before .before .before .before .p2 .given .1) ∙ c .before .before .before .before .before .before .before .before .before .before .before .before .before .part-at .ensures) .1) (λ z b y. seq-goes (c .before .before .before .before .before .before .before .before .before .before .before .before .before .before .before .before .before .before .before .before .before .args .d) (c .before .before .before .before .before .before .before .before .before .before .before .before .before .before .before .before .before .before .before .before .before .args .optional) (c .before .before .before .before .before .before .before .before .before .before .before .before .before .before .loop .i) (c .before .before .before .before .before .before .before .before .before .before .before .before .before .before .loop .inv .inside) (c .before .before .before .before .before .before .before .before .before .before .before .before .before .before .loop .events) (c .before .before .before .before .before .before .before .before .before .before .before .before .before .before .loop .errors) (c .before .before .before .before .before .before .before .before .before .before .before .before .before .before .loop .scratch) (c .before .before .before .before .before .before .before .before .before .before .before .before .before .before .loop .inv .wf) (sym (c .before .before .before .before .before .before .before .before .before .before .before .p2 .given .1) ∙ c .before .before .before .before .before .before .before .before .before .before .before .before .before .part-at .ensures) (c .before .before .before .before .before .before .exec .ensures) y) (c .before .before .before .before .before .before .exec .kept .1 .1 .1 .1 .1 .1 .1 .0) (c .before .before .before .before .before .before .exec .kept .1 .1 .1 .1 .1 .1 .1 .1 .0) (c .before .before .before .before .before .before .exec .kept .1 .1 .1 .1 .1 .1 .1 .1 .1 .0)
 
 exec-enum-known-p-3 : (t : ℕ) → exec-lts.Need-enum-known-p-3 (exec-cs t) (exec-at t) exec.Post exec-Inv-loop exec-μ-loop
 exec-enum-known-p-3 t c = search needs
 
-exec-last-requires : (t : ℕ) → exec-lts.Need-last-requires (exec-cs t) (exec-at t) exec.Post exec-Inv-loop exec-μ-loop
-exec-last-requires t c κs = (omega (arith, c .before .before .before .before .before .before .before .before .before .before .before .before .before .before .pre .0, (c .before .before .before .before .before .before .before .loop .inv) .below, row-sound (c .before .before .before .before .before .before .before .loop .i) (c .before .before .before .before .before .before .before .loop .inv .inside) (sym (c .before .before .before .before .p3 .given .1) ∙ c .before .before .before .before .before .before .part-at .ensures)), ((c .before .before .before .before .before .before .before .before .before .before .before .before .before .before .pre .1 .0), (c .before .before .before .before .before .before .before .loop .inv) .wf, omega (arith, row-sound (c .before .before .before .before .before .before .before .loop .i) (c .before .before .before .before .before .before .before .loop .inv .inside) (sym (c .before .before .before .before .p3 .given .1) ∙ c .before .before .before .before .before .before .part-at .ensures), (c .before .before .before .before .before .before .before .loop .inv .inside))))
+exec-same-length-19 : (t : ℕ) → exec-lts.Need-same-length-19 (exec-cs t) (exec-at t) exec.Post exec-Inv-loop exec-μ-loop
+exec-same-length-19 t c = (c .before .before .before .before .before .before .loop .inv) .events
+
+exec-same-length-20 : (t : ℕ) → exec-lts.Need-same-length-20 (exec-cs t) (exec-at t) exec.Post exec-Inv-loop exec-μ-loop
+exec-same-length-20 t c = (c .before .before .before .before .before .before .loop .inv) .errors
+
+exec-same-length-21 : (t : ℕ) → exec-lts.Need-same-length-21 (exec-cs t) (exec-at t) exec.Post exec-Inv-loop exec-μ-loop
+exec-same-length-21 t c = (c .before .before .before .before .before .before .loop .inv) .scratch
+
+exec-returns-7 : (t : ℕ) → exec-lts.Need-returns-7 (exec-cs t) (exec-at t) exec.Post exec-Inv-loop exec-μ-loop
+exec-returns-7 t c = (c .before .before .before .before .before .before .loop .inv) .go (then-stops (c .before .before .before .before .before .before .before .before .before .before .before .before .before .args .d) (c .before .before .before .before .before .before .before .before .before .before .before .before .before .args .optional) (c .before .before .before .before .before .before .loop .i) (c .before .before .before .before .before .before .loop .inv .inside) (c .before .before .before .before .before .before .loop .events) (c .before .before .before .before .before .before .loop .errors) (c .before .before .before .before .before .before .loop .scratch) (c .before .before .before .before .before .before .loop .inv .wf) (sym (c .before .before .before .p3 .given .1) ∙ c .before .before .before .before .before .part-at .ensures) (c .if1 .taken))
+
+exec-trivia-requires : (t : ℕ) → exec-lts.Need-trivia-requires (exec-cs t) (exec-at t) exec.Post exec-Inv-loop exec-μ-loop
+exec-trivia-requires t c κs = asksE (from (source (c .before .before .before .before .before .before .before .before .before .before .before .before .before .before .args .src .now) (c .before .before .before .before .before .before .before .before .before .before .before .before .before .before .args .ids .now) (c .before .before .before .before .before .before .before .before .before .before .before .before .before .before .args .ends .now)) (c .before .before .before .before .before .before .before .loop .s) (c .before .before .before .before .before .before .before .loop .events) (c .before .before .before .before .before .before .before .loop .errors) (c .before .before .before .before .before .before .before .loop .scratch) (c .before .before .before .before .before .before .before .loop .inv .wf)) (c .before .before .before .before .before .before .before .before .before .before .before .before .before .before .pre .1 .0)
+
+exec-loop-less-2 : (t : ℕ) → exec-lts.Need-loop-less-2 (exec-cs t) (exec-at t) exec.Post exec-Inv-loop exec-μ-loop
+exec-loop-less-2 t c = row-sound (c .before .before .before .before .before .before .before .before .before .before .loop .i) (c .before .before .before .before .before .before .before .before .before .before .loop .inv .inside) (sym (c .before .before .before .before .before .before .before .p3 .given .1) ∙ c .before .before .before .before .before .before .before .before .before .part-at .ensures)
+
+exec-loop-again-2 : (t : ℕ) → exec-lts.Need-loop-again-2 (exec-cs t) (exec-at t) exec.Post exec-Inv-loop exec-μ-loop
+exec-loop-again-2 t c = goes-on (c .before .before .before .before .before .before .before .before .before .before .loop .inv) ((plusE (from (source (c .before .before .before .before .before .before .before .before .before .before .before .before .before .before .before .before .before .args .src .now) (c .before .before .before .before .before .before .before .before .before .before .before .before .before .before .before .before .before .args .ids .now) (c .before .before .before .before .before .before .before .before .before .before .before .before .before .before .before .before .before .args .ends .now)) (c .before .before .before .before .before .before .before .before .before .before .loop .s) (c .before .before .before .before .before .before .before .before .before .before .loop .events) (c .before .before .before .before .before .before .before .before .before .before .loop .errors) (c .before .before .before .before .before .before .before .before .before .before .loop .scratch) (c .before .before .before .before .before .before .before .before .before .before .loop .inv .wf)) (c .before .before .trivia .ensures (c .before .before .before .before .before .before .before .before .before .before .before .before .before .before .before .before .before .args .src .now))) .wf) (row-sound (c .before .before .before .before .before .before .before .before .before .before .loop .i) (c .before .before .before .before .before .before .before .before .before .before .loop .inv .inside) (sym (c .before .before .before .before .before .before .before .p3 .given .1) ∙ c .before .before .before .before .before .before .before .before .before .part-at .ensures)) (λ z b y. then-goes (c .before .before .before .before .before .before .before .before .before .before .before .before .before .before .before .before .before .args .d) (c .before .before .before .before .before .before .before .before .before .before .before .before .before .before .before .before .before .args .optional) (c .before .before .before .before .before .before .before .before .before .before .loop .i) (c .before .before .before .before .before .before .before .before .before .before .loop .inv .inside) (c .before .before .before .before .before .before .before .before .before .before .loop .events) (c .before .before .before .before .before .before .before .before .before .before .loop .errors) (c .before .before .before .before .before .before .before .before .before .before .loop .scratch) (c .before .before .before .before .before .before .before .before .before .before .loop .inv .wf) (sym (c .before .before .before .before .before .before .before .p3 .given .1) ∙ c .before .before .before .before .before .before .before .before .before .part-at .ensures) (c .before .before .before .before .if1 .left) (c .before .before .trivia .ensures (c .before .before .before .before .before .before .before .before .before .before .before .before .before .before .before .before .before .args .src .now)) y) (c .before .before .trivia .kept .1 .1 .1 .0) (refl) (refl)
+
+exec-enum-known-set-4 : (t : ℕ) → exec-lts.Need-enum-known-set-4 (exec-cs t) (exec-at t) exec.Post exec-Inv-loop exec-μ-loop
+exec-enum-known-set-4 t c = search needs
+
+exec-sees-requires : (t : ℕ) → exec-lts.Need-sees-requires (exec-cs t) (exec-at t) exec.Post exec-Inv-loop exec-μ-loop
+exec-sees-requires t c κs = (from (source (c .before .before .before .before .before .before .before .before .before .before .before .args .src .now) (c .before .before .before .before .before .before .before .before .before .before .before .args .ids .now) (c .before .before .before .before .before .before .before .before .before .before .before .args .ends .now)) (c .before .before .before .before .loop .s) (c .before .before .before .before .loop .events) (c .before .before .before .before .loop .errors) (c .before .before .before .before .loop .scratch) (c .before .before .before .before .loop .inv .wf)) .wf .0
+
+exec-pass-requires : (t : ℕ) → exec-lts.Need-pass-requires (exec-cs t) (exec-at t) exec.Post exec-Inv-loop exec-μ-loop
+exec-pass-requires t c κs = asksP (from (source (c .before .before .before .before .before .before .before .before .before .before .before .before .before .args .src .now) (c .before .before .before .before .before .before .before .before .before .before .before .before .before .args .ids .now) (c .before .before .before .before .before .before .before .before .before .before .before .before .before .args .ends .now)) (c .before .before .before .before .before .before .loop .s) (c .before .before .before .before .before .before .loop .events) (c .before .before .before .before .before .before .loop .errors) (c .before .before .before .before .before .before .loop .scratch) (c .before .before .before .before .before .before .loop .inv .wf)) (c .before .before .before .before .before .before .before .before .before .before .before .before .before .pre .1 .0)
 
 exec-same-length-22 : (t : ℕ) → exec-lts.Need-same-length-22 (exec-cs t) (exec-at t) exec.Post exec-Inv-loop exec-μ-loop
-exec-same-length-22 t c = c .before .before .before .before .before .before .last .kept .1 .1 .1 .1 .1 .1 .0 ∙ (c .before .before .before .before .before .before .before .before .before .before .before .before .before .before .loop .inv) .events
+exec-same-length-22 t c = (c .before .before .before .before .before .before .before .loop .inv) .events
 
 exec-same-length-23 : (t : ℕ) → exec-lts.Need-same-length-23 (exec-cs t) (exec-at t) exec.Post exec-Inv-loop exec-μ-loop
-exec-same-length-23 t c = c .before .before .before .before .before .before .last .kept .1 .1 .1 .1 .1 .1 .1 .0 ∙ (c .before .before .before .before .before .before .before .before .before .before .before .before .before .before .loop .inv) .errors
+exec-same-length-23 t c = (c .before .before .before .before .before .before .before .loop .inv) .errors
 
 exec-same-length-24 : (t : ℕ) → exec-lts.Need-same-length-24 (exec-cs t) (exec-at t) exec.Post exec-Inv-loop exec-μ-loop
-exec-same-length-24 t c = c .before .before .before .before .before .before .last .kept .1 .1 .1 .1 .1 .1 .1 .1 .0 ∙ (c .before .before .before .before .before .before .before .before .before .before .before .before .before .before .loop .inv) .scratch
+exec-same-length-24 t c = (c .before .before .before .before .before .before .before .loop .inv) .scratch
 
 exec-returns-8 : (t : ℕ) → exec-lts.Need-returns-8 (exec-cs t) (exec-at t) exec.Post exec-Inv-loop exec-μ-loop
-exec-returns-8 t c = (c .before .before .before .before .before .before .before .before .before .before .before .before .before .before .loop .inv) .go (is-row (c .before .before .before .before .before .before .before .before .before .before .before .before .before .before .before .before .before .before .before .before .before .args .d) (c .before .before .before .before .before .before .before .before .before .before .before .before .before .before .before .before .before .before .before .before .before .args .optional) (c .before .before .before .before .before .before .before .before .before .before .before .before .before .before .loop .i) (c .before .before .before .before .before .before .before .before .before .before .before .before .before .before .loop .inv .inside) (sym (c .before .before .before .before .before .before .before .before .before .before .before .p3 .given .1) ∙ c .before .before .before .before .before .before .before .before .before .before .before .before .before .part-at .ensures) (c .before .before .before .before .before .before .last .ensures))
+exec-returns-8 t c = (c .before .before .before .before .before .before .before .loop .inv) .go (when-passes (c .before .before .before .before .before .before .before .before .before .before .before .before .before .before .args .d) (c .before .before .before .before .before .before .before .before .before .before .before .before .before .before .args .optional) (c .before .before .before .before .before .before .before .loop .i) (c .before .before .before .before .before .before .before .loop .inv .inside) (c .before .before .before .before .before .before .before .loop .events) (c .before .before .before .before .before .before .before .loop .errors) (c .before .before .before .before .before .before .before .loop .scratch) (c .before .before .before .before .before .before .before .loop .inv .wf) (sym (c .before .before .before .before .set4 .given .1) ∙ c .before .before .before .before .before .before .part-at .ensures) (c .before .before .sees .ensures) (not-yes _ (c .before .if2 .taken)) (c .pass .ensures (c .before .before .before .before .before .before .before .before .before .before .before .before .before .before .args .src .now) (c .before .before .before .before .before .before .before .before .before .before .before .before .before .before .args .ends .now)))
 
-exec-enum-known-p-4 : (t : ℕ) → exec-lts.Need-enum-known-p-4 (exec-cs t) (exec-at t) exec.Post exec-Inv-loop exec-μ-loop
-exec-enum-known-p-4 t c = search needs
+exec-trivia-requires-2 : (t : ℕ) → exec-lts.Need-trivia-requires-2 (exec-cs t) (exec-at t) exec.Post exec-Inv-loop exec-μ-loop
+exec-trivia-requires-2 t c κs = asksE (from (source (c .before .before .before .before .before .before .before .before .before .before .before .before .before .before .args .src .now) (c .before .before .before .before .before .before .before .before .before .before .before .before .before .before .args .ids .now) (c .before .before .before .before .before .before .before .before .before .before .before .before .before .before .args .ends .now)) (c .before .before .before .before .before .before .before .loop .s) (c .before .before .before .before .before .before .before .loop .events) (c .before .before .before .before .before .before .before .loop .errors) (c .before .before .before .before .before .before .before .loop .scratch) (c .before .before .before .before .before .before .before .loop .inv .wf)) (c .before .before .before .before .before .before .before .before .before .before .before .before .before .before .pre .1 .0)
 
-exec-exec-requires : (t : ℕ) → exec-lts.Need-exec-requires (exec-cs t) (exec-at t) exec.Post exec-Inv-loop exec-μ-loop
-exec-exec-requires t c κs = (omega (arith, c .before .before .before .before .before .before .before .before .before .before .before .before .before .before .pre .0, (c .before .before .before .before .before .before .before .loop .inv) .below, row-sound (c .before .before .before .before .before .before .before .loop .i) (c .before .before .before .before .before .before .before .loop .inv .inside) (sym (c .before .before .before .before .p4 .given .1) ∙ c .before .before .before .before .before .before .part-at .ensures) .0), ((c .before .before .before .before .before .before .before .before .before .before .before .before .before .before .pre .1 .0), (c .before .before .before .before .before .before .before .loop .inv) .wf, omega (arith, row-sound (c .before .before .before .before .before .before .before .loop .i) (c .before .before .before .before .before .before .before .loop .inv .inside) (sym (c .before .before .before .before .p4 .given .1) ∙ c .before .before .before .before .before .before .part-at .ensures) .0, (c .before .before .before .before .before .before .before .loop .inv .inside))))
+exec-loop-less-3 : (t : ℕ) → exec-lts.Need-loop-less-3 (exec-cs t) (exec-at t) exec.Post exec-Inv-loop exec-μ-loop
+exec-loop-less-3 t c = row-sound (c .before .before .before .before .before .before .before .before .before .before .loop .i) (c .before .before .before .before .before .before .before .before .before .before .loop .inv .inside) (sym (c .before .before .before .before .before .before .before .set4 .given .1) ∙ c .before .before .before .before .before .before .before .before .before .part-at .ensures)
 
-exec-loop-less : (t : ℕ) → exec-lts.Need-loop-less (exec-cs t) (exec-at t) exec.Post exec-Inv-loop exec-μ-loop
-exec-loop-less t c = row-sound (c .before .before .before .before .before .before .before .before .before .before .before .before .before .before .loop .i) (c .before .before .before .before .before .before .before .before .before .before .before .before .before .before .loop .inv .inside) (sym (c .before .before .before .before .before .before .before .before .before .before .before .p4 .given .1) ∙ c .before .before .before .before .before .before .before .before .before .before .before .before .before .part-at .ensures) .1
+exec-loop-again-3 : (t : ℕ) → exec-lts.Need-loop-again-3 (exec-cs t) (exec-at t) exec.Post exec-Inv-loop exec-μ-loop
+exec-loop-again-3 t c = goes-on (c .before .before .before .before .before .before .before .before .before .before .loop .inv) ((plusE (from (source (c .before .before .before .before .before .before .before .before .before .before .before .before .before .before .before .before .before .args .src .now) (c .before .before .before .before .before .before .before .before .before .before .before .before .before .before .before .before .before .args .ids .now) (c .before .before .before .before .before .before .before .before .before .before .before .before .before .before .before .before .before .args .ends .now)) (c .before .before .before .before .before .before .before .before .before .before .loop .s) (c .before .before .before .before .before .before .before .before .before .before .loop .events) (c .before .before .before .before .before .before .before .before .before .before .loop .errors) (c .before .before .before .before .before .before .before .before .before .before .loop .scratch) (c .before .before .before .before .before .before .before .before .before .before .loop .inv .wf)) (c .before .before .trivia2 .ensures (c .before .before .before .before .before .before .before .before .before .before .before .before .before .before .before .before .before .args .src .now))) .wf) (row-sound (c .before .before .before .before .before .before .before .before .before .before .loop .i) (c .before .before .before .before .before .before .before .before .before .before .loop .inv .inside) (sym (c .before .before .before .before .before .before .before .set4 .given .1) ∙ c .before .before .before .before .before .before .before .before .before .part-at .ensures)) (λ z b y. when-goes (c .before .before .before .before .before .before .before .before .before .before .before .before .before .before .before .before .before .args .d) (c .before .before .before .before .before .before .before .before .before .before .before .before .before .before .before .before .before .args .optional) (c .before .before .before .before .before .before .before .before .before .before .loop .i) (c .before .before .before .before .before .before .before .before .before .before .loop .inv .inside) (c .before .before .before .before .before .before .before .before .before .before .loop .events) (c .before .before .before .before .before .before .before .before .before .before .loop .errors) (c .before .before .before .before .before .before .before .before .before .before .loop .scratch) (c .before .before .before .before .before .before .before .before .before .before .loop .inv .wf) (sym (c .before .before .before .before .before .before .before .set4 .given .1) ∙ c .before .before .before .before .before .before .before .before .before .part-at .ensures) (c .before .before .before .before .before .sees .ensures) (not-no _ (c .before .before .before .before .if2 .left)) (c .before .before .trivia2 .ensures (c .before .before .before .before .before .before .before .before .before .before .before .before .before .before .before .before .before .args .src .now)) y) (c .before .before .trivia2 .kept .1 .1 .1 .0) (refl) (refl)
 
-exec-loop-again : (t : ℕ) → exec-lts.Need-loop-again (exec-cs t) (exec-at t) exec.Post exec-Inv-loop exec-μ-loop
-exec-loop-again t c = goes-on (c .before .before .before .before .before .before .before .before .before .before .before .before .before .before .loop .inv) ((plus (from (source (c .before .before .before .before .before .before .before .before .before .before .before .before .before .before .before .before .before .before .before .before .before .args .src .now) (c .before .before .before .before .before .before .before .before .before .before .before .before .before .before .before .before .before .before .before .before .before .args .ids .now) (c .before .before .before .before .before .before .before .before .before .before .before .before .before .before .before .before .before .before .before .before .before .args .ends .now)) (c .before .before .before .before .before .before .before .before .before .before .before .before .before .before .loop .s) (c .before .before .before .before .before .before .before .before .before .before .before .before .before .before .loop .events) (c .before .before .before .before .before .before .before .before .before .before .before .before .before .before .loop .errors) (c .before .before .before .before .before .before .before .before .before .before .before .before .before .before .loop .scratch) (c .before .before .before .before .before .before .before .before .before .before .before .before .before .before .loop .inv .wf)) (c .before .before .before .before .before .before .exec .ensures)) .wf) (row-sound (c .before .before .before .before .before .before .before .before .before .before .before .before .before .before .loop .i) (c .before .before .before .before .before .before .before .before .before .before .before .before .before .before .loop .inv .inside) (sym (c .before .before .before .before .before .before .before .before .before .before .before .p4 .given .1) ∙ c .before .before .before .before .before .before .before .before .before .before .before .before .before .part-at .ensures) .1) (λ z b y. seq-goes (c .before .before .before .before .before .before .before .before .before .before .before .before .before .before .before .before .before .before .before .before .before .args .d) (c .before .before .before .before .before .before .before .before .before .before .before .before .before .before .before .before .before .before .before .before .before .args .optional) (c .before .before .before .before .before .before .before .before .before .before .before .before .before .before .loop .i) (c .before .before .before .before .before .before .before .before .before .before .before .before .before .before .loop .inv .inside) (c .before .before .before .before .before .before .before .before .before .before .before .before .before .before .loop .events) (c .before .before .before .before .before .before .before .before .before .before .before .before .before .before .loop .errors) (c .before .before .before .before .before .before .before .before .before .before .before .before .before .before .loop .scratch) (c .before .before .before .before .before .before .before .before .before .before .before .before .before .before .loop .inv .wf) (sym (c .before .before .before .before .before .before .before .before .before .before .before .p4 .given .1) ∙ c .before .before .before .before .before .before .before .before .before .before .before .before .before .part-at .ensures) (c .before .before .before .before .before .before .exec .ensures) y) (c .before .before .before .before .before .before .exec .kept .1 .1 .1 .1 .1 .1 .1 .0) (c .before .before .before .before .before .before .exec .kept .1 .1 .1 .1 .1 .1 .1 .1 .0) (c .before .before .before .before .before .before .exec .kept .1 .1 .1 .1 .1 .1 .1 .1 .1 .0)
-
-exec-enum-known-p-5 : (t : ℕ) → exec-lts.Need-enum-known-p-5 (exec-cs t) (exec-at t) exec.Post exec-Inv-loop exec-μ-loop
-exec-enum-known-p-5 t c = search needs
+exec-enum-known-how : (t : ℕ) → exec-lts.Need-enum-known-how (exec-cs t) (exec-at t) exec.Post exec-Inv-loop exec-μ-loop
+exec-enum-known-how t c = search needs
 
 exec-same-length-25 : (t : ℕ) → exec-lts.Need-same-length-25 (exec-cs t) (exec-at t) exec.Post exec-Inv-loop exec-μ-loop
 exec-same-length-25 t c = (c .before .before .before .before .before .before .loop .inv) .events
@@ -342,61 +336,7 @@ exec-same-length-27 : (t : ℕ) → exec-lts.Need-same-length-27 (exec-cs t) (ex
 exec-same-length-27 t c = (c .before .before .before .before .before .before .loop .inv) .scratch
 
 exec-returns-9 : (t : ℕ) → exec-lts.Need-returns-9 (exec-cs t) (exec-at t) exec.Post exec-Inv-loop exec-μ-loop
-exec-returns-9 t c = (c .before .before .before .before .before .before .loop .inv) .go (then-stops (c .before .before .before .before .before .before .before .before .before .before .before .before .before .args .d) (c .before .before .before .before .before .before .before .before .before .before .before .before .before .args .optional) (c .before .before .before .before .before .before .loop .i) (c .before .before .before .before .before .before .loop .inv .inside) (c .before .before .before .before .before .before .loop .events) (c .before .before .before .before .before .before .loop .errors) (c .before .before .before .before .before .before .loop .scratch) (c .before .before .before .before .before .before .loop .inv .wf) (sym (c .before .before .before .p5 .given .1) ∙ c .before .before .before .before .before .part-at .ensures) (c .if1 .taken))
-
-exec-trivia-requires : (t : ℕ) → exec-lts.Need-trivia-requires (exec-cs t) (exec-at t) exec.Post exec-Inv-loop exec-μ-loop
-exec-trivia-requires t c κs = asksE (from (source (c .before .before .before .before .before .before .before .before .before .before .before .before .before .before .args .src .now) (c .before .before .before .before .before .before .before .before .before .before .before .before .before .before .args .ids .now) (c .before .before .before .before .before .before .before .before .before .before .before .before .before .before .args .ends .now)) (c .before .before .before .before .before .before .before .loop .s) (c .before .before .before .before .before .before .before .loop .events) (c .before .before .before .before .before .before .before .loop .errors) (c .before .before .before .before .before .before .before .loop .scratch) (c .before .before .before .before .before .before .before .loop .inv .wf)) (c .before .before .before .before .before .before .before .before .before .before .before .before .before .before .pre .1 .0)
-
-exec-loop-less-2 : (t : ℕ) → exec-lts.Need-loop-less-2 (exec-cs t) (exec-at t) exec.Post exec-Inv-loop exec-μ-loop
-exec-loop-less-2 t c = row-sound (c .before .before .before .before .before .before .before .before .before .before .loop .i) (c .before .before .before .before .before .before .before .before .before .before .loop .inv .inside) (sym (c .before .before .before .before .before .before .before .p5 .given .1) ∙ c .before .before .before .before .before .before .before .before .before .part-at .ensures)
-
-exec-loop-again-2 : (t : ℕ) → exec-lts.Need-loop-again-2 (exec-cs t) (exec-at t) exec.Post exec-Inv-loop exec-μ-loop
-exec-loop-again-2 t c = goes-on (c .before .before .before .before .before .before .before .before .before .before .loop .inv) ((plusE (from (source (c .before .before .before .before .before .before .before .before .before .before .before .before .before .before .before .before .before .args .src .now) (c .before .before .before .before .before .before .before .before .before .before .before .before .before .before .before .before .before .args .ids .now) (c .before .before .before .before .before .before .before .before .before .before .before .before .before .before .before .before .before .args .ends .now)) (c .before .before .before .before .before .before .before .before .before .before .loop .s) (c .before .before .before .before .before .before .before .before .before .before .loop .events) (c .before .before .before .before .before .before .before .before .before .before .loop .errors) (c .before .before .before .before .before .before .before .before .before .before .loop .scratch) (c .before .before .before .before .before .before .before .before .before .before .loop .inv .wf)) (c .before .before .trivia .ensures (c .before .before .before .before .before .before .before .before .before .before .before .before .before .before .before .before .before .args .src .now))) .wf) (row-sound (c .before .before .before .before .before .before .before .before .before .before .loop .i) (c .before .before .before .before .before .before .before .before .before .before .loop .inv .inside) (sym (c .before .before .before .before .before .before .before .p5 .given .1) ∙ c .before .before .before .before .before .before .before .before .before .part-at .ensures)) (λ z b y. then-goes (c .before .before .before .before .before .before .before .before .before .before .before .before .before .before .before .before .before .args .d) (c .before .before .before .before .before .before .before .before .before .before .before .before .before .before .before .before .before .args .optional) (c .before .before .before .before .before .before .before .before .before .before .loop .i) (c .before .before .before .before .before .before .before .before .before .before .loop .inv .inside) (c .before .before .before .before .before .before .before .before .before .before .loop .events) (c .before .before .before .before .before .before .before .before .before .before .loop .errors) (c .before .before .before .before .before .before .before .before .before .before .loop .scratch) (c .before .before .before .before .before .before .before .before .before .before .loop .inv .wf) (sym (c .before .before .before .before .before .before .before .p5 .given .1) ∙ c .before .before .before .before .before .before .before .before .before .part-at .ensures) (c .before .before .before .before .if1 .left) (c .before .before .trivia .ensures (c .before .before .before .before .before .before .before .before .before .before .before .before .before .before .before .before .before .args .src .now)) y) (c .before .before .trivia .kept .1 .1 .1 .0) (refl) (refl)
-
-exec-enum-known-set-4 : (t : ℕ) → exec-lts.Need-enum-known-set-4 (exec-cs t) (exec-at t) exec.Post exec-Inv-loop exec-μ-loop
-exec-enum-known-set-4 t c = search needs
-
-exec-sees-requires : (t : ℕ) → exec-lts.Need-sees-requires (exec-cs t) (exec-at t) exec.Post exec-Inv-loop exec-μ-loop
-exec-sees-requires t c κs = (from (source (c .before .before .before .before .before .before .before .before .before .before .before .args .src .now) (c .before .before .before .before .before .before .before .before .before .before .before .args .ids .now) (c .before .before .before .before .before .before .before .before .before .before .before .args .ends .now)) (c .before .before .before .before .loop .s) (c .before .before .before .before .loop .events) (c .before .before .before .before .loop .errors) (c .before .before .before .before .loop .scratch) (c .before .before .before .before .loop .inv .wf)) .wf .0
-
-exec-pass-requires : (t : ℕ) → exec-lts.Need-pass-requires (exec-cs t) (exec-at t) exec.Post exec-Inv-loop exec-μ-loop
-exec-pass-requires t c κs = asksP (from (source (c .before .before .before .before .before .before .before .before .before .before .before .before .before .args .src .now) (c .before .before .before .before .before .before .before .before .before .before .before .before .before .args .ids .now) (c .before .before .before .before .before .before .before .before .before .before .before .before .before .args .ends .now)) (c .before .before .before .before .before .before .loop .s) (c .before .before .before .before .before .before .loop .events) (c .before .before .before .before .before .before .loop .errors) (c .before .before .before .before .before .before .loop .scratch) (c .before .before .before .before .before .before .loop .inv .wf)) (c .before .before .before .before .before .before .before .before .before .before .before .before .before .pre .1 .0)
-
-exec-same-length-28 : (t : ℕ) → exec-lts.Need-same-length-28 (exec-cs t) (exec-at t) exec.Post exec-Inv-loop exec-μ-loop
-exec-same-length-28 t c = (c .before .before .before .before .before .before .before .loop .inv) .events
-
-exec-same-length-29 : (t : ℕ) → exec-lts.Need-same-length-29 (exec-cs t) (exec-at t) exec.Post exec-Inv-loop exec-μ-loop
-exec-same-length-29 t c = (c .before .before .before .before .before .before .before .loop .inv) .errors
-
-exec-same-length-30 : (t : ℕ) → exec-lts.Need-same-length-30 (exec-cs t) (exec-at t) exec.Post exec-Inv-loop exec-μ-loop
-exec-same-length-30 t c = (c .before .before .before .before .before .before .before .loop .inv) .scratch
-
-exec-returns-10 : (t : ℕ) → exec-lts.Need-returns-10 (exec-cs t) (exec-at t) exec.Post exec-Inv-loop exec-μ-loop
-exec-returns-10 t c = (c .before .before .before .before .before .before .before .loop .inv) .go (when-passes (c .before .before .before .before .before .before .before .before .before .before .before .before .before .before .args .d) (c .before .before .before .before .before .before .before .before .before .before .before .before .before .before .args .optional) (c .before .before .before .before .before .before .before .loop .i) (c .before .before .before .before .before .before .before .loop .inv .inside) (c .before .before .before .before .before .before .before .loop .events) (c .before .before .before .before .before .before .before .loop .errors) (c .before .before .before .before .before .before .before .loop .scratch) (c .before .before .before .before .before .before .before .loop .inv .wf) (sym (c .before .before .before .before .set4 .given .1) ∙ c .before .before .before .before .before .before .part-at .ensures) (c .before .before .sees .ensures) (not-yes _ (c .before .if2 .taken)) (c .pass .ensures (c .before .before .before .before .before .before .before .before .before .before .before .before .before .before .args .src .now) (c .before .before .before .before .before .before .before .before .before .before .before .before .before .before .args .ends .now)))
-
-exec-trivia-requires-2 : (t : ℕ) → exec-lts.Need-trivia-requires-2 (exec-cs t) (exec-at t) exec.Post exec-Inv-loop exec-μ-loop
-exec-trivia-requires-2 t c κs = asksE (from (source (c .before .before .before .before .before .before .before .before .before .before .before .before .before .before .args .src .now) (c .before .before .before .before .before .before .before .before .before .before .before .before .before .before .args .ids .now) (c .before .before .before .before .before .before .before .before .before .before .before .before .before .before .args .ends .now)) (c .before .before .before .before .before .before .before .loop .s) (c .before .before .before .before .before .before .before .loop .events) (c .before .before .before .before .before .before .before .loop .errors) (c .before .before .before .before .before .before .before .loop .scratch) (c .before .before .before .before .before .before .before .loop .inv .wf)) (c .before .before .before .before .before .before .before .before .before .before .before .before .before .before .pre .1 .0)
-
-exec-loop-less-3 : (t : ℕ) → exec-lts.Need-loop-less-3 (exec-cs t) (exec-at t) exec.Post exec-Inv-loop exec-μ-loop
-exec-loop-less-3 t c = row-sound (c .before .before .before .before .before .before .before .before .before .before .loop .i) (c .before .before .before .before .before .before .before .before .before .before .loop .inv .inside) (sym (c .before .before .before .before .before .before .before .set4 .given .1) ∙ c .before .before .before .before .before .before .before .before .before .part-at .ensures)
-
-exec-loop-again-3 : (t : ℕ) → exec-lts.Need-loop-again-3 (exec-cs t) (exec-at t) exec.Post exec-Inv-loop exec-μ-loop
-exec-loop-again-3 t c = goes-on (c .before .before .before .before .before .before .before .before .before .before .loop .inv) ((plusE (from (source (c .before .before .before .before .before .before .before .before .before .before .before .before .before .before .before .before .before .args .src .now) (c .before .before .before .before .before .before .before .before .before .before .before .before .before .before .before .before .before .args .ids .now) (c .before .before .before .before .before .before .before .before .before .before .before .before .before .before .before .before .before .args .ends .now)) (c .before .before .before .before .before .before .before .before .before .before .loop .s) (c .before .before .before .before .before .before .before .before .before .before .loop .events) (c .before .before .before .before .before .before .before .before .before .before .loop .errors) (c .before .before .before .before .before .before .before .before .before .before .loop .scratch) (c .before .before .before .before .before .before .before .before .before .before .loop .inv .wf)) (c .before .before .trivia2 .ensures (c .before .before .before .before .before .before .before .before .before .before .before .before .before .before .before .before .before .args .src .now))) .wf) (row-sound (c .before .before .before .before .before .before .before .before .before .before .loop .i) (c .before .before .before .before .before .before .before .before .before .before .loop .inv .inside) (sym (c .before .before .before .before .before .before .before .set4 .given .1) ∙ c .before .before .before .before .before .before .before .before .before .part-at .ensures)) (λ z b y. when-goes (c .before .before .before .before .before .before .before .before .before .before .before .before .before .before .before .before .before .args .d) (c .before .before .before .before .before .before .before .before .before .before .before .before .before .before .before .before .before .args .optional) (c .before .before .before .before .before .before .before .before .before .before .loop .i) (c .before .before .before .before .before .before .before .before .before .before .loop .inv .inside) (c .before .before .before .before .before .before .before .before .before .before .loop .events) (c .before .before .before .before .before .before .before .before .before .before .loop .errors) (c .before .before .before .before .before .before .before .before .before .before .loop .scratch) (c .before .before .before .before .before .before .before .before .before .before .loop .inv .wf) (sym (c .before .before .before .before .before .before .before .set4 .given .1) ∙ c .before .before .before .before .before .before .before .before .before .part-at .ensures) (c .before .before .before .before .before .sees .ensures) (not-no _ (c .before .before .before .before .if2 .left)) (c .before .before .trivia2 .ensures (c .before .before .before .before .before .before .before .before .before .before .before .before .before .before .before .before .before .args .src .now)) y) (c .before .before .trivia2 .kept .1 .1 .1 .0) (refl) (refl)
-
-exec-enum-known-p-6 : (t : ℕ) → exec-lts.Need-enum-known-p-6 (exec-cs t) (exec-at t) exec.Post exec-Inv-loop exec-μ-loop
-exec-enum-known-p-6 t c = search needs
-
-exec-same-length-31 : (t : ℕ) → exec-lts.Need-same-length-31 (exec-cs t) (exec-at t) exec.Post exec-Inv-loop exec-μ-loop
-exec-same-length-31 t c = (c .before .before .before .before .before .before .loop .inv) .events
-
-exec-same-length-32 : (t : ℕ) → exec-lts.Need-same-length-32 (exec-cs t) (exec-at t) exec.Post exec-Inv-loop exec-μ-loop
-exec-same-length-32 t c = (c .before .before .before .before .before .before .loop .inv) .errors
-
-exec-same-length-33 : (t : ℕ) → exec-lts.Need-same-length-33 (exec-cs t) (exec-at t) exec.Post exec-Inv-loop exec-μ-loop
-exec-same-length-33 t c = (c .before .before .before .before .before .before .loop .inv) .scratch
-
-exec-returns-11 : (t : ℕ) → exec-lts.Need-returns-11 (exec-cs t) (exec-at t) exec.Post exec-Inv-loop exec-μ-loop
-exec-returns-11 t c = (c .before .before .before .before .before .before .loop .inv) .go (alt-stops (c .before .before .before .before .before .before .before .before .before .before .before .before .before .args .d) (c .before .before .before .before .before .before .before .before .before .before .before .before .before .args .optional) (c .before .before .before .before .before .before .loop .i) (c .before .before .before .before .before .before .loop .inv .inside) (c .before .before .before .before .before .before .loop .events) (c .before .before .before .before .before .before .loop .errors) (c .before .before .before .before .before .before .loop .scratch) (c .before .before .before .before .before .before .loop .inv .wf) (sym (c .before .before .before .p6 .given .1) ∙ c .before .before .before .before .before .part-at .ensures) (c .if3 .taken))
+exec-returns-9 t c = (c .before .before .before .before .before .before .loop .inv) .go (try-stops (c .before .before .before .before .before .before .before .before .before .before .before .before .before .args .d) (c .before .before .before .before .before .before .before .before .before .before .before .before .before .args .optional) (c .before .before .before .before .before .before .loop .i) (c .before .before .before .before .before .before .loop .inv .inside) (c .before .before .before .before .before .before .loop .events) (c .before .before .before .before .before .before .loop .errors) (c .before .before .before .before .before .before .loop .scratch) (c .before .before .before .before .before .before .loop .inv .wf) (sym (c .before .before .before .how .given .1) ∙ c .before .before .before .before .before .part-at .ensures) (c .if3 .taken))
 
 exec-mark-requires : (t : ℕ) → exec-lts.Need-mark-requires (exec-cs t) (exec-at t) exec.Post exec-Inv-loop exec-μ-loop
 exec-mark-requires t c κs = search needs
@@ -405,70 +345,58 @@ exec-trivia-requires-3 : (t : ℕ) → exec-lts.Need-trivia-requires-3 (exec-cs 
 exec-trivia-requires-3 t c κs = asksE (from (source (c .before .before .before .before .before .before .before .before .before .before .before .before .before .before .before .args .src .now) (c .before .before .before .before .before .before .before .before .before .before .before .before .before .before .before .args .ids .now) (c .before .before .before .before .before .before .before .before .before .before .before .before .before .before .before .args .ends .now)) (c .before .before .before .before .before .before .before .before .loop .s) (c .before .before .before .before .before .before .before .before .loop .events) (c .before .before .before .before .before .before .before .before .loop .errors) (c .before .before .before .before .before .before .before .before .loop .scratch) (c .before .before .before .before .before .before .before .before .loop .inv .wf)) (c .before .before .before .before .before .before .before .before .before .before .before .before .before .before .before .pre .1 .0)
 
 exec-exec-requires-2 : (t : ℕ) → exec-lts.Need-exec-requires-2 (exec-cs t) (exec-at t) exec.Post exec-Inv-loop exec-μ-loop
-exec-exec-requires-2 t c κs = (omega (arith, c .before .before .before .before .before .before .before .before .before .before .before .before .before .before .before .before .before .before .before .before .before .pre .0, (c .before .before .before .before .before .before .before .before .before .before .before .before .before .before .loop .inv) .below, row-sound (c .before .before .before .before .before .before .before .before .before .before .before .before .before .before .loop .i) (c .before .before .before .before .before .before .before .before .before .before .before .before .before .before .loop .inv .inside) (sym (c .before .before .before .before .before .before .before .before .before .before .before .p6 .given .1) ∙ c .before .before .before .before .before .before .before .before .before .before .before .before .before .part-at .ensures)), ((c .before .before .before .before .before .before .before .before .before .before .before .before .before .before .before .before .before .before .before .before .before .pre .1 .0), (plusE (from (source (c .before .before .before .before .before .before .before .before .before .before .before .before .before .before .before .before .before .before .before .before .before .args .src .now) (c .before .before .before .before .before .before .before .before .before .before .before .before .before .before .before .before .before .before .before .before .before .args .ids .now) (c .before .before .before .before .before .before .before .before .before .before .before .before .before .before .before .before .before .before .before .before .before .args .ends .now)) (c .before .before .before .before .before .before .before .before .before .before .before .before .before .before .loop .s) (c .before .before .before .before .before .before .before .before .before .before .before .before .before .before .loop .events) (c .before .before .before .before .before .before .before .before .before .before .before .before .before .before .loop .errors) (c .before .before .before .before .before .before .before .before .before .before .before .before .before .before .loop .scratch) (c .before .before .before .before .before .before .before .before .before .before .before .before .before .before .loop .inv .wf)) (c .before .before .before .before .before .trivia3 .ensures (c .before .before .before .before .before .before .before .before .before .before .before .before .before .before .before .before .before .before .before .before .before .args .src .now))) .wf, omega (arith, row-sound (c .before .before .before .before .before .before .before .before .before .before .before .before .before .before .loop .i) (c .before .before .before .before .before .before .before .before .before .before .before .before .before .before .loop .inv .inside) (sym (c .before .before .before .before .before .before .before .before .before .before .before .p6 .given .1) ∙ c .before .before .before .before .before .before .before .before .before .before .before .before .before .part-at .ensures), (c .before .before .before .before .before .before .before .before .before .before .before .before .before .before .loop .inv .inside))))
+exec-exec-requires-2 t c κs = (omega (arith, c .before .before .before .before .before .before .before .before .before .before .before .before .before .before .before .before .before .before .before .before .before .pre .0, (c .before .before .before .before .before .before .before .before .before .before .before .before .before .before .loop .inv) .below, row-sound (c .before .before .before .before .before .before .before .before .before .before .before .before .before .before .loop .i) (c .before .before .before .before .before .before .before .before .before .before .before .before .before .before .loop .inv .inside) (sym (c .before .before .before .before .before .before .before .before .before .before .before .how .given .1) ∙ c .before .before .before .before .before .before .before .before .before .before .before .before .before .part-at .ensures) .0), ((c .before .before .before .before .before .before .before .before .before .before .before .before .before .before .before .before .before .before .before .before .before .pre .1 .0), (plusE (from (source (c .before .before .before .before .before .before .before .before .before .before .before .before .before .before .before .before .before .before .before .before .before .args .src .now) (c .before .before .before .before .before .before .before .before .before .before .before .before .before .before .before .before .before .before .before .before .before .args .ids .now) (c .before .before .before .before .before .before .before .before .before .before .before .before .before .before .before .before .before .before .before .before .before .args .ends .now)) (c .before .before .before .before .before .before .before .before .before .before .before .before .before .before .loop .s) (c .before .before .before .before .before .before .before .before .before .before .before .before .before .before .loop .events) (c .before .before .before .before .before .before .before .before .before .before .before .before .before .before .loop .errors) (c .before .before .before .before .before .before .before .before .before .before .before .before .before .before .loop .scratch) (c .before .before .before .before .before .before .before .before .before .before .before .before .before .before .loop .inv .wf)) (c .before .before .before .before .before .trivia3 .ensures (c .before .before .before .before .before .before .before .before .before .before .before .before .before .before .before .before .before .before .before .before .before .args .src .now))) .wf, omega (arith, row-sound (c .before .before .before .before .before .before .before .before .before .before .before .before .before .before .loop .i) (c .before .before .before .before .before .before .before .before .before .before .before .before .before .before .loop .inv .inside) (sym (c .before .before .before .before .before .before .before .before .before .before .before .how .given .1) ∙ c .before .before .before .before .before .before .before .before .before .before .before .before .before .part-at .ensures) .0, (c .before .before .before .before .before .before .before .before .before .before .before .before .before .before .loop .inv .inside))))
 
-exec-same-length-34 : (t : ℕ) → exec-lts.Need-same-length-34 (exec-cs t) (exec-at t) exec.Post exec-Inv-loop exec-μ-loop
-exec-same-length-34 t c = c .before .before .before .before .before .before .before .before .exec2 .kept .1 .1 .1 .1 .1 .1 .1 .0 ∙ c .before .before .before .before .before .before .before .before .before .before .before .before .before .before .trivia3 .kept .1 .1 .1 .0 ∙ (c .before .before .before .before .before .before .before .before .before .before .before .before .before .before .before .before .before .before .before .before .before .before .before .loop .inv) .events
+exec-same-length-28 : (t : ℕ) → exec-lts.Need-same-length-28 (exec-cs t) (exec-at t) exec.Post exec-Inv-loop exec-μ-loop
+exec-same-length-28 t c = c .before .before .before .before .before .before .before .before .exec2 .kept .1 .1 .1 .1 .1 .1 .1 .0 ∙ c .before .before .before .before .before .before .before .before .before .before .before .before .before .before .trivia3 .kept .1 .1 .1 .0 ∙ (c .before .before .before .before .before .before .before .before .before .before .before .before .before .before .before .before .before .before .before .before .before .before .before .loop .inv) .events
 
-exec-same-length-35 : (t : ℕ) → exec-lts.Need-same-length-35 (exec-cs t) (exec-at t) exec.Post exec-Inv-loop exec-μ-loop
-exec-same-length-35 t c = c .before .before .before .before .before .before .before .before .exec2 .kept .1 .1 .1 .1 .1 .1 .1 .1 .0 ∙ (c .before .before .before .before .before .before .before .before .before .before .before .before .before .before .before .before .before .before .before .before .before .before .before .loop .inv) .errors
+exec-same-length-29 : (t : ℕ) → exec-lts.Need-same-length-29 (exec-cs t) (exec-at t) exec.Post exec-Inv-loop exec-μ-loop
+exec-same-length-29 t c = c .before .before .before .before .before .before .before .before .exec2 .kept .1 .1 .1 .1 .1 .1 .1 .1 .0 ∙ (c .before .before .before .before .before .before .before .before .before .before .before .before .before .before .before .before .before .before .before .before .before .before .before .loop .inv) .errors
 
-exec-same-length-36 : (t : ℕ) → exec-lts.Need-same-length-36 (exec-cs t) (exec-at t) exec.Post exec-Inv-loop exec-μ-loop
-exec-same-length-36 t c = c .before .before .before .before .before .before .before .before .exec2 .kept .1 .1 .1 .1 .1 .1 .1 .1 .1 .0 ∙ (c .before .before .before .before .before .before .before .before .before .before .before .before .before .before .before .before .before .before .before .before .before .before .before .loop .inv) .scratch
+exec-same-length-30 : (t : ℕ) → exec-lts.Need-same-length-30 (exec-cs t) (exec-at t) exec.Post exec-Inv-loop exec-μ-loop
+exec-same-length-30 t c = c .before .before .before .before .before .before .before .before .exec2 .kept .1 .1 .1 .1 .1 .1 .1 .1 .1 .0 ∙ (c .before .before .before .before .before .before .before .before .before .before .before .before .before .before .before .before .before .before .before .before .before .before .before .loop .inv) .scratch
 
-exec-returns-12 : (t : ℕ) → exec-lts.Need-returns-12 (exec-cs t) (exec-at t) exec.Post exec-Inv-loop exec-μ-loop
-exec-returns-12 t c = (c .before .before .before .before .before .before .before .before .before .before .before .before .before .before .before .before .before .before .before .before .before .before .before .loop .inv) .go (tried (alt-tries (c .before .before .before .before .before .before .before .before .before .before .before .before .before .before .before .before .before .before .before .before .before .before .before .before .before .before .before .before .before .before .args .d) (c .before .before .before .before .before .before .before .before .before .before .before .before .before .before .before .before .before .before .before .before .before .before .before .before .before .before .before .before .before .before .args .optional) (c .before .before .before .before .before .before .before .before .before .before .before .before .before .before .before .before .before .before .before .before .before .before .before .loop .i) (c .before .before .before .before .before .before .before .before .before .before .before .before .before .before .before .before .before .before .before .before .before .before .before .loop .inv .inside) (c .before .before .before .before .before .before .before .before .before .before .before .before .before .before .before .before .before .before .before .before .before .before .before .loop .events) (c .before .before .before .before .before .before .before .before .before .before .before .before .before .before .before .before .before .before .before .before .before .before .before .loop .errors) (c .before .before .before .before .before .before .before .before .before .before .before .before .before .before .before .before .before .before .before .before .before .before .before .loop .scratch) (c .before .before .before .before .before .before .before .before .before .before .before .before .before .before .before .before .before .before .before .before .before .before .before .loop .inv .wf) (sym (c .before .before .before .before .before .before .before .before .before .before .before .before .before .before .before .before .before .before .before .before .p6 .given .1) ∙ c .before .before .before .before .before .before .before .before .before .before .before .before .before .before .before .before .before .before .before .before .before .before .part-at .ensures) (c .before .before .before .before .before .before .before .before .before .before .before .before .before .before .before .before .before .if3 .left) (c .before .before .before .before .before .before .before .before .before .before .before .before .before .before .before .before .mark .ensures)) (plus (plusE ((alt-tries (c .before .before .before .before .before .before .before .before .before .before .before .before .before .before .before .before .before .before .before .before .before .before .before .before .before .before .before .before .before .before .args .d) (c .before .before .before .before .before .before .before .before .before .before .before .before .before .before .before .before .before .before .before .before .before .before .before .before .before .before .before .before .before .before .args .optional) (c .before .before .before .before .before .before .before .before .before .before .before .before .before .before .before .before .before .before .before .before .before .before .before .loop .i) (c .before .before .before .before .before .before .before .before .before .before .before .before .before .before .before .before .before .before .before .before .before .before .before .loop .inv .inside) (c .before .before .before .before .before .before .before .before .before .before .before .before .before .before .before .before .before .before .before .before .before .before .before .loop .events) (c .before .before .before .before .before .before .before .before .before .before .before .before .before .before .before .before .before .before .before .before .before .before .before .loop .errors) (c .before .before .before .before .before .before .before .before .before .before .before .before .before .before .before .before .before .before .before .before .before .before .before .loop .scratch) (c .before .before .before .before .before .before .before .before .before .before .before .before .before .before .before .before .before .before .before .before .before .before .before .loop .inv .wf) (sym (c .before .before .before .before .before .before .before .before .before .before .before .before .before .before .before .before .before .before .before .before .p6 .given .1) ∙ c .before .before .before .before .before .before .before .before .before .before .before .before .before .before .before .before .before .before .before .before .before .before .part-at .ensures) (c .before .before .before .before .before .before .before .before .before .before .before .before .before .before .before .before .before .if3 .left) (c .before .before .before .before .before .before .before .before .before .before .before .before .before .before .before .before .mark .ensures)) .here) (c .before .before .before .before .before .before .before .before .before .before .before .before .before .before .trivia3 .ensures (c .before .before .before .before .before .before .before .before .before .before .before .before .before .before .before .before .before .before .before .before .before .before .before .before .before .before .before .before .before .before .args .src .now))) (c .before .before .before .before .before .before .before .before .exec2 .ensures)) (c .if4 .taken))
+exec-returns-10 : (t : ℕ) → exec-lts.Need-returns-10 (exec-cs t) (exec-at t) exec.Post exec-Inv-loop exec-μ-loop
+exec-returns-10 t c = (c .before .before .before .before .before .before .before .before .before .before .before .before .before .before .before .before .before .before .before .before .before .before .before .loop .inv) .go (try-on (c .before .before .before .before .before .before .before .before .before .before .before .before .before .before .before .before .before .before .before .before .before .before .before .before .before .before .before .before .before .before .args .d) (c .before .before .before .before .before .before .before .before .before .before .before .before .before .before .before .before .before .before .before .before .before .before .before .before .before .before .before .before .before .before .args .optional) (c .before .before .before .before .before .before .before .before .before .before .before .before .before .before .before .before .before .before .before .before .before .before .before .loop .i) (c .before .before .before .before .before .before .before .before .before .before .before .before .before .before .before .before .before .before .before .before .before .before .before .loop .inv .inside) (c .before .before .before .before .before .before .before .before .before .before .before .before .before .before .before .before .before .before .before .before .before .before .before .loop .events) (c .before .before .before .before .before .before .before .before .before .before .before .before .before .before .before .before .before .before .before .before .before .before .before .loop .errors) (c .before .before .before .before .before .before .before .before .before .before .before .before .before .before .before .before .before .before .before .before .before .before .before .loop .scratch) (c .before .before .before .before .before .before .before .before .before .before .before .before .before .before .before .before .before .before .before .before .before .before .before .loop .inv .wf) (sym (c .before .before .before .before .before .before .before .before .before .before .before .before .before .before .before .before .before .before .before .before .how .given .1) ∙ c .before .before .before .before .before .before .before .before .before .before .before .before .before .before .before .before .before .before .before .before .before .before .part-at .ensures) (c .before .before .before .before .before .before .before .before .before .before .before .before .before .before .before .before .before .if3 .left) (c .before .before .before .before .before .before .before .before .before .before .before .before .before .before .before .before .mark .ensures) (plus (plusE (from (source (c .before .before .before .before .before .before .before .before .before .before .before .before .before .before .before .before .before .before .before .before .before .before .before .before .before .before .before .before .before .before .args .src .now) (c .before .before .before .before .before .before .before .before .before .before .before .before .before .before .before .before .before .before .before .before .before .before .before .before .before .before .before .before .before .before .args .ids .now) (c .before .before .before .before .before .before .before .before .before .before .before .before .before .before .before .before .before .before .before .before .before .before .before .before .before .before .before .before .before .before .args .ends .now)) (c .before .before .before .before .before .before .before .before .before .before .before .before .before .before .before .before .before .before .before .before .before .before .before .loop .s) (c .before .before .before .before .before .before .before .before .before .before .before .before .before .before .before .before .before .before .before .before .before .before .before .loop .events) (c .before .before .before .before .before .before .before .before .before .before .before .before .before .before .before .before .before .before .before .before .before .before .before .loop .errors) (c .before .before .before .before .before .before .before .before .before .before .before .before .before .before .before .before .before .before .before .before .before .before .before .loop .scratch) (c .before .before .before .before .before .before .before .before .before .before .before .before .before .before .before .before .before .before .before .before .before .before .before .loop .inv .wf)) (c .before .before .before .before .before .before .before .before .before .before .before .before .before .before .trivia3 .ensures (c .before .before .before .before .before .before .before .before .before .before .before .before .before .before .before .before .before .before .before .before .before .before .before .before .before .before .before .before .before .before .args .src .now))) (c .before .before .before .before .before .before .before .before .exec2 .ensures)) (c .if4 .taken))
 
 exec-retry-requires : (t : ℕ) → exec-lts.Need-retry-requires (exec-cs t) (exec-at t) exec.Post exec-Inv-loop exec-μ-loop
 exec-retry-requires t c κs = search needs
 
+exec-same-length-31 : (t : ℕ) → exec-lts.Need-same-length-31 (exec-cs t) (exec-at t) exec.Post exec-Inv-loop exec-μ-loop
+exec-same-length-31 t c = c .before .before .before .before .before .before .before .before .before .before .exec2 .kept .1 .1 .1 .1 .1 .1 .1 .0 ∙ c .before .before .before .before .before .before .before .before .before .before .before .before .before .before .before .before .trivia3 .kept .1 .1 .1 .0 ∙ (c .before .before .before .before .before .before .before .before .before .before .before .before .before .before .before .before .before .before .before .before .before .before .before .before .before .loop .inv) .events
+
+exec-same-length-32 : (t : ℕ) → exec-lts.Need-same-length-32 (exec-cs t) (exec-at t) exec.Post exec-Inv-loop exec-μ-loop
+exec-same-length-32 t c = c .before .before .before .before .before .before .before .before .before .before .exec2 .kept .1 .1 .1 .1 .1 .1 .1 .1 .0 ∙ (c .before .before .before .before .before .before .before .before .before .before .before .before .before .before .before .before .before .before .before .before .before .before .before .before .before .loop .inv) .errors
+
+exec-same-length-33 : (t : ℕ) → exec-lts.Need-same-length-33 (exec-cs t) (exec-at t) exec.Post exec-Inv-loop exec-μ-loop
+exec-same-length-33 t c = c .before .before .before .before .before .before .before .before .before .before .exec2 .kept .1 .1 .1 .1 .1 .1 .1 .1 .1 .0 ∙ (c .before .before .before .before .before .before .before .before .before .before .before .before .before .before .before .before .before .before .before .before .before .before .before .before .before .loop .inv) .scratch
+
+exec-returns-11 : (t : ℕ) → exec-lts.Need-returns-11 (exec-cs t) (exec-at t) exec.Post exec-Inv-loop exec-μ-loop
+exec-returns-11 t c = (c .before .before .before .before .before .before .before .before .before .before .before .before .before .before .before .before .before .before .before .before .before .before .before .before .before .loop .inv) .go (try-opt (c .before .before .before .before .before .before .before .before .before .before .before .before .before .before .before .before .before .before .before .before .before .before .before .before .before .before .before .before .before .before .before .before .args .d) (c .before .before .before .before .before .before .before .before .before .before .before .before .before .before .before .before .before .before .before .before .before .before .before .before .before .before .before .before .before .before .before .before .args .optional) (c .before .before .before .before .before .before .before .before .before .before .before .before .before .before .before .before .before .before .before .before .before .before .before .before .before .loop .i) (c .before .before .before .before .before .before .before .before .before .before .before .before .before .before .before .before .before .before .before .before .before .before .before .before .before .loop .inv .inside) (c .before .before .before .before .before .before .before .before .before .before .before .before .before .before .before .before .before .before .before .before .before .before .before .before .before .loop .events) (c .before .before .before .before .before .before .before .before .before .before .before .before .before .before .before .before .before .before .before .before .before .before .before .before .before .loop .errors) (c .before .before .before .before .before .before .before .before .before .before .before .before .before .before .before .before .before .before .before .before .before .before .before .before .before .loop .scratch) (c .before .before .before .before .before .before .before .before .before .before .before .before .before .before .before .before .before .before .before .before .before .before .before .before .before .loop .inv .wf) (sym (c .before .before .before .before .before .before .before .before .before .before .before .before .before .before .before .before .before .before .before .before .before .before .how .given .1) ∙ c .before .before .before .before .before .before .before .before .before .before .before .before .before .before .before .before .before .before .before .before .before .before .before .before .part-at .ensures) (c .before .before .before .before .before .before .before .before .before .before .before .before .before .before .before .before .before .before .before .if3 .left) (c .before .before .before .before .before .before .before .before .before .before .before .before .before .before .before .before .before .before .mark .ensures) (plus (plusE (from (source (c .before .before .before .before .before .before .before .before .before .before .before .before .before .before .before .before .before .before .before .before .before .before .before .before .before .before .before .before .before .before .before .before .args .src .now) (c .before .before .before .before .before .before .before .before .before .before .before .before .before .before .before .before .before .before .before .before .before .before .before .before .before .before .before .before .before .before .before .before .args .ids .now) (c .before .before .before .before .before .before .before .before .before .before .before .before .before .before .before .before .before .before .before .before .before .before .before .before .before .before .before .before .before .before .before .before .args .ends .now)) (c .before .before .before .before .before .before .before .before .before .before .before .before .before .before .before .before .before .before .before .before .before .before .before .before .before .loop .s) (c .before .before .before .before .before .before .before .before .before .before .before .before .before .before .before .before .before .before .before .before .before .before .before .before .before .loop .events) (c .before .before .before .before .before .before .before .before .before .before .before .before .before .before .before .before .before .before .before .before .before .before .before .before .before .loop .errors) (c .before .before .before .before .before .before .before .before .before .before .before .before .before .before .before .before .before .before .before .before .before .before .before .before .before .loop .scratch) (c .before .before .before .before .before .before .before .before .before .before .before .before .before .before .before .before .before .before .before .before .before .before .before .before .before .loop .inv .wf)) (c .before .before .before .before .before .before .before .before .before .before .before .before .before .before .before .before .trivia3 .ensures (c .before .before .before .before .before .before .before .before .before .before .before .before .before .before .before .before .before .before .before .before .before .before .before .before .before .before .before .before .before .before .before .before .args .src .now))) (c .before .before .before .before .before .before .before .before .before .before .exec2 .ensures)) (c .before .before .if4 .left) (c .before .if5 .taken) (c .retry .ensures))
+
+exec-rewind-requires : (t : ℕ) → exec-lts.Need-rewind-requires (exec-cs t) (exec-at t) exec.Post exec-Inv-loop exec-μ-loop
+exec-rewind-requires t c κs = search needs
+
+exec-same-length-34 : (t : ℕ) → exec-lts.Need-same-length-34 (exec-cs t) (exec-at t) exec.Post exec-Inv-loop exec-μ-loop
+exec-same-length-34 t c = c .before .before .before .before .before .before .before .before .before .before .before .exec2 .kept .1 .1 .1 .1 .1 .1 .1 .0 ∙ c .before .before .before .before .before .before .before .before .before .before .before .before .before .before .before .before .before .trivia3 .kept .1 .1 .1 .0 ∙ (c .before .before .before .before .before .before .before .before .before .before .before .before .before .before .before .before .before .before .before .before .before .before .before .before .before .before .loop .inv) .events
+
+exec-same-length-35 : (t : ℕ) → exec-lts.Need-same-length-35 (exec-cs t) (exec-at t) exec.Post exec-Inv-loop exec-μ-loop
+exec-same-length-35 t c = c .before .before .before .before .before .before .before .before .before .before .before .exec2 .kept .1 .1 .1 .1 .1 .1 .1 .1 .0 ∙ (c .before .before .before .before .before .before .before .before .before .before .before .before .before .before .before .before .before .before .before .before .before .before .before .before .before .before .loop .inv) .errors
+
+exec-same-length-36 : (t : ℕ) → exec-lts.Need-same-length-36 (exec-cs t) (exec-at t) exec.Post exec-Inv-loop exec-μ-loop
+exec-same-length-36 t c = c .before .before .before .before .before .before .before .before .before .before .before .exec2 .kept .1 .1 .1 .1 .1 .1 .1 .1 .1 .0 ∙ (c .before .before .before .before .before .before .before .before .before .before .before .before .before .before .before .before .before .before .before .before .before .before .before .before .before .before .loop .inv) .scratch
+
+exec-returns-12 : (t : ℕ) → exec-lts.Need-returns-12 (exec-cs t) (exec-at t) exec.Post exec-Inv-loop exec-μ-loop
+exec-returns-12 t c = (c .before .before .before .before .before .before .before .before .before .before .before .before .before .before .before .before .before .before .before .before .before .before .before .before .before .before .loop .inv) .go (try-last (c .before .before .before .before .before .before .before .before .before .before .before .before .before .before .before .before .before .before .before .before .before .before .before .before .before .before .before .before .before .before .before .before .before .args .d) (c .before .before .before .before .before .before .before .before .before .before .before .before .before .before .before .before .before .before .before .before .before .before .before .before .before .before .before .before .before .before .before .before .before .args .optional) (c .before .before .before .before .before .before .before .before .before .before .before .before .before .before .before .before .before .before .before .before .before .before .before .before .before .before .loop .i) (c .before .before .before .before .before .before .before .before .before .before .before .before .before .before .before .before .before .before .before .before .before .before .before .before .before .before .loop .inv .inside) (c .before .before .before .before .before .before .before .before .before .before .before .before .before .before .before .before .before .before .before .before .before .before .before .before .before .before .loop .events) (c .before .before .before .before .before .before .before .before .before .before .before .before .before .before .before .before .before .before .before .before .before .before .before .before .before .before .loop .errors) (c .before .before .before .before .before .before .before .before .before .before .before .before .before .before .before .before .before .before .before .before .before .before .before .before .before .before .loop .scratch) (c .before .before .before .before .before .before .before .before .before .before .before .before .before .before .before .before .before .before .before .before .before .before .before .before .before .before .loop .inv .wf) (sym (c .before .before .before .before .before .before .before .before .before .before .before .before .before .before .before .before .before .before .before .before .before .before .before .how .given .1) ∙ c .before .before .before .before .before .before .before .before .before .before .before .before .before .before .before .before .before .before .before .before .before .before .before .before .before .part-at .ensures) (c .before .before .before .before .before .before .before .before .before .before .before .before .before .before .before .before .before .before .before .before .if3 .left) (c .before .before .before .before .before .before .before .before .before .before .before .before .before .before .before .before .before .before .before .mark .ensures) (plus (plusE (from (source (c .before .before .before .before .before .before .before .before .before .before .before .before .before .before .before .before .before .before .before .before .before .before .before .before .before .before .before .before .before .before .before .before .before .args .src .now) (c .before .before .before .before .before .before .before .before .before .before .before .before .before .before .before .before .before .before .before .before .before .before .before .before .before .before .before .before .before .before .before .before .before .args .ids .now) (c .before .before .before .before .before .before .before .before .before .before .before .before .before .before .before .before .before .before .before .before .before .before .before .before .before .before .before .before .before .before .before .before .before .args .ends .now)) (c .before .before .before .before .before .before .before .before .before .before .before .before .before .before .before .before .before .before .before .before .before .before .before .before .before .before .loop .s) (c .before .before .before .before .before .before .before .before .before .before .before .before .before .before .before .before .before .before .before .before .before .before .before .before .before .before .loop .events) (c .before .before .before .before .before .before .before .before .before .before .before .before .before .before .before .before .before .before .before .before .before .before .before .before .before .before .loop .errors) (c .before .before .before .before .before .before .before .before .before .before .before .before .before .before .before .before .before .before .before .before .before .before .before .before .before .before .loop .scratch) (c .before .before .before .before .before .before .before .before .before .before .before .before .before .before .before .before .before .before .before .before .before .before .before .before .before .before .loop .inv .wf)) (c .before .before .before .before .before .before .before .before .before .before .before .before .before .before .before .before .before .trivia3 .ensures (c .before .before .before .before .before .before .before .before .before .before .before .before .before .before .before .before .before .before .before .before .before .before .before .before .before .before .before .before .before .before .before .before .before .args .src .now))) (c .before .before .before .before .before .before .before .before .before .before .before .exec2 .ensures)) (c .before .before .before .if4 .left) (c .before .before .if5 .left) (c .before .if6 .taken) (c .rewind .ensures))
+
+exec-retry-requires-2 : (t : ℕ) → exec-lts.Need-retry-requires-2 (exec-cs t) (exec-at t) exec.Post exec-Inv-loop exec-μ-loop
+exec-retry-requires-2 t c κs = search needs
+
 exec-loop-less-4 : (t : ℕ) → exec-lts.Need-loop-less-4 (exec-cs t) (exec-at t) exec.Post exec-Inv-loop exec-μ-loop
-exec-loop-less-4 t c = row-sound (c .before .before .before .before .before .before .before .before .before .before .before .before .before .before .before .before .before .before .before .before .before .before .before .before .loop .i) (c .before .before .before .before .before .before .before .before .before .before .before .before .before .before .before .before .before .before .before .before .before .before .before .before .loop .inv .inside) (sym (c .before .before .before .before .before .before .before .before .before .before .before .before .before .before .before .before .before .before .before .before .before .p6 .given .1) ∙ c .before .before .before .before .before .before .before .before .before .before .before .before .before .before .before .before .before .before .before .before .before .before .before .part-at .ensures) .1
+exec-loop-less-4 t c = row-sound (c .before .before .before .before .before .before .before .before .before .before .before .before .before .before .before .before .before .before .before .before .before .before .before .before .before .before .loop .i) (c .before .before .before .before .before .before .before .before .before .before .before .before .before .before .before .before .before .before .before .before .before .before .before .before .before .before .loop .inv .inside) (sym (c .before .before .before .before .before .before .before .before .before .before .before .before .before .before .before .before .before .before .before .before .before .before .before .how .given .1) ∙ c .before .before .before .before .before .before .before .before .before .before .before .before .before .before .before .before .before .before .before .before .before .before .before .before .before .part-at .ensures) .1
 
 exec-loop-again-4 : (t : ℕ) → exec-lts.Need-loop-again-4 (exec-cs t) (exec-at t) exec.Post exec-Inv-loop exec-μ-loop
-exec-loop-again-4 t c = goes-on (c .before .before .before .before .before .before .before .before .before .before .before .before .before .before .before .before .before .before .before .before .before .before .before .before .loop .inv) (((again (alt-tries (c .before .before .before .before .before .before .before .before .before .before .before .before .before .before .before .before .before .before .before .before .before .before .before .before .before .before .before .before .before .before .before .args .d) (c .before .before .before .before .before .before .before .before .before .before .before .before .before .before .before .before .before .before .before .before .before .before .before .before .before .before .before .before .before .before .before .args .optional) (c .before .before .before .before .before .before .before .before .before .before .before .before .before .before .before .before .before .before .before .before .before .before .before .before .loop .i) (c .before .before .before .before .before .before .before .before .before .before .before .before .before .before .before .before .before .before .before .before .before .before .before .before .loop .inv .inside) (c .before .before .before .before .before .before .before .before .before .before .before .before .before .before .before .before .before .before .before .before .before .before .before .before .loop .events) (c .before .before .before .before .before .before .before .before .before .before .before .before .before .before .before .before .before .before .before .before .before .before .before .before .loop .errors) (c .before .before .before .before .before .before .before .before .before .before .before .before .before .before .before .before .before .before .before .before .before .before .before .before .loop .scratch) (c .before .before .before .before .before .before .before .before .before .before .before .before .before .before .before .before .before .before .before .before .before .before .before .before .loop .inv .wf) (sym (c .before .before .before .before .before .before .before .before .before .before .before .before .before .before .before .before .before .before .before .before .before .p6 .given .1) ∙ c .before .before .before .before .before .before .before .before .before .before .before .before .before .before .before .before .before .before .before .before .before .before .before .part-at .ensures) (c .before .before .before .before .before .before .before .before .before .before .before .before .before .before .before .before .before .before .if3 .left) (c .before .before .before .before .before .before .before .before .before .before .before .before .before .before .before .before .before .mark .ensures)) (plus (plusE ((alt-tries (c .before .before .before .before .before .before .before .before .before .before .before .before .before .before .before .before .before .before .before .before .before .before .before .before .before .before .before .before .before .before .before .args .d) (c .before .before .before .before .before .before .before .before .before .before .before .before .before .before .before .before .before .before .before .before .before .before .before .before .before .before .before .before .before .before .before .args .optional) (c .before .before .before .before .before .before .before .before .before .before .before .before .before .before .before .before .before .before .before .before .before .before .before .before .loop .i) (c .before .before .before .before .before .before .before .before .before .before .before .before .before .before .before .before .before .before .before .before .before .before .before .before .loop .inv .inside) (c .before .before .before .before .before .before .before .before .before .before .before .before .before .before .before .before .before .before .before .before .before .before .before .before .loop .events) (c .before .before .before .before .before .before .before .before .before .before .before .before .before .before .before .before .before .before .before .before .before .before .before .before .loop .errors) (c .before .before .before .before .before .before .before .before .before .before .before .before .before .before .before .before .before .before .before .before .before .before .before .before .loop .scratch) (c .before .before .before .before .before .before .before .before .before .before .before .before .before .before .before .before .before .before .before .before .before .before .before .before .loop .inv .wf) (sym (c .before .before .before .before .before .before .before .before .before .before .before .before .before .before .before .before .before .before .before .before .before .p6 .given .1) ∙ c .before .before .before .before .before .before .before .before .before .before .before .before .before .before .before .before .before .before .before .before .before .before .before .part-at .ensures) (c .before .before .before .before .before .before .before .before .before .before .before .before .before .before .before .before .before .before .if3 .left) (c .before .before .before .before .before .before .before .before .before .before .before .before .before .before .before .before .before .mark .ensures)) .here) (c .before .before .before .before .before .before .before .before .before .before .before .before .before .before .before .trivia3 .ensures (c .before .before .before .before .before .before .before .before .before .before .before .before .before .before .before .before .before .before .before .before .before .before .before .before .before .before .before .before .before .before .before .args .src .now))) (c .before .before .before .before .before .before .before .before .before .exec2 .ensures)) (c .before .if4 .left) (c .retry .ensures)) .here) .wf) (row-sound (c .before .before .before .before .before .before .before .before .before .before .before .before .before .before .before .before .before .before .before .before .before .before .before .before .loop .i) (c .before .before .before .before .before .before .before .before .before .before .before .before .before .before .before .before .before .before .before .before .before .before .before .before .loop .inv .inside) (sym (c .before .before .before .before .before .before .before .before .before .before .before .before .before .before .before .before .before .before .before .before .before .p6 .given .1) ∙ c .before .before .before .before .before .before .before .before .before .before .before .before .before .before .before .before .before .before .before .before .before .before .before .part-at .ensures) .1) (λ z b y. (again (alt-tries (c .before .before .before .before .before .before .before .before .before .before .before .before .before .before .before .before .before .before .before .before .before .before .before .before .before .before .before .before .before .before .before .args .d) (c .before .before .before .before .before .before .before .before .before .before .before .before .before .before .before .before .before .before .before .before .before .before .before .before .before .before .before .before .before .before .before .args .optional) (c .before .before .before .before .before .before .before .before .before .before .before .before .before .before .before .before .before .before .before .before .before .before .before .before .loop .i) (c .before .before .before .before .before .before .before .before .before .before .before .before .before .before .before .before .before .before .before .before .before .before .before .before .loop .inv .inside) (c .before .before .before .before .before .before .before .before .before .before .before .before .before .before .before .before .before .before .before .before .before .before .before .before .loop .events) (c .before .before .before .before .before .before .before .before .before .before .before .before .before .before .before .before .before .before .before .before .before .before .before .before .loop .errors) (c .before .before .before .before .before .before .before .before .before .before .before .before .before .before .before .before .before .before .before .before .before .before .before .before .loop .scratch) (c .before .before .before .before .before .before .before .before .before .before .before .before .before .before .before .before .before .before .before .before .before .before .before .before .loop .inv .wf) (sym (c .before .before .before .before .before .before .before .before .before .before .before .before .before .before .before .before .before .before .before .before .before .p6 .given .1) ∙ c .before .before .before .before .before .before .before .before .before .before .before .before .before .before .before .before .before .before .before .before .before .before .before .part-at .ensures) (c .before .before .before .before .before .before .before .before .before .before .before .before .before .before .before .before .before .before .if3 .left) (c .before .before .before .before .before .before .before .before .before .before .before .before .before .before .before .before .before .mark .ensures)) (plus (plusE ((alt-tries (c .before .before .before .before .before .before .before .before .before .before .before .before .before .before .before .before .before .before .before .before .before .before .before .before .before .before .before .before .before .before .before .args .d) (c .before .before .before .before .before .before .before .before .before .before .before .before .before .before .before .before .before .before .before .before .before .before .before .before .before .before .before .before .before .before .before .args .optional) (c .before .before .before .before .before .before .before .before .before .before .before .before .before .before .before .before .before .before .before .before .before .before .before .before .loop .i) (c .before .before .before .before .before .before .before .before .before .before .before .before .before .before .before .before .before .before .before .before .before .before .before .before .loop .inv .inside) (c .before .before .before .before .before .before .before .before .before .before .before .before .before .before .before .before .before .before .before .before .before .before .before .before .loop .events) (c .before .before .before .before .before .before .before .before .before .before .before .before .before .before .before .before .before .before .before .before .before .before .before .before .loop .errors) (c .before .before .before .before .before .before .before .before .before .before .before .before .before .before .before .before .before .before .before .before .before .before .before .before .loop .scratch) (c .before .before .before .before .before .before .before .before .before .before .before .before .before .before .before .before .before .before .before .before .before .before .before .before .loop .inv .wf) (sym (c .before .before .before .before .before .before .before .before .before .before .before .before .before .before .before .before .before .before .before .before .before .p6 .given .1) ∙ c .before .before .before .before .before .before .before .before .before .before .before .before .before .before .before .before .before .before .before .before .before .before .before .part-at .ensures) (c .before .before .before .before .before .before .before .before .before .before .before .before .before .before .before .before .before .before .if3 .left) (c .before .before .before .before .before .before .before .before .before .before .before .before .before .before .before .before .before .mark .ensures)) .here) (c .before .before .before .before .before .before .before .before .before .before .before .before .before .before .before .trivia3 .ensures (c .before .before .before .before .before .before .before .before .before .before .before .before .before .before .before .before .before .before .before .before .before .before .before .before .before .before .before .before .before .before .before .args .src .now))) (c .before .before .before .before .before .before .before .before .before .exec2 .ensures)) (c .before .if4 .left) (c .retry .ensures)) .go y) (c .before .before .before .before .before .before .before .before .before .exec2 .kept .1 .1 .1 .1 .1 .1 .1 .0 ∙ c .before .before .before .before .before .before .before .before .before .before .before .before .before .before .before .trivia3 .kept .1 .1 .1 .0) (c .before .before .before .before .before .before .before .before .before .exec2 .kept .1 .1 .1 .1 .1 .1 .1 .1 .0) (c .before .before .before .before .before .before .before .before .before .exec2 .kept .1 .1 .1 .1 .1 .1 .1 .1 .1 .0)
-
-abbrev last-cs : ℕ → last-lts.Claims
-last-cs t = (mark-reads.Asked, mark-reads.Learnt, trivia-reads.Asked, trivia-reads.Learnt, exec-below t, exec.Post, rewind-reads.Asked, rewind-reads.Learnt)
-
-last-returns : (t : ℕ) → last-lts.Need-returns (last-cs t) (last-at t) last.Post
-last-returns t c = stops (from (source (c .before .before .before .before .before .before .before .before .args .src .now) (c .before .before .before .before .before .before .before .before .args .ids .now) (c .before .before .before .before .before .before .before .before .args .ends .now)) (c .before .before .before .before .before .before .before .before .args .s) (c .before .before .before .before .before .before .before .before .args .events .now) (c .before .before .before .before .before .before .before .before .args .errors .now) (c .before .before .before .before .before .before .before .before .args .scratch .now) (c .before .before .before .before .before .before .before .before .pre .1 .1)) (c .before .before .before .before .before .before .before .before .args .d) true (G.last (prog (c .before .before .before .before .before .before .before .before .args .p))) tt (c .if1 .taken)
-
-last-mark-requires : (t : ℕ) → last-lts.Need-mark-requires (last-cs t) (last-at t) last.Post
-last-mark-requires t c κs = search needs
-
-last-trivia-requires : (t : ℕ) → last-lts.Need-trivia-requires (last-cs t) (last-at t) last.Post
-last-trivia-requires t c κs = asksE (from (source (c .before .before .before .before .before .before .before .before .before .before .args .src .now) (c .before .before .before .before .before .before .before .before .before .before .args .ids .now) (c .before .before .before .before .before .before .before .before .before .before .args .ends .now)) (c .before .before .before .before .before .before .before .before .before .before .args .s) (c .before .before .before .before .before .before .before .before .before .before .args .events .now) (c .before .before .before .before .before .before .before .before .before .before .args .errors .now) (c .before .before .before .before .before .before .before .before .before .before .args .scratch .now) (c .before .before .before .before .before .before .before .before .before .before .pre .1 .1)) (c .before .before .before .before .before .before .before .before .before .before .pre .1 .0)
-
-last-exec-requires : (t : ℕ) → last-lts.Need-exec-requires (last-cs t) (last-at t) last.Post
-last-exec-requires t c κs = (omega (arith, c .before .before .before .before .before .before .before .before .before .before .before .before .before .before .before .before .pre .0), ((c .before .before .before .before .before .before .before .before .before .before .before .before .before .before .before .before .pre .1 .0), (plusE (here (from (source (c .before .before .before .before .before .before .before .before .before .before .before .before .before .before .before .before .args .src .now) (c .before .before .before .before .before .before .before .before .before .before .before .before .before .before .before .before .args .ids .now) (c .before .before .before .before .before .before .before .before .before .before .before .before .before .before .before .before .args .ends .now)) (c .before .before .before .before .before .before .before .before .before .before .before .before .before .before .before .before .args .s) (c .before .before .before .before .before .before .before .before .before .before .before .before .before .before .before .before .args .events .now) (c .before .before .before .before .before .before .before .before .before .before .before .before .before .before .before .before .args .errors .now) (c .before .before .before .before .before .before .before .before .before .before .before .before .before .before .before .before .args .scratch .now) (c .before .before .before .before .before .before .before .before .before .before .before .before .before .before .before .before .pre .1 .1))) (c .before .before .before .before .before .trivia .ensures (c .before .before .before .before .before .before .before .before .before .before .before .before .before .before .before .before .args .src .now))) .wf, c .before .before .before .before .before .before .before .before .before .before .before .before .before .before .before .before .pre .1 .2))
-
-last-rewind-requires : (t : ℕ) → last-lts.Need-rewind-requires (last-cs t) (last-at t) last.Post
-last-rewind-requires t c κs = search needs
-
-last-same-length : (t : ℕ) → last-lts.Need-same-length (last-cs t) (last-at t) last.Post
-last-same-length t c = c .before .before .before .before .before .before .before .before .before .exec .kept .1 .1 .1 .1 .1 .1 .1 .0 ∙ c .before .before .before .before .before .before .before .before .before .before .before .before .before .before .before .trivia .kept .1 .1 .1 .0
-
-last-same-length-2 : (t : ℕ) → last-lts.Need-same-length-2 (last-cs t) (last-at t) last.Post
-last-same-length-2 t c = c .before .before .before .before .before .before .before .before .before .exec .kept .1 .1 .1 .1 .1 .1 .1 .1 .0
-
-last-same-length-3 : (t : ℕ) → last-lts.Need-same-length-3 (last-cs t) (last-at t) last.Post
-last-same-length-3 t c = c .before .before .before .before .before .before .before .before .before .exec .kept .1 .1 .1 .1 .1 .1 .1 .1 .1 .0
-
-last-returns-2 : (t : ℕ) → last-lts.Need-returns-2 (last-cs t) (last-at t) last.Post
-last-returns-2 t c = tried-last (tries (c .before .before .before .before .before .before .before .before .before .before .before .before .before .before .before .before .before .before .before .before .before .before .before .before .before .before .args .d) true (G.last (prog (c .before .before .before .before .before .before .before .before .before .before .before .before .before .before .before .before .before .before .before .before .before .before .before .before .before .before .args .p))) (from (source (c .before .before .before .before .before .before .before .before .before .before .before .before .before .before .before .before .before .before .before .before .before .before .before .before .before .before .args .src .now) (c .before .before .before .before .before .before .before .before .before .before .before .before .before .before .before .before .before .before .before .before .before .before .before .before .before .before .args .ids .now) (c .before .before .before .before .before .before .before .before .before .before .before .before .before .before .before .before .before .before .before .before .before .before .before .before .before .before .args .ends .now)) (c .before .before .before .before .before .before .before .before .before .before .before .before .before .before .before .before .before .before .before .before .before .before .before .before .before .before .args .s) (c .before .before .before .before .before .before .before .before .before .before .before .before .before .before .before .before .before .before .before .before .before .before .before .before .before .before .args .events .now) (c .before .before .before .before .before .before .before .before .before .before .before .before .before .before .before .before .before .before .before .before .before .before .before .before .before .before .args .errors .now) (c .before .before .before .before .before .before .before .before .before .before .before .before .before .before .before .before .before .before .before .before .before .before .before .before .before .before .args .scratch .now) (c .before .before .before .before .before .before .before .before .before .before .before .before .before .before .before .before .before .before .before .before .before .before .before .before .before .before .pre .1 .1)) (c .before .before .before .before .before .before .before .before .before .before .before .before .before .before .before .before .before .before .if1 .left) (c .before .before .before .before .before .before .before .before .before .before .before .before .before .before .before .before .before .mark .ensures)) (plus (plusE (here (from (source (c .before .before .before .before .before .before .before .before .before .before .before .before .before .before .before .before .before .before .before .before .before .before .before .before .before .before .args .src .now) (c .before .before .before .before .before .before .before .before .before .before .before .before .before .before .before .before .before .before .before .before .before .before .before .before .before .before .args .ids .now) (c .before .before .before .before .before .before .before .before .before .before .before .before .before .before .before .before .before .before .before .before .before .before .before .before .before .before .args .ends .now)) (c .before .before .before .before .before .before .before .before .before .before .before .before .before .before .before .before .before .before .before .before .before .before .before .before .before .before .args .s) (c .before .before .before .before .before .before .before .before .before .before .before .before .before .before .before .before .before .before .before .before .before .before .before .before .before .before .args .events .now) (c .before .before .before .before .before .before .before .before .before .before .before .before .before .before .before .before .before .before .before .before .before .before .before .before .before .before .args .errors .now) (c .before .before .before .before .before .before .before .before .before .before .before .before .before .before .before .before .before .before .before .before .before .before .before .before .before .before .args .scratch .now) (c .before .before .before .before .before .before .before .before .before .before .before .before .before .before .before .before .before .before .before .before .before .before .before .before .before .before .pre .1 .1))) (c .before .before .before .before .before .before .before .before .before .before .before .before .before .before .before .trivia .ensures (c .before .before .before .before .before .before .before .before .before .before .before .before .before .before .before .before .before .before .before .before .before .before .before .before .before .before .args .src .now))) (c .before .before .before .before .before .before .before .before .before .exec .ensures)) (c .rewind .ensures ∙ lost-back _ _ (c .before .if2 .taken))
-
-last-same-length-4 : (t : ℕ) → last-lts.Need-same-length-4 (last-cs t) (last-at t) last.Post
-last-same-length-4 t c = c .before .before .before .before .before .before .before .before .exec .kept .1 .1 .1 .1 .1 .1 .1 .0 ∙ c .before .before .before .before .before .before .before .before .before .before .before .before .before .before .trivia .kept .1 .1 .1 .0
-
-last-same-length-5 : (t : ℕ) → last-lts.Need-same-length-5 (last-cs t) (last-at t) last.Post
-last-same-length-5 t c = c .before .before .before .before .before .before .before .before .exec .kept .1 .1 .1 .1 .1 .1 .1 .1 .0
-
-last-same-length-6 : (t : ℕ) → last-lts.Need-same-length-6 (last-cs t) (last-at t) last.Post
-last-same-length-6 t c = c .before .before .before .before .before .before .before .before .exec .kept .1 .1 .1 .1 .1 .1 .1 .1 .1 .0
-
-last-returns-3 : (t : ℕ) → last-lts.Need-returns-3 (last-cs t) (last-at t) last.Post
-last-returns-3 t c = tried-last (tries (c .before .before .before .before .before .before .before .before .before .before .before .before .before .before .before .before .before .before .before .before .before .before .before .before .before .args .d) true (G.last (prog (c .before .before .before .before .before .before .before .before .before .before .before .before .before .before .before .before .before .before .before .before .before .before .before .before .before .args .p))) (from (source (c .before .before .before .before .before .before .before .before .before .before .before .before .before .before .before .before .before .before .before .before .before .before .before .before .before .args .src .now) (c .before .before .before .before .before .before .before .before .before .before .before .before .before .before .before .before .before .before .before .before .before .before .before .before .before .args .ids .now) (c .before .before .before .before .before .before .before .before .before .before .before .before .before .before .before .before .before .before .before .before .before .before .before .before .before .args .ends .now)) (c .before .before .before .before .before .before .before .before .before .before .before .before .before .before .before .before .before .before .before .before .before .before .before .before .before .args .s) (c .before .before .before .before .before .before .before .before .before .before .before .before .before .before .before .before .before .before .before .before .before .before .before .before .before .args .events .now) (c .before .before .before .before .before .before .before .before .before .before .before .before .before .before .before .before .before .before .before .before .before .before .before .before .before .args .errors .now) (c .before .before .before .before .before .before .before .before .before .before .before .before .before .before .before .before .before .before .before .before .before .before .before .before .before .args .scratch .now) (c .before .before .before .before .before .before .before .before .before .before .before .before .before .before .before .before .before .before .before .before .before .before .before .before .before .pre .1 .1)) (c .before .before .before .before .before .before .before .before .before .before .before .before .before .before .before .before .before .if1 .left) (c .before .before .before .before .before .before .before .before .before .before .before .before .before .before .before .before .mark .ensures)) (plus (plusE (here (from (source (c .before .before .before .before .before .before .before .before .before .before .before .before .before .before .before .before .before .before .before .before .before .before .before .before .before .args .src .now) (c .before .before .before .before .before .before .before .before .before .before .before .before .before .before .before .before .before .before .before .before .before .before .before .before .before .args .ids .now) (c .before .before .before .before .before .before .before .before .before .before .before .before .before .before .before .before .before .before .before .before .before .before .before .before .before .args .ends .now)) (c .before .before .before .before .before .before .before .before .before .before .before .before .before .before .before .before .before .before .before .before .before .before .before .before .before .args .s) (c .before .before .before .before .before .before .before .before .before .before .before .before .before .before .before .before .before .before .before .before .before .before .before .before .before .args .events .now) (c .before .before .before .before .before .before .before .before .before .before .before .before .before .before .before .before .before .before .before .before .before .before .before .before .before .args .errors .now) (c .before .before .before .before .before .before .before .before .before .before .before .before .before .before .before .before .before .before .before .before .before .before .before .before .before .args .scratch .now) (c .before .before .before .before .before .before .before .before .before .before .before .before .before .before .before .before .before .before .before .before .before .before .before .before .before .pre .1 .1))) (c .before .before .before .before .before .before .before .before .before .before .before .before .before .before .trivia .ensures (c .before .before .before .before .before .before .before .before .before .before .before .before .before .before .before .before .before .before .before .before .before .before .before .before .before .args .src .now))) (c .before .before .before .before .before .before .before .before .exec .ensures)) (lost-on _ _ (c .if2 .left))
+exec-loop-again-4 t c = goes-on (c .before .before .before .before .before .before .before .before .before .before .before .before .before .before .before .before .before .before .before .before .before .before .before .before .before .before .loop .inv) ((others (c .before .before .before .before .before .before .before .before .before .before .before .before .before .before .before .before .before .before .before .before .before .before .before .before .before .before .before .before .before .before .before .before .before .args .d) (c .before .before .before .before .before .before .before .before .before .before .before .before .before .before .before .before .before .before .before .before .before .before .before .before .before .before .before .before .before .before .before .before .before .args .optional) (c .before .before .before .before .before .before .before .before .before .before .before .before .before .before .before .before .before .before .before .before .before .before .before .before .before .before .loop .i) (c .before .before .before .before .before .before .before .before .before .before .before .before .before .before .before .before .before .before .before .before .before .before .before .before .before .before .loop .inv .inside) (c .before .before .before .before .before .before .before .before .before .before .before .before .before .before .before .before .before .before .before .before .before .before .before .before .before .before .loop .events) (c .before .before .before .before .before .before .before .before .before .before .before .before .before .before .before .before .before .before .before .before .before .before .before .before .before .before .loop .errors) (c .before .before .before .before .before .before .before .before .before .before .before .before .before .before .before .before .before .before .before .before .before .before .before .before .before .before .loop .scratch) (c .before .before .before .before .before .before .before .before .before .before .before .before .before .before .before .before .before .before .before .before .before .before .before .before .before .before .loop .inv .wf) (sym (c .before .before .before .before .before .before .before .before .before .before .before .before .before .before .before .before .before .before .before .before .before .before .before .how .given .1) ∙ c .before .before .before .before .before .before .before .before .before .before .before .before .before .before .before .before .before .before .before .before .before .before .before .before .before .part-at .ensures) (c .before .before .before .before .before .before .before .before .before .before .before .before .before .before .before .before .before .before .before .before .if3 .left) (c .before .before .before .before .before .before .before .before .before .before .before .before .before .before .before .before .before .before .before .mark .ensures) (plus (plusE (from (source (c .before .before .before .before .before .before .before .before .before .before .before .before .before .before .before .before .before .before .before .before .before .before .before .before .before .before .before .before .before .before .before .before .before .args .src .now) (c .before .before .before .before .before .before .before .before .before .before .before .before .before .before .before .before .before .before .before .before .before .before .before .before .before .before .before .before .before .before .before .before .before .args .ids .now) (c .before .before .before .before .before .before .before .before .before .before .before .before .before .before .before .before .before .before .before .before .before .before .before .before .before .before .before .before .before .before .before .before .before .args .ends .now)) (c .before .before .before .before .before .before .before .before .before .before .before .before .before .before .before .before .before .before .before .before .before .before .before .before .before .before .loop .s) (c .before .before .before .before .before .before .before .before .before .before .before .before .before .before .before .before .before .before .before .before .before .before .before .before .before .before .loop .events) (c .before .before .before .before .before .before .before .before .before .before .before .before .before .before .before .before .before .before .before .before .before .before .before .before .before .before .loop .errors) (c .before .before .before .before .before .before .before .before .before .before .before .before .before .before .before .before .before .before .before .before .before .before .before .before .before .before .loop .scratch) (c .before .before .before .before .before .before .before .before .before .before .before .before .before .before .before .before .before .before .before .before .before .before .before .before .before .before .loop .inv .wf)) (c .before .before .before .before .before .before .before .before .before .before .before .before .before .before .before .before .before .trivia3 .ensures (c .before .before .before .before .before .before .before .before .before .before .before .before .before .before .before .before .before .before .before .before .before .before .before .before .before .before .before .before .before .before .before .before .before .args .src .now))) (c .before .before .before .before .before .before .before .before .before .before .before .exec2 .ensures)) (c .before .before .before .if4 .left) (c .retry2 .ensures) .here) .wf) (row-sound (c .before .before .before .before .before .before .before .before .before .before .before .before .before .before .before .before .before .before .before .before .before .before .before .before .before .before .loop .i) (c .before .before .before .before .before .before .before .before .before .before .before .before .before .before .before .before .before .before .before .before .before .before .before .before .before .before .loop .inv .inside) (sym (c .before .before .before .before .before .before .before .before .before .before .before .before .before .before .before .before .before .before .before .before .before .before .before .how .given .1) ∙ c .before .before .before .before .before .before .before .before .before .before .before .before .before .before .before .before .before .before .before .before .before .before .before .before .before .part-at .ensures) .1) (λ z b y. try-others (c .before .before .before .before .before .before .before .before .before .before .before .before .before .before .before .before .before .before .before .before .before .before .before .before .before .before .before .before .before .before .before .before .before .args .d) (c .before .before .before .before .before .before .before .before .before .before .before .before .before .before .before .before .before .before .before .before .before .before .before .before .before .before .before .before .before .before .before .before .before .args .optional) (c .before .before .before .before .before .before .before .before .before .before .before .before .before .before .before .before .before .before .before .before .before .before .before .before .before .before .loop .i) (c .before .before .before .before .before .before .before .before .before .before .before .before .before .before .before .before .before .before .before .before .before .before .before .before .before .before .loop .inv .inside) (c .before .before .before .before .before .before .before .before .before .before .before .before .before .before .before .before .before .before .before .before .before .before .before .before .before .before .loop .events) (c .before .before .before .before .before .before .before .before .before .before .before .before .before .before .before .before .before .before .before .before .before .before .before .before .before .before .loop .errors) (c .before .before .before .before .before .before .before .before .before .before .before .before .before .before .before .before .before .before .before .before .before .before .before .before .before .before .loop .scratch) (c .before .before .before .before .before .before .before .before .before .before .before .before .before .before .before .before .before .before .before .before .before .before .before .before .before .before .loop .inv .wf) (sym (c .before .before .before .before .before .before .before .before .before .before .before .before .before .before .before .before .before .before .before .before .before .before .before .how .given .1) ∙ c .before .before .before .before .before .before .before .before .before .before .before .before .before .before .before .before .before .before .before .before .before .before .before .before .before .part-at .ensures) (c .before .before .before .before .before .before .before .before .before .before .before .before .before .before .before .before .before .before .before .before .if3 .left) (c .before .before .before .before .before .before .before .before .before .before .before .before .before .before .before .before .before .before .before .mark .ensures) (plus (plusE (from (source (c .before .before .before .before .before .before .before .before .before .before .before .before .before .before .before .before .before .before .before .before .before .before .before .before .before .before .before .before .before .before .before .before .before .args .src .now) (c .before .before .before .before .before .before .before .before .before .before .before .before .before .before .before .before .before .before .before .before .before .before .before .before .before .before .before .before .before .before .before .before .before .args .ids .now) (c .before .before .before .before .before .before .before .before .before .before .before .before .before .before .before .before .before .before .before .before .before .before .before .before .before .before .before .before .before .before .before .before .before .args .ends .now)) (c .before .before .before .before .before .before .before .before .before .before .before .before .before .before .before .before .before .before .before .before .before .before .before .before .before .before .loop .s) (c .before .before .before .before .before .before .before .before .before .before .before .before .before .before .before .before .before .before .before .before .before .before .before .before .before .before .loop .events) (c .before .before .before .before .before .before .before .before .before .before .before .before .before .before .before .before .before .before .before .before .before .before .before .before .before .before .loop .errors) (c .before .before .before .before .before .before .before .before .before .before .before .before .before .before .before .before .before .before .before .before .before .before .before .before .before .before .loop .scratch) (c .before .before .before .before .before .before .before .before .before .before .before .before .before .before .before .before .before .before .before .before .before .before .before .before .before .before .loop .inv .wf)) (c .before .before .before .before .before .before .before .before .before .before .before .before .before .before .before .before .before .trivia3 .ensures (c .before .before .before .before .before .before .before .before .before .before .before .before .before .before .before .before .before .before .before .before .before .before .before .before .before .before .before .before .before .before .before .before .before .args .src .now))) (c .before .before .before .before .before .before .before .before .before .before .before .exec2 .ensures)) (c .before .before .if5 .left) (c .before .if6 .left) (c .before .before .before .if4 .left) (c .retry2 .ensures) y) (c .before .before .before .before .before .before .before .before .before .before .before .exec2 .kept .1 .1 .1 .1 .1 .1 .1 .0 ∙ c .before .before .before .before .before .before .before .before .before .before .before .before .before .before .before .before .before .trivia3 .kept .1 .1 .1 .0) (c .before .before .before .before .before .before .before .before .before .before .before .exec2 .kept .1 .1 .1 .1 .1 .1 .1 .1 .0) (c .before .before .before .before .before .before .before .before .before .before .before .exec2 .kept .1 .1 .1 .1 .1 .1 .1 .1 .1 .0)
 
 abbrev many-Inv-loop : many-lts.InvT-loop
 many-Inv-loop p s₀ d src ids ends events₀ errors₀ scratch₀ n₀ s events errors scratch n = Turns (reads d true (prog p)) (source src ids ends) s₀ s n₀ n events₀ errors₀ scratch₀ events errors scratch
@@ -575,51 +503,8 @@ node-same-length-5 t c = c .before .before .before .before .before .before .befo
 node-returns-2 : (t : ℕ) → node-lts.Need-returns-2 (node-cs t) (node-at t) node.Post
 node-returns-2 t c = made (production (c .before .before .before .before .before .before .before .before .before .before .before .before .before .before .before .before .before .before .before .before .before .before .before .before .before .before .before .before .args .kind)) (c .before .before .before .before .before .before .before .before .before .before .before .before .before .before .before .before .before .before .before .before .before .before .before .before .before .before .before .before .args .kind) (c .before .before .before .before .before .before .before .before .before .before .before .before .before .before .before .before .before .before .before .before .before .before .before .before .before .before .before .before .pre .1 .2 .known) (c .before .before .before .before .before .before .before .before .before .before .before .before .before .before .before .before .before .before .before .before .before .before .before .before .before .before .before .before .args .optional) (c .before .before .before .before .before .before .before .before .before .before .before .before .before .before .before .before .before .before .before .before .before .before .before .before .before .before .before .before .args .d) (c .before .before .before .before .before .before .before .before .before .before .before .before .before .before .before .before .before .before .before .before .before .before .before .before .before .before .before .before .args .events .now) (c .before .before .before .before .before .before .before .before .before .before .before .before .before .before .before .before .before .before .before .before .before .before .before .before .before .before .before .before .args .errors .now) (c .before .before .before .before .before .before .before .before .before .before .before .before .before .before .before .before .before .before .before .before .before .before .before .before .before .before .before .before .args .scratch .now) (c .before .before .before .before .before .before .before .before .before .before .before .before .before .before .before .before .before .before .before .before .before .before .before .before .before .before .before .before .pre .1 .1) (c .before .before .before .before .before .before .before .before .before .before .before .before .before .before .before .before .before .before .before .before .begin .ensures (c .before .before .before .before .before .before .before .before .before .before .before .before .before .before .before .before .before .before .before .before .before .before .before .before .before .before .before .before .args .src .now)) (c .before .before .before .before .before .before .before .before .before .before .before .before .before .before .before .before .before .if1 .left) (is-line ((c .before .before .before .before .before .before .before .before .before .before .before .before .before .before .before .before .before .before .before .before .before .before .before .before .before .before .before .before .args .d) - 1) (c .before .before .before .before .before .before .before .before .before .before .before .before .before .before .before .before .before .before .before .before .before .before .before .before .before .before .before .before .args .optional) (c .before .before .before .before .before .before .before .before .before .before .before .before .before .before .before .before .before .before .before .before .before .before .before .before .before .before .before .before .pre .1 .2) (c .before .before .before .before .before .before .before .before .before .before .before .before .before .exec .ensures)) (c .before .before .before .before .end2 .ensures _)
 
-abbrev opt-cs : ℕ → opt-lts.Claims
-opt-cs t = (mark-reads.Asked, mark-reads.Learnt, trivia-reads.Asked, trivia-reads.Learnt, exec-below t, exec.Post, retry-reads.Asked, retry-reads.Learnt)
-
-opt-returns : (t : ℕ) → opt-lts.Need-returns (opt-cs t) (opt-at t) opt.Post
-opt-returns t c = stops (from (source (c .before .before .before .before .before .before .before .before .args .src .now) (c .before .before .before .before .before .before .before .before .args .ids .now) (c .before .before .before .before .before .before .before .before .args .ends .now)) (c .before .before .before .before .before .before .before .before .args .s) (c .before .before .before .before .before .before .before .before .args .events .now) (c .before .before .before .before .before .before .before .before .args .errors .now) (c .before .before .before .before .before .before .before .before .args .scratch .now) (c .before .before .before .before .before .before .before .before .pre .1 .1)) (c .before .before .before .before .before .before .before .before .args .d) true (G.opt (prog (c .before .before .before .before .before .before .before .before .args .p))) tt (c .if1 .taken)
-
-opt-mark-requires : (t : ℕ) → opt-lts.Need-mark-requires (opt-cs t) (opt-at t) opt.Post
-opt-mark-requires t c κs = search needs
-
-opt-trivia-requires : (t : ℕ) → opt-lts.Need-trivia-requires (opt-cs t) (opt-at t) opt.Post
-opt-trivia-requires t c κs = asksE (from (source (c .before .before .before .before .before .before .before .before .before .before .args .src .now) (c .before .before .before .before .before .before .before .before .before .before .args .ids .now) (c .before .before .before .before .before .before .before .before .before .before .args .ends .now)) (c .before .before .before .before .before .before .before .before .before .before .args .s) (c .before .before .before .before .before .before .before .before .before .before .args .events .now) (c .before .before .before .before .before .before .before .before .before .before .args .errors .now) (c .before .before .before .before .before .before .before .before .before .before .args .scratch .now) (c .before .before .before .before .before .before .before .before .before .before .pre .1 .1)) (c .before .before .before .before .before .before .before .before .before .before .pre .1 .0)
-
-opt-exec-requires : (t : ℕ) → opt-lts.Need-exec-requires (opt-cs t) (opt-at t) opt.Post
-opt-exec-requires t c κs = (omega (arith, c .before .before .before .before .before .before .before .before .before .before .before .before .before .before .before .before .pre .0), ((c .before .before .before .before .before .before .before .before .before .before .before .before .before .before .before .before .pre .1 .0), (plusE (here (from (source (c .before .before .before .before .before .before .before .before .before .before .before .before .before .before .before .before .args .src .now) (c .before .before .before .before .before .before .before .before .before .before .before .before .before .before .before .before .args .ids .now) (c .before .before .before .before .before .before .before .before .before .before .before .before .before .before .before .before .args .ends .now)) (c .before .before .before .before .before .before .before .before .before .before .before .before .before .before .before .before .args .s) (c .before .before .before .before .before .before .before .before .before .before .before .before .before .before .before .before .args .events .now) (c .before .before .before .before .before .before .before .before .before .before .before .before .before .before .before .before .args .errors .now) (c .before .before .before .before .before .before .before .before .before .before .before .before .before .before .before .before .args .scratch .now) (c .before .before .before .before .before .before .before .before .before .before .before .before .before .before .before .before .pre .1 .1))) (c .before .before .before .before .before .trivia .ensures (c .before .before .before .before .before .before .before .before .before .before .before .before .before .before .before .before .args .src .now))) .wf, c .before .before .before .before .before .before .before .before .before .before .before .before .before .before .before .before .pre .1 .2))
-
-opt-retry-requires : (t : ℕ) → opt-lts.Need-retry-requires (opt-cs t) (opt-at t) opt.Post
-opt-retry-requires t c κs = search needs
-
-opt-same-length : (t : ℕ) → opt-lts.Need-same-length (opt-cs t) (opt-at t) opt.Post
-opt-same-length t c = c .before .before .before .before .before .before .before .before .before .exec .kept .1 .1 .1 .1 .1 .1 .1 .0 ∙ c .before .before .before .before .before .before .before .before .before .before .before .before .before .before .before .trivia .kept .1 .1 .1 .0
-
-opt-same-length-2 : (t : ℕ) → opt-lts.Need-same-length-2 (opt-cs t) (opt-at t) opt.Post
-opt-same-length-2 t c = c .before .before .before .before .before .before .before .before .before .exec .kept .1 .1 .1 .1 .1 .1 .1 .1 .0
-
-opt-same-length-3 : (t : ℕ) → opt-lts.Need-same-length-3 (opt-cs t) (opt-at t) opt.Post
-opt-same-length-3 t c = c .before .before .before .before .before .before .before .before .before .exec .kept .1 .1 .1 .1 .1 .1 .1 .1 .1 .0
-
-opt-returns-2 : (t : ℕ) → opt-lts.Need-returns-2 (opt-cs t) (opt-at t) opt.Post
-opt-returns-2 t c = waives (c .before .before .before .before .before .before .before .before .before .before .before .before .before .before .before .before .before .before .before .before .before .before .before .before .before .before .args .d) true (prog (c .before .before .before .before .before .before .before .before .before .before .before .before .before .before .before .before .before .before .before .before .before .before .before .before .before .before .args .p)) (from (source (c .before .before .before .before .before .before .before .before .before .before .before .before .before .before .before .before .before .before .before .before .before .before .before .before .before .before .args .src .now) (c .before .before .before .before .before .before .before .before .before .before .before .before .before .before .before .before .before .before .before .before .before .before .before .before .before .before .args .ids .now) (c .before .before .before .before .before .before .before .before .before .before .before .before .before .before .before .before .before .before .before .before .before .before .before .before .before .before .args .ends .now)) (c .before .before .before .before .before .before .before .before .before .before .before .before .before .before .before .before .before .before .before .before .before .before .before .before .before .before .args .s) (c .before .before .before .before .before .before .before .before .before .before .before .before .before .before .before .before .before .before .before .before .before .before .before .before .before .before .args .events .now) (c .before .before .before .before .before .before .before .before .before .before .before .before .before .before .before .before .before .before .before .before .before .before .before .before .before .before .args .errors .now) (c .before .before .before .before .before .before .before .before .before .before .before .before .before .before .before .before .before .before .before .before .before .before .before .before .before .before .args .scratch .now) (c .before .before .before .before .before .before .before .before .before .before .before .before .before .before .before .before .before .before .before .before .before .before .before .before .before .before .pre .1 .1)) (c .before .before .before .before .before .before .before .before .before .before .before .before .before .before .before .before .before .before .if1 .left) (c .before .before .before .before .before .before .before .before .before .before .before .before .before .before .before .before .before .mark .ensures) (plus (plusE (here (from (source (c .before .before .before .before .before .before .before .before .before .before .before .before .before .before .before .before .before .before .before .before .before .before .before .before .before .before .args .src .now) (c .before .before .before .before .before .before .before .before .before .before .before .before .before .before .before .before .before .before .before .before .before .before .before .before .before .before .args .ids .now) (c .before .before .before .before .before .before .before .before .before .before .before .before .before .before .before .before .before .before .before .before .before .before .before .before .before .before .args .ends .now)) (c .before .before .before .before .before .before .before .before .before .before .before .before .before .before .before .before .before .before .before .before .before .before .before .before .before .before .args .s) (c .before .before .before .before .before .before .before .before .before .before .before .before .before .before .before .before .before .before .before .before .before .before .before .before .before .before .args .events .now) (c .before .before .before .before .before .before .before .before .before .before .before .before .before .before .before .before .before .before .before .before .before .before .before .before .before .before .args .errors .now) (c .before .before .before .before .before .before .before .before .before .before .before .before .before .before .before .before .before .before .before .before .before .before .before .before .before .before .args .scratch .now) (c .before .before .before .before .before .before .before .before .before .before .before .before .before .before .before .before .before .before .before .before .before .before .before .before .before .before .pre .1 .1))) (c .before .before .before .before .before .before .before .before .before .before .before .before .before .before .before .trivia .ensures (c .before .before .before .before .before .before .before .before .before .before .before .before .before .before .before .before .before .before .before .before .before .before .before .before .before .before .args .src .now))) (c .before .before .before .before .before .before .before .before .before .exec .ensures)) (c .retry .ensures ∙ waived-back _ _ (c .before .if2 .taken))
-
-opt-same-length-4 : (t : ℕ) → opt-lts.Need-same-length-4 (opt-cs t) (opt-at t) opt.Post
-opt-same-length-4 t c = c .before .before .before .before .before .before .before .before .exec .kept .1 .1 .1 .1 .1 .1 .1 .0 ∙ c .before .before .before .before .before .before .before .before .before .before .before .before .before .before .trivia .kept .1 .1 .1 .0
-
-opt-same-length-5 : (t : ℕ) → opt-lts.Need-same-length-5 (opt-cs t) (opt-at t) opt.Post
-opt-same-length-5 t c = c .before .before .before .before .before .before .before .before .exec .kept .1 .1 .1 .1 .1 .1 .1 .1 .0
-
-opt-same-length-6 : (t : ℕ) → opt-lts.Need-same-length-6 (opt-cs t) (opt-at t) opt.Post
-opt-same-length-6 t c = c .before .before .before .before .before .before .before .before .exec .kept .1 .1 .1 .1 .1 .1 .1 .1 .1 .0
-
-opt-returns-3 : (t : ℕ) → opt-lts.Need-returns-3 (opt-cs t) (opt-at t) opt.Post
-opt-returns-3 t c = waives (c .before .before .before .before .before .before .before .before .before .before .before .before .before .before .before .before .before .before .before .before .before .before .before .before .before .args .d) true (prog (c .before .before .before .before .before .before .before .before .before .before .before .before .before .before .before .before .before .before .before .before .before .before .before .before .before .args .p)) (from (source (c .before .before .before .before .before .before .before .before .before .before .before .before .before .before .before .before .before .before .before .before .before .before .before .before .before .args .src .now) (c .before .before .before .before .before .before .before .before .before .before .before .before .before .before .before .before .before .before .before .before .before .before .before .before .before .args .ids .now) (c .before .before .before .before .before .before .before .before .before .before .before .before .before .before .before .before .before .before .before .before .before .before .before .before .before .args .ends .now)) (c .before .before .before .before .before .before .before .before .before .before .before .before .before .before .before .before .before .before .before .before .before .before .before .before .before .args .s) (c .before .before .before .before .before .before .before .before .before .before .before .before .before .before .before .before .before .before .before .before .before .before .before .before .before .args .events .now) (c .before .before .before .before .before .before .before .before .before .before .before .before .before .before .before .before .before .before .before .before .before .before .before .before .before .args .errors .now) (c .before .before .before .before .before .before .before .before .before .before .before .before .before .before .before .before .before .before .before .before .before .before .before .before .before .args .scratch .now) (c .before .before .before .before .before .before .before .before .before .before .before .before .before .before .before .before .before .before .before .before .before .before .before .before .before .pre .1 .1)) (c .before .before .before .before .before .before .before .before .before .before .before .before .before .before .before .before .before .if1 .left) (c .before .before .before .before .before .before .before .before .before .before .before .before .before .before .before .before .mark .ensures) (plus (plusE (here (from (source (c .before .before .before .before .before .before .before .before .before .before .before .before .before .before .before .before .before .before .before .before .before .before .before .before .before .args .src .now) (c .before .before .before .before .before .before .before .before .before .before .before .before .before .before .before .before .before .before .before .before .before .before .before .before .before .args .ids .now) (c .before .before .before .before .before .before .before .before .before .before .before .before .before .before .before .before .before .before .before .before .before .before .before .before .before .args .ends .now)) (c .before .before .before .before .before .before .before .before .before .before .before .before .before .before .before .before .before .before .before .before .before .before .before .before .before .args .s) (c .before .before .before .before .before .before .before .before .before .before .before .before .before .before .before .before .before .before .before .before .before .before .before .before .before .args .events .now) (c .before .before .before .before .before .before .before .before .before .before .before .before .before .before .before .before .before .before .before .before .before .before .before .before .before .args .errors .now) (c .before .before .before .before .before .before .before .before .before .before .before .before .before .before .before .before .before .before .before .before .before .before .before .before .before .args .scratch .now) (c .before .before .before .before .before .before .before .before .before .before .before .before .before .before .before .before .before .before .before .before .before .before .before .before .before .pre .1 .1))) (c .before .before .before .before .before .before .before .before .before .before .before .before .before .before .trivia .ensures (c .before .before .before .before .before .before .before .before .before .before .before .before .before .before .before .before .before .before .before .before .before .before .before .before .before .args .src .now))) (c .before .before .before .before .before .before .before .before .exec .ensures)) (waived-on _ _ (c .if2 .left))
-
-pub +cached+exec+last+many+node+opt-spec : {M : Type 1} → statement M
-+cached+exec+last+many+node+opt-spec =
-    close μ-cached μ-exec μ-last μ-many μ-node μ-opt (λ t. cached-lts.spec (cached-cs t) (cached-at t)
+pub +cached+exec+many+node-spec : {M : Type 1} → statement M
++cached+exec+many+node-spec = close μ-cached μ-exec μ-many μ-node (λ t. cached-lts.spec (cached-cs t) (cached-at t)
     cached.Post
     (cached-returns t)
     (cached-bit-of-requires t)
@@ -680,69 +565,52 @@ pub +cached+exec+last+many+node+opt-spec : {M : Type 1} → statement M
     (exec-same-length-18 t)
     (exec-returns-6 t)
     (exec-enum-known-p-2 t)
-    (exec-opt-requires t)
+    (exec-exec-requires t)
+    (exec-loop-less t)
+    (exec-loop-again t)
+    (exec-enum-known-p-3 t)
     (exec-same-length-19 t)
     (exec-same-length-20 t)
     (exec-same-length-21 t)
     (exec-returns-7 t)
-    (exec-enum-known-p-3 t)
-    (exec-last-requires t)
-    (exec-same-length-22 t)
-    (exec-same-length-23 t)
-    (exec-same-length-24 t)
-    (exec-returns-8 t)
-    (exec-enum-known-p-4 t)
-    (exec-exec-requires t)
-    (exec-loop-less t)
-    (exec-loop-again t)
-    (exec-enum-known-p-5 t)
-    (exec-same-length-25 t)
-    (exec-same-length-26 t)
-    (exec-same-length-27 t)
-    (exec-returns-9 t)
     (exec-trivia-requires t)
     (exec-loop-less-2 t)
     (exec-loop-again-2 t)
     (exec-enum-known-set-4 t)
     (exec-sees-requires t)
     (exec-pass-requires t)
+    (exec-same-length-22 t)
+    (exec-same-length-23 t)
+    (exec-same-length-24 t)
+    (exec-returns-8 t)
+    (exec-trivia-requires-2 t)
+    (exec-loop-less-3 t)
+    (exec-loop-again-3 t)
+    (exec-enum-known-how t)
+    (exec-same-length-25 t)
+    (exec-same-length-26 t)
+    (exec-same-length-27 t)
+    (exec-returns-9 t)
+    (exec-mark-requires t)
+    (exec-trivia-requires-3 t)
+    (exec-exec-requires-2 t)
     (exec-same-length-28 t)
     (exec-same-length-29 t)
     (exec-same-length-30 t)
     (exec-returns-10 t)
-    (exec-trivia-requires-2 t)
-    (exec-loop-less-3 t)
-    (exec-loop-again-3 t)
-    (exec-enum-known-p-6 t)
+    (exec-retry-requires t)
     (exec-same-length-31 t)
     (exec-same-length-32 t)
     (exec-same-length-33 t)
     (exec-returns-11 t)
-    (exec-mark-requires t)
-    (exec-trivia-requires-3 t)
-    (exec-exec-requires-2 t)
+    (exec-rewind-requires t)
     (exec-same-length-34 t)
     (exec-same-length-35 t)
     (exec-same-length-36 t)
     (exec-returns-12 t)
-    (exec-retry-requires t)
+    (exec-retry-requires-2 t)
     (exec-loop-less-4 t)
     (exec-loop-again-4 t))
-    (λ t. last-lts.spec (last-cs t) (last-at t)
-    last.Post
-    (last-returns t)
-    (last-mark-requires t)
-    (last-trivia-requires t)
-    (last-exec-requires t)
-    (last-rewind-requires t)
-    (last-same-length t)
-    (last-same-length-2 t)
-    (last-same-length-3 t)
-    (last-returns-2 t)
-    (last-same-length-4 t)
-    (last-same-length-5 t)
-    (last-same-length-6 t)
-    (last-returns-3 t))
     (λ t. many-lts.spec (many-cs t) (many-at t)
     many.Post
     many-Inv-loop
@@ -766,7 +634,7 @@ pub +cached+exec+last+many+node+opt-spec : {M : Type 1} → statement M
     (many-same-length-5 t)
     (many-same-length-6 t)
     (many-returns-3 t))
-    (λ t. node-lts.spec (node-cs t) (node-at t)
+    λ t. node-lts.spec (node-cs t) (node-at t)
     node.Post
     (node-begin-requires t)
     (node-end-requires t)
@@ -779,19 +647,4 @@ pub +cached+exec+last+many+node+opt-spec : {M : Type 1} → statement M
     (node-same-length-3 t)
     (node-same-length-4 t)
     (node-same-length-5 t)
-    (node-returns-2 t))
-    λ t. opt-lts.spec (opt-cs t) (opt-at t)
-    opt.Post
-    (opt-returns t)
-    (opt-mark-requires t)
-    (opt-trivia-requires t)
-    (opt-exec-requires t)
-    (opt-retry-requires t)
-    (opt-same-length t)
-    (opt-same-length-2 t)
-    (opt-same-length-3 t)
-    (opt-returns-2 t)
-    (opt-same-length-4 t)
-    (opt-same-length-5 t)
-    (opt-same-length-6 t)
-    (opt-returns-3 t)
+    (node-returns-2 t)
