@@ -7,7 +7,6 @@ import re
 import runpy
 import shutil
 import sys
-from pathlib import Path
 
 from prove import ROOT, dev, path, places, printed
 
@@ -17,8 +16,8 @@ def lines_of(crate, folder):
     for old in (ROOT / "crates" / crate / "proofs").glob("*/+*/Proof.antt"):
         old.unlink()
     shutil.rmtree(folder, ignore_errors=True)
-    dev(crate, "--generated", folder)
-    where = next(Path(folder).glob("*proofs/proofs/*/+*/"))
+    dev(crate, "--generated", str(folder))
+    where = next(folder.glob("*proofs/proofs/*/+*/"))
     proof = ROOT / "crates" / crate / "proofs" / where.parent.name / where.name / "Proof.antt"
     log = dev(crate)
     return re.sub(r" :\n +\(t : ℕ\) →\n +", " : (t : ℕ) → ", printed(log)[str(proof)]), where, proof
@@ -45,7 +44,7 @@ def need_text(block, answers, records, callees, out):
 def main():
     crate, name = sys.argv[1:3]
     given = runpy.run_path(str(ROOT / "tools/answers" / crate / f"{name}.py"))
-    text, where, proof = lines_of(crate, "/tmp/cycle")
+    text, where, proof = lines_of(crate, ROOT / "target" / "generated")
     members = re.findall(r"^use \S+\.Lts-(\S+) as (\S+)-lts$", text, flags=re.M)
     records = {m: places((where / f"Lts-{rust}.antt").read_text()) for rust, m in members}
     out, callees = [], set()
