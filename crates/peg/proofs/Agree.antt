@@ -12,7 +12,7 @@ use Rattle.kinds.specs.Kinds as kinds
 use Rattle.kinds.specs.Sets.{idOf, pick}
 use Rattle.peg.specs.Prog.{Production, Prog, eat, unless, ifnext, opt, many, then, _⨟_, _/_, last, recover, node, memo}
 use Rattle.peg.specs.Grammar.{grammar, kind}
-use Rattle.peg.specs.Run.{State, Reader, Mode, ok, failed, stopped, Stop, spent, deep, Choice, wanted, unwanted, Next, end, other, hit, next, sought, skip, gap, trivia, turn, back, expected, unexpected, further, furthest, join, choose, decide, halted, charge, begin, finish, if-ok, fails, eat-row, eat-at, refuse-row, refuse-at, branch, branch-at, then-at, or-else, alt-at, go-on, loop, loop-at, known, remember, memo-row, memo-at, nodes, first-names, swallow, recovered, recovery, exec, run}
+use Rattle.peg.specs.Run.{State, Reader, Mode, ok, failed, stopped, Stop, spent, deep, Choice, wanted, unwanted, Next, end, other, hit, next, sought, skip, gap, trivia, turn, take, back, expected, unexpected, further, furthest, join, choose, decide, halted, charge, begin, finish, if-ok, fails, eat-row, eat-at, refuse-row, refuse-at, branch, branch-at, then-at, or-else, alt-at, go-on, loop, loop-at, known, remember, memo-row, memo-at, nodes, first-names, swallow, recovered, recovery, exec, run}
 use Rattle.peg.specs.Peg.{strip, Res, Miss, Peg, eat-yes, eat-no, unless-yes, unless-no, ifnext-hit, ifnext-miss, opt-yes, opt-no, many-yes, many-no, then-is, seq-yes, seq-no, alt-yes, alt-no, last-is, recover-is, node-is, memo-is}
 use Rattle.peg.proofs.Order.{Running, steps, loop-up, swallow-up}
 use Rattle.peg.proofs.Grows.{End, Front, Grown, grown, grows, sought-hit, take-end, gap-end, end-trans, running-before, run-zero}
@@ -210,6 +210,12 @@ module _ (R : List ℕ) where
   pub inv-trivia : (s : State) → Inv s → Inv (trivia s)
   inv-trivia s i = record { rows = end-trans (gap (s .mode) (s .rest)) (s .rest) R (gap-end (s .mode) (s .rest)) (i .rows); clear = i .clear; valid = i .valid; told = i .told }
 
+  inv-take : (S : List ℕ) (s : State) (a : ℕ) (is : List ℕ) → next S (s .rest) ≡ hit a is → Inv s → Inv (take a is (trivia s))
+  inv-take S s a is h i = record { rows = end-trans is (s .rest) R (take-end S (s .rest) a is h) (i .rows); clear = i .clear; valid = i .valid; told = i .told }
+
+  inv-back : (s t : State) → Inv s → Inv t → Inv (back s t)
+  inv-back s t i j = record { rows = i .rows; clear = j .clear; valid = j .valid; told = j .told }
+
   pub inv-failed : (s : State) → Inv s → T (noted (s .want) (s .unwant)) → Inv (turn failed s)
   inv-failed s i n = record { rows = i .rows; clear = i .clear; valid = i .valid; told = inr n }
 
@@ -240,15 +246,17 @@ module _ (R : List ℕ) where
   eat-sim S N s m i end h = (inv-failed (expected N s) (inv-expected N s i) (further-noted _ N (s .want) (s .unwant)), λ e. not-failed e, λ _. eat-no (next-miss S (s .rest) (subst Miss (sym h) tt)))
   eat-sim S N s m i other h = (inv-failed (expected N s) (inv-expected N s i) (further-noted _ N (s .want) (s .unwant)), λ e. not-failed e, λ _. eat-no (next-miss S (s .rest) (subst Miss (sym h) tt)))
   eat-sim S N s m i (hit a is) h = (
-    record { rows = end-trans is (s .rest) R (take-end S (s .rest) a is h) (i .rows); clear = i .clear; valid = i .valid; told = i .told },
+    inv-take S s a is h i,
     (λ _. inl (eat-yes a (next-hit S (s .rest) a is h))),
     λ e. not-ok (sym m ∙ e),
   )
 
   unless-sim : (S : List ℕ) (s : State) → s .mode ≡ ok → Inv s → (x : Next) → next S (s .rest) ≡ x → OkSim (unless S) s (refuse-row x s)
-  unless-sim S s m i end h = (i, (λ _. inl (unless-yes (next-miss S (s .rest) (subst Miss (sym h) tt)))), λ e. not-ok (sym m ∙ e))
-  unless-sim S s m i other h = (i, (λ _. inl (unless-yes (next-miss S (s .rest) (subst Miss (sym h) tt)))), λ e. not-ok (sym m ∙ e))
-  unless-sim S s m i (hit a is) h = (inv-failed (unexpected s) (inv-unexpected s i) (furthest-noted _ (s .want) (s .unwant)), (λ e. not-failed e), λ _. unless-no a (strip is) (next-hit S (s .rest) a is h))
+  unless-sim S s m i end h = (inv-back s (trivia s) i (inv-trivia s i), (λ _. inl (unless-yes (next-miss S (s .rest) (subst Miss (sym h) tt)))), λ e. not-ok (sym m ∙ e))
+  unless-sim S s m i other h = (inv-back s (trivia s) i (inv-trivia s i), (λ _. inl (unless-yes (next-miss S (s .rest) (subst Miss (sym h) tt)))), λ e. not-ok (sym m ∙ e))
+  unless-sim S s m i (hit a is) h =
+      let b : State = back s (take a is (trivia s)) in
+      (inv-failed (unexpected b) (inv-unexpected b (inv-back s (take a is (trivia s)) i (inv-take S s a is h i))) (furthest-noted _ (s .want) (s .unwant)), (λ e. not-failed e), λ _. unless-no a (strip is) (next-hit S (s .rest) a is h))
 
   -- f past trivia
   pub after : (p : Prog) (f : Reader) → Good p f → (s : State) → s .mode ≡ ok → Inv s → Fine (f (trivia s)) → OkSim p s (f (trivia s))

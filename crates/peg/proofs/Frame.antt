@@ -8,7 +8,7 @@ use native.Mathlib.Nat.{suc-add, zero-add}
 use Rattle.kinds.specs.Kinds as kinds
 use Rattle.kinds.specs.Sets.{idOf, kindOf, trivial}
 use Rattle.peg.specs.Prog.{Production}
-use Rattle.peg.specs.Run.{count, Draft, mark, State, Reader, Mode, ok, failed, stopped, Stop, spent, deep, Event, opened, leaf, Choice, Next, end, other, hit, next, past, put, turn, emit, take, back, halted, if-ok, trivia, trivia-out, gap, gap-out, choose, charge, begin, finish, seek, seek-out, skip-to, swallow, first-names, recovered, recovery, eat-row, refuse-row, branch, or-else, loop, go-on, known, remember, memo-row, nodes, run}
+use Rattle.peg.specs.Run.{count, Draft, mark, State, Reader, Mode, ok, failed, stopped, Stop, spent, deep, Event, opened, leaf, Choice, Next, end, other, hit, next, past, put, turn, emit, take, back, halted, if-ok, trivia, trivia-out, gap, gap-out, unexpected, choose, charge, begin, finish, seek, seek-out, skip-to, swallow, first-names, recovered, recovery, eat-row, refuse-row, branch, or-else, loop, go-on, known, remember, memo-row, nodes, run}
 use Rattle.peg.specs.Remaining.{Running}
 use Rattle.peg.proofs.Induct.{Kept, run-kept}
 
@@ -81,9 +81,9 @@ module _ (k : ℕ) (q : List Event) (b : List ℕ) (dr : List Draft) where
   eat-row-h N (hit a is) s = ap (take a is) (trivia-h s)
 
   refuse-row-h : (x : Next) (s : State) → refuse-row x (h s) ≡ h (refuse-row x s)
-  refuse-row-h end s = refl
-  refuse-row-h other s = refl
-  refuse-row-h (hit a is) s = refl
+  refuse-row-h end s = ap (back (h s)) (trivia-h s)
+  refuse-row-h other s = ap (back (h s)) (trivia-h s)
+  refuse-row-h (hit a is) s = ap (λ (t : State). turn failed (unexpected (back (h s) (take a is t)))) (trivia-h s)
 
   branch-h : (N : List ℕ) (f : Reader) → Framed f → (x : Next) (s : State) → Live ((branch N f x s) .mode) → branch N f x (h s) ≡ h (branch N f x s)
   branch-h N f F end s l = refl

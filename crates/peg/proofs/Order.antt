@@ -76,10 +76,12 @@ module _ (Q : State → State → Type 0) (O : Steps Q) where
   eat-row-up S N s e other h = O .trans s (expected N s) (turn failed (expected N s)) (O .at-expected N s) (O .at-turn failed (expected N s) (running (s .mode) e))
   eat-row-up S N s e (hit a is) h = O .at-take S s a is e h
 
-  refuse-row-up : (s : State) → s .mode ≡ ok → (x : Next) → Q s (refuse-row x s)
-  refuse-row-up s e end = O .same s
-  refuse-row-up s e other = O .same s
-  refuse-row-up s e (hit a is) = O .trans s (unexpected s) (turn failed (unexpected s)) (O .at-unexpected s) (O .at-turn failed (unexpected s) (running (s .mode) e))
+  refuse-row-up : (S : List ℕ) (s : State) → s .mode ≡ ok → (x : Next) → next S (s .rest) ≡ x → Q s (refuse-row x s)
+  refuse-row-up S s e end h = O .at-back s (trivia s) (O .at-trivia s)
+  refuse-row-up S s e other h = O .at-back s (trivia s) (O .at-trivia s)
+  refuse-row-up S s e (hit a is) h =
+      let b : State = back s (take a is (trivia s)) in
+      O .trans s (unexpected b) (turn failed (unexpected b)) (O .trans s b (unexpected b) (O .at-back s (take a is (trivia s)) (O .at-take S s a is e h)) (O .at-unexpected b)) (O .at-turn failed (unexpected b) (running (s .mode) e))
 
   branch-up : (N : List ℕ) (f : Reader) → Up f → (s : State) (x : Next) → Q s (branch N f x s)
   branch-up N f F s end = O .same s
@@ -148,7 +150,7 @@ module _ (Q : State → State → Type 0) (O : Steps Q) where
   stepped = record {
     at-id = λ s. O .same s;
     at-eat = λ S N. guarded (λ s. eat-row N (next S (s .rest)) s) (λ s e. eat-row-up S N s e (next S (s .rest)) refl);
-    at-unless = λ S. guarded (λ s. refuse-row (next S (s .rest)) s) (λ s e. refuse-row-up s e (next S (s .rest)));
+    at-unless = λ S. guarded (λ s. refuse-row (next S (s .rest)) s) (λ s e. refuse-row-up S s e (next S (s .rest)) refl);
     at-ifnext = λ S f F. guarded (λ s. branch (map idOf S) f (next S (s .rest)) s) (λ s e. branch-up (map idOf S) f F s (next S (s .rest)));
     at-opt = λ f F. guarded (λ s. or-else (λ t. t) s (f (trivia s))) (λ s e. or-else-up (λ t. t) (λ t. O .same t) s (f (trivia s)) (after f F s));
     at-many = λ f F. guarded (λ s. loop f (suc (length (s .rest))) s) (λ s e. loop-up f F (suc (length (s .rest))) s);

@@ -291,11 +291,11 @@ eat-at S N s = eat-row N (next S (s .rest)) s
 abbrev pub eats : List ℕ → List ℕ → Reader
 eats S N = if-ok (eat-at S N)
 
--- `not`: "a miss enters nothing"; it goes back always
+-- `not`: "a miss enters nothing"; it goes back always, and what was written until then took its room
 abbrev pub refuse-row : Next → Reader
-refuse-row end s = s
-refuse-row other s = s
-refuse-row (hit a is) s = turn failed (unexpected s)
+refuse-row end s = back s (trivia s)
+refuse-row other s = back s (trivia s)
+refuse-row (hit a is) s = turn failed (unexpected (back s (take a is (trivia s))))
 
 abbrev pub refuse-at : List ℕ → Reader
 refuse-at S s = refuse-row (next S (s .rest)) s
