@@ -217,8 +217,8 @@ impl<'a> Reader<'a> {
 
     fn not(&mut self, part: &Part) {
         let bookmark = self.bookmark();
-        self.negated += 1;
         self.trivia();
+        self.negated += 1;
         self.run(part);
         self.negated -= 1;
         let turned = if self.state == State::Ok { State::Failure } else { State::Ok };
@@ -415,9 +415,7 @@ impl<'a> Reader<'a> {
 
     fn write(&mut self, event: Event) {
         self.events.push(event);
-        // Inside `not` rows are looked at and not taken (docs/DECISIONS.md).
-        let taken = self.negated == 0;
-        if self.full == 0 && taken && 4 * self.events.len() > self.question.event_room {
+        if self.full == 0 && 4 * self.events.len() > self.question.event_room {
             self.full = 7;
         }
     }

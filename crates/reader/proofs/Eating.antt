@@ -16,12 +16,13 @@ use Rattle.reader.specs.declared.state.State.{State}
 use Rattle.reader.specs.declared.state.Mark.{Mark}
 use Rattle.reader.specs.Change.{withPos, withMode, markOf, gone}
 use Rattle.reader.specs.Means.{Bufs, bufs, Past, Means, Stands, Lines, modeOf}
-use Rattle.reader.specs.Did.{Ok, Wf, Did, Events, Plain, Put, Peeked}
+use Rattle.reader.specs.Did.{Ok, Wf, Did, Events, Plain, Put, Peeked, hits, ahead}
 use Rattle.reader.proofs.Core.{Like, like-same, like-at, alike, idle, then, ok-put, wf-put, caps-put}
-use Rattle.reader.proofs.Sticky.{Sticks, sticky, sticky-trans, sticky-trivia, sticky-take, sticky-fail, sticky-refused}
+use Rattle.reader.proofs.Sticky.{Sticks, sticky, sticky-trans, sticky-trivia, sticky-take, sticky-fail, sticky-returned, sticky-refused}
 use Rattle.reader.proofs.Taken.{took, ok-took}
 use Rattle.reader.proofs.Next.{if-ok-yes}
-use Rattle.reader.proofs.Parts.{retold, not-ok, turned, went, gone-wf, opt-on, opt-back}
+use Rattle.reader.proofs.Branch.{ahead-is}
+use Rattle.reader.proofs.Parts.{retold, not-ok, turned, gone-ok, returned, opt-on, opt-back}
 
 -- steps on events alone, from laws on any step
 pub not-okE : (f : P.Reader) {x : Source} {s : State} {ev : List ℕ} → ((p : Past) → Sticks p x (P.if-ok f)) → Ok (length (x .ids)) s → s .evcap ≤ length ev → (s .mode ≡ 0 → ⊥) → Events (P.if-ok f) x s s ev ev
@@ -83,7 +84,7 @@ module _ (f : P.Reader) {x : Source} {s r : State} {ev ev′ : List ℕ} (F : (p
       subst (λ (u : State). Events (P.opts f) x s (withMode 0 u) ev ev′) (sym (j ∙ ap (λ (k : Mark). gone k r) i))
       (record {
         did = λ er sc v. opt-back f F good (y .did er sc v) v h;
-        ok = (record { here = w .0 .here; since = omega (arith, y .first, w .0 .since); far-in = y .ok .0 .far-in; want-in = y .ok .0 .want-in; want-since = y .ok .0 .want-since; unwant-in = y .ok .0 .unwant-in; unwant-since = y .ok .0 .unwant-since }, y .ok .1, record { events = omega (arith, y .grows, y .ok .2 .events); since = y .ok .2 .since; errors = y .ok .2 .errors });
+        ok = gone-ok s r w (y .first) (y .grows) (y .ok);
         fits = y .fits;
         first = y .first;
         grows = le-refl _;
@@ -92,36 +93,53 @@ module _ (f : P.Reader) {x : Source} {s r : State} {ev ev′ : List ℕ} (F : (p
 pub thenE : {f g : P.Reader} {x : Source} {s r q : State} {ev ev₁ ev₂ : List ℕ} → Events f x s r ev ev₁ → Events g x r q ev₁ ev₂ → Events (λ a. g (f a)) x s q ev ev₂
 thenE t u = record { did = λ er sc w. let T = t .did er sc w in then T (u .did er sc (T .wf)); ok = u .ok; fits = u .fits; first = u .first ∙ t .first; grows = omega (arith, t .grows, u .grows) }
 
--- a row that must not stand there
+-- `not`, by what `sees` answers
+refuses-there : (N : List ℕ) (z : Next) → hits z ≡ true → (a : P.State) → P.refuse-row z a ≡ P.turn failed (P.unexpected (P.back a (P.eat-row N z a)))
+refuses-there N end h a = let c : _≡_ {A = ℕ} 0 1 = cc in absurd (omega arith)
+refuses-there N other h a = let c : _≡_ {A = ℕ} 0 1 = cc in absurd (omega arith)
+refuses-there N (hit k is) h a = refl
+
+refuses-none : (z : Next) → hits z ≡ false → (a : P.State) → P.refuse-row z a ≡ P.back a (P.trivia a)
+refuses-none end h a = refl
+refuses-none other h a = refl
+refuses-none (hit k is) h a = let c : _≡_ {A = ℕ} 0 1 = cc in absurd (omega arith)
+
+-- a row that must not stand there: what was written is taken back
 module _ (S : List ℕ) {x : Source} {s : State} (good : s .mode ≡ 0) where
-  refuses-is : (z : Next) → P.next S (drop (s .pos) (x .ids)) ≡ z → {p : Past} {b : Bufs} (a : P.State) → Means p x s b a → P.refuses S a ≡ P.refuse-row z a
-  refuses-is z q a m = if-ok-yes (P.refuse-at S) a (m .mode ∙ ap modeOf good) ∙ ap (λ (l : List ℕ). P.refuse-row (P.next S l) a) (m .rest) ∙ ap (λ (n : Next). P.refuse-row n a) q
+  -- a step that is `not` where the state is meant
+  refused : (f : P.Reader) {r : State} {b b′ : Bufs} → ((p : Past) → Sticks p x f) → Wf x b s → ((p : Past) (a : P.State) → Means p x s b a → P.refuse-row (P.next S (drop (s .pos) (x .ids))) a ≡ f a) → Did f x s r b b′ → Did (P.refuses S) x s r b b′
+  refused f F v e =
+      retold (P.refuses S) (λ p a n. refl) F (λ p. sticky p x .at-unless S) (λ p a t. sticky p x .at-unless S a)
+      (λ p a t z z′. let k = t .means z in sym (if-ok-yes (P.refuse-at S) a (k .mode ∙ ap modeOf good) ∙ ap (λ (l : List ℕ). P.refuse-row (P.next S l) a) (k .rest) ∙ e p a k)) (idle v (λ p a t. like-same refl))
 
-  pub unless-there : (k : ℕ) (is : List ℕ) {r : State} → P.next S (drop (s .pos) (x .ids)) ≡ hit k is → Plain P.unexpected x s r → Plain (P.refuses S) x s (withMode 1 r)
-  unless-there k is q y =
-      record {
-        did = λ b w.
-            retold (P.refuses S) (λ p a n. refl) (λ p. sticky-refused p x) (λ p. sticky p x .at-unless S) (λ p a m. sticky p x .at-unless S a) (λ p a t i j. sym (refuses-is (hit k is) q a (t .means i)))
-            (idle w (λ p a t. like-same refl)) (turned 1 failed refl (y .did b w));
-        ok = y .ok;
-        evcap = y .evcap;
-        ercap = y .ercap;
-        first = y .first;
-        place = y .place;
-        still = y .still;
-      }
+  module _ {m : Mark} {q r : State} {ev ev′ : List ℕ} (w : Ok (length (x .ids)) s) (i : m ≡ markOf s) (j : q ≡ gone m r) where
+    pub unless-there : (N : List ℕ) (at : ℕ) {u : State} → ahead S (x .ids) s ≡ true → Events (P.eats S N) x s r ev ev′ → Peeked (x .ids) (s .pos) at → (Ok (length (x .ids)) q → Peeked (x .ids) (q .pos) at → Plain P.unexpected x q u) → Events (P.refuses S) x s (withMode 1 u) ev ev′
+    unless-there N at {u} e y k g =
+        let there : Next = P.next S (drop (s .pos) (x .ids)) in
+        let z : Plain P.unexpected x (gone (markOf s) r) u = subst (λ (c : State). Ok (length (x .ids)) c → Peeked (x .ids) (c .pos) at → Plain P.unexpected x c u) (j ∙ ap (λ (l : Mark). gone l r) i) g (gone-ok s r w (y .first) (y .grows) (y .ok)) k in
+        record {
+          did = λ er sc v.
+              let B = returned v (y .did er sc v) in
+              refused (λ a. P.turn failed (P.unexpected (P.back a (P.eats S N a)))) (λ p. sticky-refused p x (P.eats S N) (sticky p x .at-eat S N)) v
+              (λ p a t. refuses-there N there (ahead-is S (x .ids) s there good refl ∙ e) a ∙ ap (λ (c : P.State). P.turn failed (P.unexpected (P.back a c))) (sym (eats-is S N good there refl a t)))
+              (turned 1 failed refl (then B (z .did (bufs ev′ er sc) (B .wf))));
+          ok = z .ok;
+          fits = omega (arith, z .evcap, y .fits);
+          first = z .first ∙ y .first;
+          grows = omega (arith, z .still);
+        }
 
-  pub unless-none : (z : Next) → P.next S (drop (s .pos) (x .ids)) ≡ z → ((a : P.State) → P.refuse-row z a ≡ a) → Ok (length (x .ids)) s → Plain (P.refuses S) x s s
-  unless-none z q e w =
-      record {
-        did = λ b v. idle v (λ p a t. like-at t (λ n. refl) (sticky p x .at-unless S a) (λ i. like-same (sym (refuses-is z q a (t .means i) ∙ e a))));
-        ok = w;
-        evcap = refl;
-        ercap = refl;
-        first = refl;
-        place = refl;
-        still = refl;
-      }
+    pub unless-none : ahead S (x .ids) s ≡ false → Events P.trivia x s r ev ev′ → Events (P.refuses S) x s q ev ev′
+    unless-none e y =
+        let there : Next = P.next S (drop (s .pos) (x .ids)) in
+        subst (λ (c : State). Events (P.refuses S) x s c ev ev′) (sym (j ∙ ap (λ (l : Mark). gone l r) i))
+        (record {
+          did = λ er sc v. refused (λ a. P.back a (P.trivia a)) (λ p. sticky-returned p x P.trivia (sticky-trivia p x)) v (λ p a t. refuses-none there (ahead-is S (x .ids) s there good refl ∙ e) a) (returned v (y .did er sc v));
+          ok = gone-ok s r w (y .first) (y .grows) (y .ok);
+          fits = y .fits;
+          first = y .first;
+          grows = le-refl _;
+        })
 
 pub not-okP : (f : P.Reader) {x : Source} {s : State} → ((p : Past) → Sticks p x (P.if-ok f)) → Ok (length (x .ids)) s → (s .mode ≡ 0 → ⊥) → Plain (P.if-ok f) x s s
 not-okP f F w n = record { did = λ b v. not-ok f F v n; ok = w; evcap = refl; ercap = refl; first = refl; place = refl; still = refl }

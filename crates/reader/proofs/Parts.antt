@@ -56,22 +56,21 @@ turned n m e y =
       kept = y .kept;
     }
 
--- back to where s was, from r, which f reached; and a mode is set
+pub gone-ok : {n : ℕ} (s r : State) → Ok n s → r .first ≡ s .first → s .ev ≤ r .ev → Ok n r → Ok n (gone (markOf s) r)
+gone-ok s r w first grows W = (
+  record { here = w .0 .here; since = omega (arith, first, w .0 .since); far-in = W .0 .far-in; want-in = W .0 .want-in; want-since = W .0 .want-since; unwant-in = W .0 .unwant-in; unwant-since = W .0 .unwant-since },
+  W .1,
+  record { events = le-trans grows (W .2 .events); since = W .2 .since; errors = W .2 .errors },
+)
+
+-- back to where s was, from r, which f reached; a mode may be set
 module _ {f : P.Reader} {x : Source} {s r : State} {b b′ : Bufs} (w : Wf x b s) (y : Did f x s r b b′) where
   pub gone-wf : Wf x b′ (gone (markOf s) r)
-  gone-wf =
-      let W = y .wf in (
-        (
-          record { here = w .0 .0 .here; since = omega (arith, y .first, w .0 .0 .since); far-in = W .0 .0 .far-in; want-in = W .0 .0 .want-in; want-since = W .0 .0 .want-since; unwant-in = W .0 .0 .unwant-in; unwant-since = W .0 .0 .unwant-since },
-          W .0 .1,
-          record { events = le-trans (y .grows) (W .0 .2 .events); since = W .0 .2 .since; errors = W .0 .2 .errors },
-        ),
-        W .1,
-      )
+  gone-wf = (gone-ok s r (w .0) (y .first) (y .grows) (y .wf .0), y .wf .1)
 
-  pub went : (n : ℕ) (m : Mode) → m ≡ modeOf n → Did (λ a. P.turn m (P.back a (f a))) x s (withMode n (gone (markOf s) r)) b b′
+  pub returned : Did (λ a. P.back a (f a)) x s (gone (markOf s) r) b b′
   unfolding overOf
-  went n m e =
+  returned =
       record {
         does = λ p a t.
             let u = y .does p a t in
@@ -80,7 +79,7 @@ module _ {f : P.Reader} {x : Source} {s r : State} {b b′ : Bufs} (w : Wf x b s
               means = λ z.
                   let v = u .means z in
                   let o = t .means (y .room z) in
-                  record { rest = o .rest; mode = e; fuel = v .fuel; written = record { is = y .kept ∙ o .written .is; past = o .written .past; room = v .written .room }; want = v .want; unwant = v .unwant; chosen = v .chosen; cache = v .cache };
+                  record { rest = o .rest; mode = v .mode; fuel = v .fuel; written = record { is = y .kept ∙ o .written .is; past = o .written .past; room = v .written .room }; want = v .want; unwant = v .unwant; chosen = v .chosen; cache = v .cache };
             };
         wf = gone-wf;
         room = y .room;
@@ -89,6 +88,9 @@ module _ {f : P.Reader} {x : Source} {s r : State} {b b′ : Bufs} (w : Wf x b s
         grows = le-refl _;
         kept = y .kept;
       }
+
+  pub went : (n : ℕ) (m : Mode) → m ≡ modeOf n → Did (λ a. P.turn m (P.back a (f a))) x s (withMode n (gone (markOf s) r)) b b′
+  went n m e = turned n m e returned
 
   -- the same after `mark` and `rewind`
   pub rewound : {m : Mark} {q : State} (n : ℕ) (k : Mode) → k ≡ modeOf n → m ≡ markOf s → q ≡ gone m r → Did (λ a. P.turn k (P.back a (f a))) x s (withMode n q) b b′

@@ -128,9 +128,13 @@ module _ (p : Past) (x : Source) where
   unfolding overOf
   sticky-fail N a n = refl
 
-  pub sticky-refused : Sticks (λ a. P.turn failed (P.unexpected a))
+  pub sticky-returned : (f : P.Reader) → Sticks f → Sticks (λ a. P.back a (f a))
   unfolding overOf
-  sticky-refused a n = refl
+  sticky-returned f F a = F a
+
+  pub sticky-refused : (f : P.Reader) → Sticks f → Sticks (λ a. P.turn failed (P.unexpected (P.back a (f a))))
+  unfolding overOf
+  sticky-refused f F a = F a
 
   pub sticky-back : (m : Mode) (f : P.Reader) → Sticks f → Sticks (λ a. P.turn m (P.back a (f a)))
   unfolding overOf

@@ -103,12 +103,12 @@ impl State {
     }
 
     // Looks ahead: N unless, P pass.
-    fn looks(self, op: u8, set: usize, ids: &[u32]) -> Self
-        requires { ⌜ (length (now ids) ≤ 65536) × ((ev er : List ℕ) × Sound (length (now ids)) self ev er) ⌝ }
-        ensures { λ r. ⌜ ((ev er : List ℕ) → Sound (length (now (ids .entry))) self ev er → Sound (length (now (ids .entry))) r ev er) ⌝ }
+    fn looks(self, op: u8, set: usize, ids: &[u32], ends: &[u32], events: &mut [u32]) -> Self
+        requires { ⌜ Lines (now ids) (now ends) × ((er : List ℕ) × Sound (length (now ids)) self (now events) er) ⌝ }
+        ensures { λ r. ⌜ ((er : List ℕ) → Sound (length (now (ids .entry))) self (now (events .entry)) er → Sound (length (now (ids .entry))) r (now (events .exit)) er) ⌝ }
     {
         if op == b'N' {
-            return self.unless(set, ids);
+            return self.unless(set, ids, ends, events);
         }
         if op == b'P' {
             if !self.sees(set, ids) {
@@ -208,7 +208,7 @@ impl State {
     {
         let set = arg as usize;
         self = self.takes(op, set, more, ids, ends, events);
-        self = self.looks(op, set, ids);
+        self = self.looks(op, set, ids, ends, events);
         self = self.goes_back(op, m);
         self.settles(op, arg, more != 0, m, src, ids, ends, events, errors)
     }

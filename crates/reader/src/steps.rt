@@ -104,23 +104,24 @@ impl State {
         self
     }
 
-    // Fails if a row of the set stands next past trivia; nothing is taken up.
-    pub fn unless(mut self, set: usize, ids: &[u32]) -> Self
-        requires { ⌜ (length (now ids) ≤ 65536) × Ok (length (now ids)) self ⌝ }
-        ensures { λ r. ⌜ ((bytes ends : List ℕ) → Plain (P.refuses (setOf set)) (source bytes (now (ids .entry)) ends) self r) ⌝ }
+    // Fails if a row of the set stands next past trivia. What is looked at is written, for the room that it takes, and taken back.
+    pub fn unless(mut self, set: usize, ids: &[u32], ends: &[u32], events: &mut [u32]) -> Self
+        requires { ⌜ Lines (now ids) (now ends) × Ok (length (now ids)) self × (self .evcap ≤ length (now events)) ⌝ }
+        ensures { λ r. ⌜ ((bytes : List ℕ) → Events (P.refuses (setOf set)) (source bytes (now (ids .entry)) (now (ends .entry))) self r (now (events .entry)) (now (events .exit))) ⌝ }
     {
         if self.mode != 0 {
             return self;
         }
-        let at = peek(self.pos, ids);
-        if at < ids.len() {
-            let id = ids[at];
-            if contains(set, id) {
-                self = self.unexpected(at);
-                self.mode = 1;
-                return self;
-            }
+        let m = self.mark();
+        if !self.sees(set, ids) {
+            self = self.trivia(ids, ends, events);
+            return self.rewind(m);
         }
+        let at = peek(self.pos, ids);
+        self = self.expect(set, ids, ends, events);
+        self = self.rewind(m);
+        self = self.unexpected(at);
+        self.mode = 1;
         self
     }
 

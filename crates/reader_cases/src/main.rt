@@ -234,7 +234,7 @@ fn stops() {
 }
 
 // Two rows and a space between them.
-fn pair(name: &[u8], words: &[u8], error_room: usize) {
+fn pair(name: &[u8], words: &[u8], event_room: usize, error_room: usize) {
     let ids = [74, 0, 74];
     let starts = [0, 1, 2];
     let ends = [1, 2, 3];
@@ -246,20 +246,28 @@ fn pair(name: &[u8], words: &[u8], error_room: usize) {
         &starts,
         &ends,
         9,
-        128,
+        event_room,
         error_room,
     );
 }
 
 // Names in order of first entry; expected wins a tie with unexpected, and the furthest start is taken; one error to a span.
 fn chosen() {
-    pair(b"names", b"B1 E4 O5 O14 O5 E14 X93", 32);
-    pair(b"error room 6", b"B1 E4 O5 O14 O5 E14 X93", 6);
-    pair(b"error room 5", b"B1 E4 O5 O14 O5 E14 X93", 5);
-    pair(b"tie", b"B1 E4 P5 N4 X93", 32);
-    pair(b"further", b"B1 O5 E4 N4 X93", 32);
-    pair(b"optional", b"B1 E5 X93,1", 32);
-    pair(b"once", b"B1 M E5 C A E14 X93", 32);
+    pair(b"names", b"B1 E4 O5 O14 O5 E14 X93", 128, 32);
+    pair(b"error room 6", b"B1 E4 O5 O14 O5 E14 X93", 128, 6);
+    pair(b"error room 5", b"B1 E4 O5 O14 O5 E14 X93", 128, 5);
+    pair(b"tie", b"B1 E4 P5 N4 X93", 128, 32);
+    pair(b"further", b"B1 O5 E4 N4 X93", 128, 32);
+    pair(b"optional", b"B1 E5 X93,1", 128, 32);
+    pair(b"once", b"B1 M E5 C A E14 X93", 128, 32);
+}
+
+// What `unless` looks at takes room until it is taken back: a space, and a row of the set.
+fn looked() {
+    pair(b"unless", b"B1 E4 N4", 16, 32);
+    pair(b"unless, room 12", b"B1 E4 N4", 12, 32);
+    pair(b"unless, no such row", b"B1 E4 N5", 12, 32);
+    pair(b"unless, room 8", b"B1 E4 N5", 8, 32);
 }
 
 // What stands before the brace goes into an ERROR node, also where that node's fuel is lacking.
@@ -345,6 +353,7 @@ fn main() {
     whole(b"room 60", 60);
     stops();
     chosen();
+    looked();
     recovered(b"recover", 9);
     recovered(b"recover, fuel 1", 1);
     forms();

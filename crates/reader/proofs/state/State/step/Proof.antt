@@ -4,8 +4,8 @@ use Rattle.reader.proofs.state.State.step.Statement.{statement}
 use Rattle.reader.proofs.state.State.step.Tie as tie
 use Rattle.reader.proofs.state.State.step.Reads as reads
 use Rattle.reader.proofs.state.State.step.Lts as lts
-use Rattle.reader.proofs.state.State.looks.Reads as looks-reads
 use Rattle.reader.proofs.state.State.goes_back.Reads as goes-back-reads
+use Rattle.reader.proofs.state.State.looks.Reads as looks-reads
 use Rattle.reader.proofs.state.State.settles.Reads as settles-reads
 use Rattle.reader.proofs.state.State.takes.Reads as takes-reads
 
@@ -13,13 +13,13 @@ takes-requires : tie.Need-takes-requires
 takes-requires c κs = search needs
 
 looks-requires : tie.Need-looks-requires
-looks-requires c κs = (c .before .before .before .before .before .before .before .before .before .pre .0 .lines .few, (_, _, (c .before .before .takes .ensures _ (c .before .before .before .before .before .before .before .before .before .pre .1))))
+looks-requires c κs = (c .before .before .before .before .before .before .before .before .before .before .pre .0 .lines, (_, c .before .before .before .takes .ensures _ (c .before .before .before .before .before .before .before .before .before .before .pre .1)))
 
 goes-back-requires : tie.Need-goes-back-requires
 goes-back-requires c κs = search needs
 
 settles-requires : tie.Need-settles-requires
-settles-requires c κs = (c .before .before .before .before .before .before .before .before .before .before .before .before .before .pre .0, c .before .before .goes-back .ensures _ _ _ (c .before .before .before .looks .ensures _ _ (c .before .before .before .before .before .before .takes .ensures _ (c .before .before .before .before .before .before .before .before .before .before .before .before .before .pre .1))))
+settles-requires c κs = (c .before .before .before .before .before .before .before .before .before .before .before .before .before .before .before .before .pre .0, c .before .before .goes-back .ensures _ _ _ (c .before .before .before .before .before .looks .ensures _ (c .before .before .before .before .before .before .before .before .before .takes .ensures _ (c .before .before .before .before .before .before .before .before .before .before .before .before .before .before .before .before .pre .1))))
 
 same-length : tie.Need-same-length
 same-length c = search needs
