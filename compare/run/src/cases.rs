@@ -7,26 +7,37 @@ use common::{input, reading_of, Question, Reading, Record, Side, BEGIN, END};
 use generate::text::id_of;
 use std::error::Error;
 use std::fs;
-use std::path::Path;
+use std::path::{Path, PathBuf};
 
 type Checked = Result<(), Box<dyn Error>>;
 
 /// Every NAME.rows of a folder: the Rust must give NAME.crate, the judge NAME.raw and NAME.listing, and
 /// these without empty ERROR nodes must be what the Rust gives.
 pub fn stored(folder: &Path, side: &dyn Side) -> Result<usize, Box<dyn Error>> {
-    let mut names: Vec<_> = fs::read_dir(folder)?.filter_map(|e| Some(e.ok()?.path())).collect();
-    names.retain(|p| p.extension().is_some_and(|e| e == "rows"));
-    names.sort();
-    for path in &names {
+    let paths = stored_paths(folder)?;
+    for path in &paths {
         one(path, side).map_err(|e| format!("{}: {e}", path.display()))?;
     }
-    Ok(names.len())
+    Ok(paths.len())
+}
+
+/// The NAME.rows of a folder, in order.
+pub fn stored_paths(folder: &Path) -> Result<Vec<PathBuf>, Box<dyn Error>> {
+    let mut paths: Vec<_> = fs::read_dir(folder)?.filter_map(|e| Some(e.ok()?.path())).collect();
+    paths.retain(|p| p.extension().is_some_and(|e| e == "rows"));
+    paths.sort();
+    Ok(paths)
+}
+
+/// What a NAME.rows asks of the file that it names.
+pub fn stored_question(path: &Path) -> Result<Question, Box<dyn Error>> {
+    let lines = input::read(&fs::read(path)?, true).map_err(|n| format!("line {n} does not read"))?;
+    let source = fs::read(path.with_file_name(String::from_utf8(lines.file.clone())?))?;
+    Ok(lines.question(source, 65_536, 16_384))
 }
 
 fn one(path: &Path, side: &dyn Side) -> Checked {
-    let lines = input::read(&fs::read(path)?, true).map_err(|n| format!("line {n} does not read"))?;
-    let source = fs::read(path.with_file_name(String::from_utf8(lines.file.clone())?))?;
-    let question = lines.question(source, 65_536, 16_384);
+    let question = stored_question(path)?;
     let rust = oracle::read(&question);
     let ours = reading_of(side, &question).map_err(|n| format!("refused, {n}"))?;
     let wanted = |extension: &str| fs::read_to_string(path.with_extension(extension));

@@ -5,6 +5,7 @@ mod differences;
 mod judge;
 mod minimise;
 mod tally;
+mod vectors;
 
 use common::{events_of, Question, Side};
 use generate::rng::Rng;
@@ -14,10 +15,10 @@ use std::collections::HashSet;
 use std::hash::{DefaultHasher, Hash, Hasher};
 use std::path::Path;
 use std::{env, panic, process, thread};
-use tally::Tally;
+use tally::{report, Tally};
 
 const USAGE: &str = "run cases FOLDER | run compare COUNT [SEED [SORT]] | run merge COUNT [SEED] | \
-    run differences | run show SORT SEED NUMBER";
+    run differences | run show SORT SEED NUMBER | run vectors COUNT SEED [FOLDER]";
 
 fn main() {
     // The Rust goes down one call per node.
@@ -43,6 +44,10 @@ fn work() -> Result<(), String> {
         ["show", sort, seed, at] => {
             print!("{}", minimise::show(&case(named(sort)?, number(seed)?, number(at)?)));
             Ok(())
+        }
+        ["vectors", count, seed] => vectors::print(number(count)? as usize, number(seed)?, None),
+        ["vectors", count, seed, folder] => {
+            vectors::print(number(count)? as usize, number(seed)?, Some(Path::new(folder)))
         }
         _ => Err(USAGE.to_string()),
     }
@@ -76,10 +81,7 @@ fn stored_and_small(folder: &Path) -> Result<(), String> {
 fn compare(count: u64, seed: u64, only: Option<Sort>) -> Result<(), String> {
     // A panic of the Rust is a difference, told with its case.
     panic::set_hook(Box::new(|_| {}));
-    let round: Vec<usize> = (0..SORTS.len())
-        .filter(|i| only.is_none_or(|s| s == SORTS[*i].0))
-        .flat_map(|i| vec![i; SORTS[i].1])
-        .collect();
+    let round = round(|sort| only.is_none_or(|s| s == sort));
     let mut tallies = vec![Tally::default(); SORTS.len()];
     let mut made = vec![0; SORTS.len()];
     let mut distinct = HashSet::new();
@@ -93,8 +95,13 @@ fn compare(count: u64, seed: u64, only: Option<Sort>) -> Result<(), String> {
         made[i] += 1;
         distinct.insert(hash(&question));
     }
-    report(&tallies, distinct.len());
+    print!("{}", report(&tallies, distinct.len()));
     Ok(())
+}
+
+/// The sorts that are wanted, by their place in `SORTS`, each as often as a round has it.
+fn round(wanted: impl Fn(Sort) -> bool) -> Vec<usize> {
+    (0..SORTS.len()).filter(|i| wanted(SORTS[*i].0)).flat_map(|i| vec![i; SORTS[i].1]).collect()
 }
 
 fn hash(question: &Question) -> u64 {
@@ -107,16 +114,6 @@ fn differing(sort: Sort, seed: u64, number: u64, question: &Question, message: &
     let small = minimise::minimise(question, |q| judge::judge(q, library()).is_err());
     let now = judge::judge(&small, library()).err().unwrap_or_default();
     format!("{sort:?} {seed} {number}: {message}\nsmallest: {now}\n{}", minimise::show(&small))
-}
-
-fn report(tallies: &[Tally], distinct: usize) {
-    println!("{}", tally::HEAD);
-    let mut all = Tally::default();
-    for ((sort, _), tally) in SORTS.iter().zip(tallies).filter(|(_, t)| t.cases > 0) {
-        println!("{:<11}{tally}", format!("{sort:?}"));
-        all.join(tally);
-    }
-    println!("{:<11}{all}\n{}\n{distinct} distinct cases, no difference", "all", all.forms());
 }
 
 /// The merger alone: the Rust's on lists with a reader's spans, the library's on any numbers.

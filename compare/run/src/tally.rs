@@ -1,11 +1,12 @@
 //! Counts of a run, by sort of case.
 
 use crate::judge::Seen;
+use generate::SORTS;
 use std::fmt::{Display, Formatter, Result};
 
 #[derive(Clone, Default)]
 pub struct Tally {
-    pub cases: usize,
+    cases: usize,
     compared: usize,
     out_of_fuel: usize,
     too_deep: usize,
@@ -17,7 +18,7 @@ pub struct Tally {
     forms: [usize; 11],
 }
 
-pub const HEAD: &str = "sort           cases  with Rust  no fuel  too deep  refused  \
+const HEAD: &str = "sort           cases  with Rust  no fuel  too deep  refused  \
     not same UTF-8  accepted  with error  empty ERROR";
 
 impl Tally {
@@ -34,7 +35,7 @@ impl Tally {
         seen.forms.iter().for_each(|f| self.forms[*f as usize] += 1);
     }
 
-    pub fn join(&mut self, other: &Tally) {
+    fn join(&mut self, other: &Tally) {
         self.cases += other.cases;
         self.compared += other.compared;
         self.out_of_fuel += other.out_of_fuel;
@@ -47,13 +48,25 @@ impl Tally {
         self.forms.iter_mut().zip(other.forms).for_each(|(a, b)| *a += b);
     }
 
-    pub fn forms(&self) -> String {
+    fn forms(&self) -> String {
         format!(
             "error records by form 1..10: {:?}\nrefusals 1..8: {:?}",
             &self.forms[1..],
             &self.refused[1..]
         )
     }
+}
+
+/// A line for each sort that has cases, and the sums.
+pub fn report(tallies: &[Tally], distinct: usize) -> String {
+    let mut lines = vec![HEAD.to_string()];
+    let mut all = Tally::default();
+    for ((sort, _), tally) in SORTS.iter().zip(tallies).filter(|(_, t)| t.cases > 0) {
+        lines.push(format!("{:<11}{tally}", format!("{sort:?}")));
+        all.join(tally);
+    }
+    lines.push(format!("{:<11}{all}\n{}\n{distinct} distinct cases, no difference\n", "all", all.forms()));
+    lines.join("\n")
 }
 
 impl Display for Tally {

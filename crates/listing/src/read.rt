@@ -22,7 +22,8 @@ pub enum Next {
     Nothing,
 }
 
-enum Number {
+// What a field that should be a number reads to.
+pub enum Number {
     Is(u32),
     Nothing,
 }
@@ -45,7 +46,7 @@ fn piece_end(text: &[u8], from: usize, mark: u8) -> usize
     to
 }
 
-fn read_number(text: &[u8]) -> Number
+pub fn read_number(text: &[u8]) -> Number
     ensures { λ r. ⌜ r ≡ numberOf (number (now (text .entry))) ⌝ }
 {
     if text.len() == 0 {

@@ -1,0 +1,63 @@
+-- `holds` is safe and ends.
+use borrow.Author.Needs.{needs}
+use Prim.Native.Nat.{_≤_, _-_}
+use lib.ListN.{length}
+use Rattle.vectors.proofs.holds.Statement.{statement}
+use Rattle.vectors.proofs.holds.Tie as tie
+
+abbrev Inv-loop : tie.InvT-loop
+Inv-loop room stored i₀ i = i ≤ length room
+
+abbrev μ-loop : tie.MeasureT-loop
+μ-loop room stored i₀ i = length room - i
+
+returns : tie.Need-returns Inv-loop μ-loop
+returns c = search needs
+
+loop-holds : tie.Need-loop-holds Inv-loop μ-loop
+loop-holds c = search needs
+
+mul-wanted : tie.Need-mul-wanted Inv-loop μ-loop
+mul-wanted c = search needs
+
+shared-slice-read-wanted : tie.Need-shared-slice-read-wanted Inv-loop μ-loop
+shared-slice-read-wanted c = search needs
+
+mul-if3 : tie.Need-mul-if3 Inv-loop μ-loop
+mul-if3 c = search needs
+
+shared-slice-read-if3 : tie.Need-shared-slice-read-if3 Inv-loop μ-loop
+shared-slice-read-if3 c = search needs
+
+returns-2 : tie.Need-returns-2 Inv-loop μ-loop
+returns-2 c = search needs
+
+add-i : tie.Need-add-i Inv-loop μ-loop
+add-i c = search needs
+
+loop-less : tie.Need-loop-less Inv-loop μ-loop
+loop-less c = search needs
+
+loop-again : tie.Need-loop-again Inv-loop μ-loop
+loop-again c = search needs
+
+returns-3 : tie.Need-returns-3 Inv-loop μ-loop
+returns-3 c = search needs
+
+pub holds-spec : {M : Type 1} → statement M
+holds-spec =
+    tie.close
+    (tie.spec
+    Inv-loop
+    μ-loop
+    returns
+    loop-holds
+    mul-wanted
+    shared-slice-read-wanted
+    mul-if3
+    shared-slice-read-if3
+    returns-2
+    add-i
+    loop-less
+    loop-again
+    returns-3)
