@@ -10,7 +10,7 @@ use sides::{check, Crate, Ours};
 use std::time::Duration;
 use std::{env, fs, thread};
 
-const USAGE: &str = "bench times SVG | bench ours ROWS COUNT";
+const USAGE: &str = "bench times SVG | bench ours ROWS COUNT | bench stack KB LEVELS WORDS";
 
 const HEAD: &str = "| input | files | rows | events | ms crate: best | median | ms ours: best | median | \
     times the crate's speed |\n|---|---|---|---|---|---|---|---|---|";
@@ -32,6 +32,13 @@ fn work() {
             for _ in 0..count.parse::<u32>().expect("count") {
                 ours.read(&file);
             }
+        }
+        // Whether a thread with so much stack reads words that open nodes, so many times in a condition.
+        ["stack", kb, levels, words] => {
+            let file = inputs::nested(&format!("{words} "), "1 ", "", levels.parse().expect("levels"));
+            let size = kb.parse::<usize>().expect("KB") << 10;
+            let thread = thread::Builder::new().stack_size(size).spawn(move || Ours::new().read(&file).1.len());
+            println!("{} events", thread.unwrap().join().unwrap() / 4);
         }
         _ => eprintln!("{USAGE}"),
     }

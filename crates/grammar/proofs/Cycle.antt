@@ -69,21 +69,15 @@ module _ {f : P.Reader} {x : Source} {s r : State} {b : Bufs} {ev er sc : List �
   pub plusB : {g : P.Reader} {q : State} {ev₂ er₂ : List ℕ} → Both g x r q ev ev₂ er er₂ → Did (λ a. g (f a)) x s q b (bufs ev₂ er₂ sc)
   plusB z = core.then y (z .did sc (y .wf))
 
-  pub plusP : {g : P.Reader} {q : State} → Plain g x r q → Did (λ a. g (f a)) x s q b (bufs ev er sc)
-  plusP z = core.then y (z .did (bufs ev er sc) (y .wf))
-
-  -- what the next step asks
   pub asksE : Rows x → Lines (x .ids) (x .ends) × Ok (length (x .ids)) r × (r .evcap ≤ length ev)
   asksE l = (l .lines, y .wf .0, y .wf .1 .events)
 
-  pub asksB : Rows x → Rows x × Ok (length (x .ids)) r × (r .evcap ≤ length ev) × (r .ercap ≤ length er)
-  asksB l = (l, y .wf .0, y .wf .1 .events, y .wf .1 .errors)
+  -- what `step` asks, of a row of the table and of an `if_next` that is passed over
+  pub asksL : Rows x → {A : Type 0} → A → Rows x × Ok (length (x .ids)) r × (r .evcap ≤ length ev) × (r .ercap ≤ length er) × (3 ≤ 3) × (0 < 86) × A
+  asksL l a = (l, y .wf .0, y .wf .1 .events, y .wf .1 .errors, omega arith, omega arith, a)
 
-  pub asksP : Rows x → (length (x .ids) ≤ 65536) × Ok (length (x .ids)) r
-  asksP l = (l .lines .few, y .wf .0)
-
-  pub asksX : Rows x → (n : ℕ) {A : Type 0} → A → Lines (x .ids) (x .ends) × Ok (length (x .ids)) r × (r .evcap ≤ length ev) × A
-  asksX l n a = (l .lines, y .wf .0, y .wf .1 .events, a)
+  pub asksS : Rows x → {A : Type 0} {n m : ℕ} → (n < 3) × (m < 86) → Rows x × Ok (length (x .ids)) r × (r .evcap ≤ length ev) × (r .ercap ≤ length er) × (n ≤ 3) × (m < 86) × (n ≡ 3 → A)
+  asksS l {n = n} h = (l, y .wf .0, y .wf .1 .events, y .wf .1 .errors, omega (arith, h .0), h .1, λ e. absurd (omega (arith, h .0, e)))
 
   -- where the state is now
   pub here : Did (λ a. a) x r r (bufs ev er sc) (bufs ev er sc)
@@ -157,11 +151,8 @@ module _ {f : P.Reader} {x : Source} {s r : State} {b : Bufs} {ev er sc : List �
   pub enters : v ≡ true → {q : State} {b₂ : Bufs} → Did (λ a. reads d o p (P.trivia a)) x r q (bufs ev er sc) b₂ → Did (λ a. reads d o (ifnext S p) (f a)) x s q b b₂
   enters h z = core.then y (branch.branch-in S (reads d o p) (λ c. sticky-exec c x d p o) (y .wf) (sym sees ∙ h) z)
 
-  pub passes : v ≡ false → {q : State} → (ahead S (x .ids) r ≡ false → Plain (P.branches S (λ a. a)) x r q) → Did (λ a. reads d o (ifnext S p) (f a)) x s q b (bufs ev er sc)
-  passes h z = core.then y (branch.branch-out S (reads d o p) (λ c. sticky-exec c x d p o) (y .wf) (sym sees ∙ h) (z (sym sees ∙ h)))
-
-  pub entered : v ≡ true → r .mode ≡ 0
-  entered h = branch.good S (x .ids) r (sym sees ∙ h)
+  pub passes : v ≡ false → {q : State} {b′ : Bufs} → Did (P.branches S (λ a. a)) x r q (bufs ev er sc) b′ → Did (λ a. reads d o (ifnext S p) (f a)) x s q b b′
+  passes h z = core.then y (branch.branch-out S (reads d o p) (λ c. sticky-exec c x d p o) (y .wf) (sym sees ∙ h) z)
 
 -- a repetition
 pub record Turns (f : P.Reader) (x : Source) (s₀ s : State) (k₀ k : ℕ) (ev₀ er₀ sc₀ ev er sc : List ℕ) : Type 0 where

@@ -30,9 +30,15 @@ use Rattle.reader.proofs.Core as core
 use Rattle.grammar.proofs.Cycle.{from, plus, plusE, stops, thence, Tries, tries, tried, again, tried-last, lost-back, lost-on, waives, waived-back, waived-on, enters, passes}
 use Rattle.reader.specs.Bits.{ifb}
 use Rattle.grammar.specs.declared.parts.Part.{Part}
-use Rattle.grammar.specs.declared.parts.Part.the-variants.{Eat, Unless, Recover, Node, Memo, Seq, Then, When, Many, Try}
-use Rattle.grammar.specs.Rows.{size, item}
-use Rattle.grammar.specs.Table.{rowOf, split, labelOf, reads, made, partOf, production, progOf, prog, Line, Cached}
+use Rattle.grammar.specs.declared.parts.Part.the-variants.{Step, Node, Memo, Seq, Then, When, Many, Try}
+use Rattle.reader.proofs.Branch as branch
+use Rattle.grammar.specs.Rows.{rows, size, item}
+use Rattle.grammar.specs.Table.{Lent, rowOf, split, labelOf, stepOf, stepping, reads, made, partOf, production, progOf, prog, Line, Cached}
+
+-- the code's rows are the definition's
+pub rows-lent : Lent rows
+unfolding rowOf
+rows-lent = record { long = refl; row = λ i. refl }
 
 -- a row by its combinator and operands
 module _ (i : ℕ) {r : ℕ} (e : r ≡ rowOf i) where
@@ -51,7 +57,7 @@ module _ (i : ℕ) {r : ℕ} (e : r ≡ rowOf i) where
 
   pub row-else : 9 ≤ r / 16777216 → Try (r / 16777216) first second ≡ partOf i
   row-else h =
-      sym (List·getD-eq-default (Eat first second ∷ Unless first ∷ Recover first ∷ Node first second ∷ Memo first second ∷ Seq first second ∷ Then first ∷ When first second ∷ Many first ∷ []) (Try (r / 16777216) first second) h)
+      sym (List·getD-eq-default (Step 0 first second ∷ Step 1 first second ∷ Step 2 first second ∷ Node first second ∷ Memo first second ∷ Seq first second ∷ Then first ∷ When first second ∷ Many first ∷ []) (Try (r / 16777216) first second) h)
       ∙ whole
 
 -- a number that is none of those before
@@ -92,9 +98,7 @@ either false b = b
 
 -- the rows that a row names stand before it; a name is one, a production's kind and line belong together
 abbrev pub sound : ℕ → Part → Bool
-sound i (Eat s n) = ltb n 86
-sound i (Unless s) = true
-sound i (Recover s) = true
+sound i (Step n s m) = both (ltb n 3) (ltb m 86)
 sound i (Node a j) = both (eqb (kind (production a)) a) (ltb j size)
 sound i (Memo a j) = both (either (eqb a k.EXPR) (eqb a k.TERM)) (both (eqb (kind (production a)) a) (ltb j size))
 sound i (Seq j h) = both (ltb j i) (ltb h i)
@@ -108,9 +112,7 @@ unfolding prog partOf rowOf production productions kind
 tested = refl
 
 abbrev pub Sound : ℕ → Part → Type 0
-Sound i (Eat s n) = n < 86
-Sound i (Unless s) = Unit
-Sound i (Recover s) = Unit
+Sound i (Step n s m) = (n < 3) × (m < 86)
 Sound i (Node a j) = (kind (production a) ≡ a) × (j < size)
 Sound i (Memo a j) = Cached a × (kind (production a) ≡ a) × (j < size)
 Sound i (Seq j h) = (j < i) × (h < i)
@@ -130,9 +132,7 @@ cached a t = go (ℕ-discrete a k.EXPR)
     go (no q) = inr (eqb-true a k.TERM (sym (ap (λ (c : Bool). either c (eqb a k.TERM)) (ne-eqb a k.EXPR q)) ∙ t))
 
 sound-so : (i : ℕ) (p : Part) → sound i p ≡ true → Sound i p
-sound-so i (Eat s n) t = ltb-true n 86 t
-sound-so i (Unless s) t = tt
-sound-so i (Recover s) t = tt
+sound-so i (Step n s m) t = two-facts (ltb-true n 3) (ltb-true m 86) t
 sound-so i (Node a j) t = two-facts (eqb-true _ a) (ltb-true j size) t
 sound-so i (Memo a j) t = let q = both-right (either (eqb a k.EXPR) (eqb a k.TERM)) _ t in (cached a (both-left (either (eqb a k.EXPR) (eqb a k.TERM)) _ t), eqb-true _ a (both-left (eqb (kind (production a)) a) _ q), ltb-true j size (both-right (eqb (kind (production a)) a) _ q))
 sound-so i (Seq j h) t = two-facts (ltb-true j i) (ltb-true h i) t
@@ -146,9 +146,7 @@ row-sound i h {p} e = sound-so i p (ap (sound i) e ∙ all-sound (λ j. sound j 
 
 -- a function of the kind and the line that a row names
 abbrev called : (ℕ → ℕ → Prog) → Part → Prog
-called f (Eat s n) = prog 0
-called f (Unless s) = prog 0
-called f (Recover s) = prog 0
+called f (Step n s m) = prog 0
 called f (Node a j) = f a j
 called f (Memo a j) = f a j
 called f (Seq j h) = prog 0
@@ -191,8 +189,32 @@ module _ (d : ℕ) (o : Bool) {x : Source} {s r : State} {b b′ : Bufs} where
   pub is-line : {a j : ℕ} → Line a j → Did (reads d o (prog j)) x s r b b′ → Did (reads d o (grammar (production a))) x s r b b′
   is-line l y = subst (λ (q : Prog). Did (reads d o q) x s r b b′) (l .line) y
 
-  pub is-eat : (i : ℕ) → i < size → {n m : ℕ} → Eat n m ≡ partOf i → {l : Label} → l ≡ labelOf m → Did (P.eats (setOf n) (namesOf n l)) x s r b b′ → Did (reads d o (prog i)) x s r b b′
-  is-eat i h {n} e {l} f y = is-row i h e (subst (λ (q : Label). Did (P.eats (setOf n) (namesOf n q)) x s r b b′) f y)
+  -- what takes no other part, by which it is
+  module _ (n c m : ℕ) where
+    none-passed : n < 3 → Did (reads d o (stepOf n c m)) x s r b b′ → Did (stepping d o n c m) x s r b b′
+    none-passed e y = subst (λ (t : Bool). Did (ifb t (P.branches (setOf c) (λ a. a)) (reads d o (stepOf n c m))) x s r b b′) (sym (ne-eqb n 3 (λ i. omega (arith, e, i)))) y
+
+    none-eaten : (n ≡ 0 → ⊥) → Did (reads d o (ifb (eqb n 1) (G.unless (setOf c)) (G.recover (setOf c)))) x s r b b′ → Did (reads d o (stepOf n c m)) x s r b b′
+    none-eaten e y = subst (λ (t : Bool). Did (reads d o (ifb t (G.eat (setOf c) (namesOf c (labelOf m))) (ifb (eqb n 1) (G.unless (setOf c)) (G.recover (setOf c))))) x s r b b′) (sym (ne-eqb n 0 e)) y
+
+    pub is-eat : n ≡ 0 → {l : Label} → l ≡ labelOf m → Did (P.eats (setOf c) (namesOf c l)) x s r b b′ → Did (stepping d o n c m) x s r b b′
+    is-eat e {l} f y =
+        none-passed (omega (arith, e))
+        (subst (λ (t : Bool). Did (reads d o (ifb t (G.eat (setOf c) (namesOf c (labelOf m))) (ifb (eqb n 1) (G.unless (setOf c)) (G.recover (setOf c))))) x s r b b′) (sym (eq-eqb n 0 e))
+        (subst (λ (q : Label). Did (P.eats (setOf c) (namesOf c q)) x s r b b′) f y))
+
+    pub is-unless : (n ≡ 0 → ⊥) → n ≡ 1 → Did (P.refuses (setOf c)) x s r b b′ → Did (stepping d o n c m) x s r b b′
+    is-unless e f y = none-passed (omega (arith, f)) (none-eaten e (subst (λ (t : Bool). Did (reads d o (ifb t (G.unless (setOf c)) (G.recover (setOf c)))) x s r b b′) (sym (eq-eqb n 1 f)) y))
+
+    pub is-passed : n ≡ 3 → Did (P.branches (setOf c) (λ a. a)) x s r b b′ → Did (stepping d o n c m) x s r b b′
+    is-passed e y = subst (λ (t : Bool). Did (ifb t (P.branches (setOf c) (λ a. a)) (reads d o (stepOf n c m))) x s r b b′) (sym (eq-eqb n 3 e)) y
+
+    pub is-recover : (n ≡ 0 → ⊥) → (n ≡ 1 → ⊥) → n < 3 → Did (P.recovery d o (setOf c)) x s r b b′ → Did (stepping d o n c m) x s r b b′
+    is-recover e f h y = none-passed h (none-eaten e (subst (λ (t : Bool). Did (reads d o (ifb t (G.unless (setOf c)) (G.recover (setOf c)))) x s r b b′) (sym (ne-eqb n 1 f)) y))
+
+  pub is-step : (i : ℕ) → i < size → {n c m : ℕ} → Step n c m ≡ partOf i → n < 3 → Did (stepping d o n c m) x s r b b′ → Did (reads d o (prog i)) x s r b b′
+  is-step i h {n} {c} {m} e k y =
+      is-row i h e (subst (λ (t : Bool). Did (ifb t (P.branches (setOf c) (λ a. a)) (reads d o (stepOf n c m))) x s r b b′) (ne-eqb n 3 (λ i. omega (arith, k, i))) y)
 
 pub proper : (n : ℕ) → n < 86 → {l : Label} → l ≡ labelOf n → Proper l
 proper n h {l} e = subst (λ (q : Label). Proper q) (sym e) (go (ℕ-discrete n 85))
@@ -228,6 +250,10 @@ pub goes-on : {d : ℕ} {o : Bool} {x : Source} {i₀ i j : ℕ} {s₀ s r : Sta
 goes-on g w h f k l m =
     record { go = λ y. g .go (f _ _ y); wf = w; inside = omega (arith, h, g .inside); below = omega (arith, h, g .below); events = k ∙ g .events; errors = l ∙ g .errors; scratch = m ∙ g .scratch }
 
+-- a row that was seen was seen in good order
+pub when-good : (ids : List ℕ) (s : State) (i : ℕ) {S p : ℕ} → When S p ≡ partOf i → {v : Bool} → v ≡ ahead (setOf S) ids s → v ≡ true → s .mode ≡ 0
+when-good ids s i {S} e sees n = branch.good (setOf S) ids s (sym sees ∙ n)
+
 module _ (d : ℕ) (o : Bool) (i : ℕ) (h : i < size) {x : Source} {s : State} (ev er sc : List ℕ) (w : Wf x (bufs ev er sc) s) where
   still : Did (λ a. a) x s s (bufs ev er sc) (bufs ev er sc)
   still = from x s ev er sc w
@@ -241,7 +267,7 @@ module _ (d : ℕ) (o : Bool) (i : ℕ) (h : i < size) {x : Source} {s : State} 
   pub then-goes : {p : ℕ} → Then p ≡ partOf i → s .mode ≡ 0 → {r z : State} {ev′ : List ℕ} {b : Bufs} → Events P.trivia x s r ev ev′ → Did (reads d o (prog p)) x r z (bufs ev′ er sc) b → Did (reads d o (prog i)) x s z (bufs ev er sc) b
   then-goes {p} e good t y = is-row d o i h e (thence still d o (prog p) good (plus (plusE still t) y))
 
-  pub when-passes : {S p : ℕ} → When S p ≡ partOf i → {v : Bool} → v ≡ ahead (setOf S) (x .ids) s → v ≡ false → {q : State} → (ahead (setOf S) (x .ids) s ≡ false → Plain (P.branches (setOf S) (λ a. a)) x s q) → Did (reads d o (prog i)) x s q (bufs ev er sc) (bufs ev er sc)
+  pub when-passes : {S p : ℕ} → When S p ≡ partOf i → {v : Bool} → v ≡ ahead (setOf S) (x .ids) s → v ≡ false → {q : State} {b : Bufs} → Did (P.branches (setOf S) (λ a. a)) x s q (bufs ev er sc) b → Did (reads d o (prog i)) x s q (bufs ev er sc) b
   when-passes {S} {p} e sees n y = is-row d o i h e (passes still d o (setOf S) (prog p) sees n y)
 
   pub when-goes : {S p : ℕ} → When S p ≡ partOf i → {v : Bool} → v ≡ ahead (setOf S) (x .ids) s → v ≡ true → {r z : State} {ev′ : List ℕ} {b : Bufs} → Events P.trivia x s r ev ev′ → Did (reads d o (prog p)) x r z (bufs ev′ er sc) b → Did (reads d o (prog i)) x s z (bufs ev er sc) b

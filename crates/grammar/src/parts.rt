@@ -6,19 +6,29 @@ use kinds::kind;
 use reader::cache::seen;
 use reader::names::Label;
 use reader::state::State;
+use reader::state::skip_trivia;
 ghost use mathlib.Core.Path.{_≡_};
-ghost use mathlib.Core.Bool.{true};
+ghost use mathlib.Core.Bool.{true, false};
 ghost use mathlib.Core.Logic.{_⊎_};
 ghost use Prim.Native.Nat.{_≤_, _<_};
+ghost use lib.ListN.{length};
 ghost use Rattle.kinds.specs.Sets.{setOf};
 ghost use Rattle.peg.specs.Prog.{ifnext, _/_};
 ghost use Rattle.peg.specs.Prog as G;
 ghost use Rattle.peg.specs.Grammar as K;
 ghost use Rattle.peg.specs.Run as P;
 ghost use Rattle.reader.specs.Means.{limits, source, bufs, Rows};
-ghost use Rattle.reader.specs.Did.{Wf, Did};
+ghost use Rattle.reader.specs.Did.{Ok, Wf, Did, Both, ahead};
 ghost use Rattle.grammar.specs.Rows.{size};
-ghost use Rattle.grammar.specs.Table.{rowOf, partOf, labelOf, prog, production, reads, Line, Cached, Bit};
+ghost use Rattle.grammar.specs.Table.{Lent, partOf, labelOf, stepping, prog, production, reads, Line, Cached, Bit};
+
+// `expect_d` and `not`, beside `recover`.
+const EAT: u32 = 0;
+
+const UNLESS: u32 = 1;
+
+// An `if_next` whose row is not there.
+const PASS: u32 = 3;
 
 // `opt`, and the last alternative of several.
 const OPTIONAL: u32 = 9;
@@ -28,9 +38,8 @@ const LAST: u32 = 10;
 // A combinator of the module with its operands: sets and names by number, a production by its kind and the row of its line, parts by
 // their rows.
 pub enum Part {
-    Eat(usize, u32),
-    Unless(usize),
-    Recover(usize),
+    // What takes no other part, by which it is: `expect_d`, `not` or `recover`.
+    Step(u32, usize, u32),
     Node(u32, usize),
     Memo(u32, usize),
     Seq(usize, usize),
@@ -41,27 +50,21 @@ pub enum Part {
     Try(u32, usize, usize),
 }
 
-fn row_at(i: usize) -> u32
-    requires { ⌜ i < size ⌝ }
-    ensures { λ r. ⌜ r ≡ rowOf i ⌝ }
-{
-    ROWS[i]
-}
-
-fn part_at(i: usize) -> Part
-    requires { ⌜ i < size ⌝ }
+// A row of the table, which is lent: a table named where it is read would be laid out anew for each row.
+fn part_at(i: usize, table: &[u32]) -> Part
+    requires { ⌜ (i < size) × Lent (now table) ⌝ }
     ensures { λ r. ⌜ r ≡ partOf i ⌝ }
 {
-    let row = row_at(i);
+    let row = table[i];
     let n = row / 16777216;
     let a = row / 4096 % 4096;
     let b = row % 4096;
     let first = a as usize;
     let second = b as usize;
     match n {
-        0 => Part::Eat(first, b),
-        1 => Part::Unless(first),
-        2 => Part::Recover(first),
+        0 => Part::Step(0, first, b),
+        1 => Part::Step(1, first, b),
+        2 => Part::Step(2, first, b),
         3 => Part::Node(a, second),
         4 => Part::Memo(a, second),
         5 => Part::Seq(first, second),
@@ -94,8 +97,37 @@ fn bit_of(kind: u32, row: usize) -> usize
     2 * row + 1
 }
 
+// `expect_d`, `not` or `recover`, which take no other part, or the names of an `if_next` that is passed over. It stands apart from `exec`, so that its room on the stack is not taken by each open node.
+fn step(
+    which: u32,
+    set: usize,
+    name: u32,
+    s: State,
+    d: usize,
+    optional: bool,
+    src: &[u8],
+    ids: &[u32],
+    ends: &[u32],
+    events: &mut [u32],
+    errors: &mut [u32],
+) -> State
+    requires { ⌜ Rows (source (now src) (now ids) (now ends)) × Ok (length (now ids)) s × (s .evcap ≤ length (now events)) × (s .ercap ≤ length (now errors)) × (which ≤ 3) × (name < 86) × (which ≡ 3 → ahead (setOf set) (now ids) s ≡ false) ⌝ }
+    ensures { λ r. ⌜ Both (stepping d optional which set name) (source (now (src .entry)) (now (ids .entry)) (now (ends .entry))) s r (now (events .entry)) (now (events .exit)) (now (errors .entry)) (now (errors .exit)) ⌝ }
+{
+    if which == EAT {
+        return s.eat(set, label(name), ids, ends, events);
+    }
+    if which == UNLESS {
+        return s.unless(set, ids, ends, events);
+    }
+    if which == PASS {
+        return s.pass(set, ids);
+    }
+    s.recover(d, optional, set, src, ids, ends, events, errors)
+}
+
 // A part of a line, where d more nodes may be opened; optional says whether a part around it may be left out. What a part ends with is read in the next
-// turn of the loop and not by a call, so that an open node takes little of the stack.
+// turn of the loop and not by a call, and what a call gives is laid into `s`, so that an open node takes little of the stack.
 fn exec(
     mut i: usize,
     mut s: State,
@@ -107,19 +139,31 @@ fn exec(
     events: &mut [u32],
     errors: &mut [u32],
     scratch: &mut [u64],
+    table: &[u32],
 ) -> State
-    requires { ⌜ Rows (source (now src) (now ids) (now ends)) × Wf (source (now src) (now ids) (now ends)) (bufs (now events) (now errors) (now scratch)) s × (i < size) ⌝ }
+    requires { ⌜ Rows (source (now src) (now ids) (now ends)) × Wf (source (now src) (now ids) (now ends)) (bufs (now events) (now errors) (now scratch)) s × (i < size) × Lent (now table) ⌝ }
     ensures { λ r. ⌜ Did (reads d optional (prog i)) (source (now (src .entry)) (now (ids .entry)) (now (ends .entry))) s r (bufs (now (events .entry)) (now (errors .entry)) (now (scratch .entry))) (bufs (now (events .exit)) (now (errors .exit)) (now (scratch .exit))) ⌝ }
 {
     loop {
-        match part_at(i) {
-            Part::Eat(set, name) => return s.eat(set, label(name), ids, ends, events),
-            Part::Unless(set) => return s.unless(set, ids),
-            Part::Recover(set) => {
-                return s.recover(d, optional, set, src, ids, ends, events, errors);
+        match part_at(i, table) {
+            Part::Step(which, set, name) => {
+                s = step(
+                    which,
+                    set,
+                    name,
+                    s,
+                    d,
+                    optional,
+                    src,
+                    ids,
+                    ends,
+                    events,
+                    errors,
+                );
+                return s;
             }
             Part::Node(kind, line) => {
-                return node(
+                s = node(
                     kind,
                     line,
                     s,
@@ -131,10 +175,12 @@ fn exec(
                     events,
                     errors,
                     scratch,
+                    table,
                 );
+                return s;
             }
             Part::Memo(kind, line) => {
-                return cached(
+                s = cached(
                     kind,
                     line,
                     s,
@@ -146,47 +192,165 @@ fn exec(
                     events,
                     errors,
                     scratch,
+                    table,
                 );
+                return s;
             }
-            Part::Many(p) => return many(p, s, d, src, ids, ends, events, errors, scratch),
+            Part::Many(p) => {
+                s = many(p, s, d, src, ids, ends, events, errors, scratch, table);
+                return s;
+            }
             Part::Seq(p, q) => {
-                s = exec(p, s, d, optional, src, ids, ends, events, errors, scratch);
+                s = head(
+                    p,
+                    s,
+                    d,
+                    optional,
+                    src,
+                    ids,
+                    ends,
+                    events,
+                    errors,
+                    scratch,
+                    table,
+                );
                 i = q;
             }
             Part::Then(p) => {
                 if s.mode != 0 {
                     return s;
                 }
-                s = s.trivia(ids, ends, events);
+                let at = skip_trivia(s.pos, s.ev, s.evcap, s.full, ids, ends, events);
+                s.pos = at.pos;
+                s.ev = at.ev;
+                s.full = at.full;
                 i = p;
             }
             Part::When(set, p) => {
                 if !s.sees(set, ids) {
-                    return s.pass(set, ids);
+                    s = step(PASS, set, 0, s, d, optional, src, ids, ends, events, errors);
+                    return s;
                 }
-                s = s.trivia(ids, ends, events);
+                let at = skip_trivia(s.pos, s.ev, s.evcap, s.full, ids, ends, events);
+                s.pos = at.pos;
+                s.ev = at.ev;
+                s.full = at.full;
                 i = p;
             }
             Part::Try(how, p, q) => {
                 if s.mode != 0 {
                     return s;
                 }
-                let m = s.mark();
-                s = s.trivia(ids, ends, events);
-                s = exec(p, s, d, true, src, ids, ends, events, errors, scratch);
+                let pos = s.pos;
+                let ev = s.ev;
+                let at = skip_trivia(s.pos, s.ev, s.evcap, s.full, ids, ends, events);
+                s.pos = at.pos;
+                s.ev = at.ev;
+                s.full = at.full;
+                s = exec(
+                    p,
+                    s,
+                    d,
+                    true,
+                    src,
+                    ids,
+                    ends,
+                    events,
+                    errors,
+                    scratch,
+                    table,
+                );
                 if s.mode != 1 {
                     return s;
                 }
-                if how == OPTIONAL {
-                    return s.retry(m);
-                }
+                s.pos = pos;
+                s.ev = ev;
                 if how == LAST {
-                    return s.rewind(m);
+                    return s;
                 }
-                s = s.retry(m);
+                s.mode = 0;
+                if how == OPTIONAL {
+                    return s;
+                }
                 i = q;
             }
         }
+    }
+}
+
+// A part that another part begins with. Rows and productions are read without a turn of `exec`, which takes more of the stack and copies the state.
+fn head(
+    p: usize,
+    s: State,
+    d: usize,
+    optional: bool,
+    src: &[u8],
+    ids: &[u32],
+    ends: &[u32],
+    events: &mut [u32],
+    errors: &mut [u32],
+    scratch: &mut [u64],
+    table: &[u32],
+) -> State
+    requires { ⌜ Rows (source (now src) (now ids) (now ends)) × Wf (source (now src) (now ids) (now ends)) (bufs (now events) (now errors) (now scratch)) s × (p < size) × Lent (now table) ⌝ }
+    ensures { λ r. ⌜ Did (reads d optional (prog p)) (source (now (src .entry)) (now (ids .entry)) (now (ends .entry))) s r (bufs (now (events .entry)) (now (errors .entry)) (now (scratch .entry))) (bufs (now (events .exit)) (now (errors .exit)) (now (scratch .exit))) ⌝ }
+{
+    match part_at(p, table) {
+        Part::Step(which, set, name) => step(
+            which,
+            set,
+            name,
+            s,
+            d,
+            optional,
+            src,
+            ids,
+            ends,
+            events,
+            errors,
+        ),
+        Part::Node(kind, line) => node(
+            kind,
+            line,
+            s,
+            d,
+            optional,
+            src,
+            ids,
+            ends,
+            events,
+            errors,
+            scratch,
+            table,
+        ),
+        Part::Memo(kind, line) => cached(
+            kind,
+            line,
+            s,
+            d,
+            optional,
+            src,
+            ids,
+            ends,
+            events,
+            errors,
+            scratch,
+            table,
+        ),
+        Part::Many(q) => many(q, s, d, src, ids, ends, events, errors, scratch, table),
+        _ => exec(
+            p,
+            s,
+            d,
+            optional,
+            src,
+            ids,
+            ends,
+            events,
+            errors,
+            scratch,
+            table,
+        ),
     }
 }
 
@@ -203,8 +367,9 @@ fn node(
     events: &mut [u32],
     errors: &mut [u32],
     scratch: &mut [u64],
+    table: &[u32],
 ) -> State
-    requires { ⌜ Rows (source (now src) (now ids) (now ends)) × Wf (source (now src) (now ids) (now ends)) (bufs (now events) (now errors) (now scratch)) s × Line kind line ⌝ }
+    requires { ⌜ Rows (source (now src) (now ids) (now ends)) × Wf (source (now src) (now ids) (now ends)) (bufs (now events) (now errors) (now scratch)) s × Line kind line × Lent (now table) ⌝ }
     ensures { λ r. ⌜ Did (P.run d optional (production kind)) (source (now (src .entry)) (now (ids .entry)) (now (ends .entry))) s r (bufs (now (events .entry)) (now (errors .entry)) (now (scratch .entry))) (bufs (now (events .exit)) (now (errors .exit)) (now (scratch .exit))) ⌝ }
 {
     s = s.begin(d, ids, ends, events);
@@ -224,6 +389,7 @@ fn node(
         events,
         errors,
         scratch,
+        table,
     );
     s.end(kind, from, at, optional, src, ids, ends, events, errors)
 }
@@ -241,8 +407,9 @@ fn cached(
     events: &mut [u32],
     errors: &mut [u32],
     scratch: &mut [u64],
+    table: &[u32],
 ) -> State
-    requires { ⌜ Rows (source (now src) (now ids) (now ends)) × Wf (source (now src) (now ids) (now ends)) (bufs (now events) (now errors) (now scratch)) s × Line kind line × Cached kind ⌝ }
+    requires { ⌜ Rows (source (now src) (now ids) (now ends)) × Wf (source (now src) (now ids) (now ends)) (bufs (now events) (now errors) (now scratch)) s × Line kind line × Cached kind × Lent (now table) ⌝ }
     ensures { λ r. ⌜ Did (P.memos (K.kind (production kind)) (P.run d optional (production kind))) (source (now (src .entry)) (now (ids .entry)) (now (ends .entry))) s r (bufs (now (events .entry)) (now (errors .entry)) (now (scratch .entry))) (bufs (now (events .exit)) (now (errors .exit)) (now (scratch .exit))) ⌝ }
 {
     if s.mode != 0 {
@@ -265,6 +432,7 @@ fn cached(
         events,
         errors,
         scratch,
+        table,
     );
     if s.mode != 1 {
         return s;
@@ -283,8 +451,9 @@ fn many(
     events: &mut [u32],
     errors: &mut [u32],
     scratch: &mut [u64],
+    table: &[u32],
 ) -> State
-    requires { ⌜ Rows (source (now src) (now ids) (now ends)) × Wf (source (now src) (now ids) (now ends)) (bufs (now events) (now errors) (now scratch)) s × (p < size) ⌝ }
+    requires { ⌜ Rows (source (now src) (now ids) (now ends)) × Wf (source (now src) (now ids) (now ends)) (bufs (now events) (now errors) (now scratch)) s × (p < size) × Lent (now table) ⌝ }
     ensures { λ r. ⌜ Did (reads d true (G.many (prog p))) (source (now (src .entry)) (now (ids .entry)) (now (ends .entry))) s r (bufs (now (events .entry)) (now (errors .entry)) (now (scratch .entry))) (bufs (now (events .exit)) (now (errors .exit)) (now (scratch .exit))) ⌝ }
 {
     if s.mode != 0 {
@@ -294,7 +463,19 @@ fn many(
     while n > 0 {
         let m = s.mark();
         s = s.trivia(ids, ends, events);
-        s = exec(p, s, d, true, src, ids, ends, events, errors, scratch);
+        s = exec(
+            p,
+            s,
+            d,
+            true,
+            src,
+            ids,
+            ends,
+            events,
+            errors,
+            scratch,
+            table,
+        );
         if s.mode != 0 {
             return s.undone(m);
         }
@@ -316,6 +497,7 @@ pub fn rule_item(
     requires { ⌜ Rows (source (now src) (now ids) (now ends)) × Wf (source (now src) (now ids) (now ends)) (bufs (now events) (now errors) (now scratch)) s ⌝ }
     ensures { λ r. ⌜ Did (P.read-rule limits) (source (now (src .entry)) (now (ids .entry)) (now (ends .entry))) s r (bufs (now (events .entry)) (now (errors .entry)) (now (scratch .entry))) (bufs (now (events .exit)) (now (errors .exit)) (now (scratch .exit))) ⌝ }
 {
+    let table = ROWS;
     exec(
         ITEM,
         s,
@@ -327,5 +509,6 @@ pub fn rule_item(
         events,
         errors,
         scratch,
+        &table,
     )
 }

@@ -1,5 +1,5 @@
 -- The kinds of a set in the order list: the first that has an id, and their names. Assumes nothing.
-use Prim.Native.Nat.{ℕ, zero, suc, _+_, _≤_, _<_}
+use Prim.Native.Nat.{ℕ, zero, suc, _+_, _^_, _≤_, _<_}
 use mathlib.Core.Path.{_≡_, refl, sym, ap, _∙_}
 use mathlib.Core.List.{List, [], _∷_, map}
 use mathlib.Core.Bool.{Bool, true, false}
@@ -12,6 +12,7 @@ use lib.ListN.{length, getD, getElem?, drop, drop-of-length-le, List·getD-eq-de
 use lib.Seq.{drop-cons}
 use Rattle.kinds.specs.Sets.{idOf, pick, sets, setOf}
 use Rattle.kinds.specs.Answers.{order, PartOf}
+use Rattle.kinds.proofs.Parts.{starts, parts}
 
 -- a number that no set has
 pub set-none : (s : ℕ) → 55 ≤ s → setOf s ≡ []
@@ -19,6 +20,10 @@ set-none s h = List·getD-eq-default sets [] h
 
 pub place-none : (s : ℕ) → 55 ≤ s → PartOf order (setOf s) 0 0
 place-none s h = record { forward = omega arith; within = omega arith; is = sym (set-none s h) }
+
+-- where a set stands: numbers that any word holds
+pub place-small : (s : ℕ) → s < 55 → (getD (starts 0 sets) s 0 < 2 ^ 64) × (getD (starts 0 sets) (s + 1) 0 < 2 ^ 64)
+place-small s h = let p = parts sets s h in (omega (arith, p .forward, p .within), omega (arith, p .within))
 
 -- looking for the id i, with the first j kinds passed
 pub record Looked (l : List ℕ) (i j : ℕ) : Type 0 where

@@ -80,12 +80,12 @@ pub fn contains(set: usize, id: u32) -> bool
 }
 
 // The first of the kinds that has the id.
-fn first(kinds: &[u32], id: u32) -> Matched
+fn first(kinds: &[u8], id: u32) -> Matched
     ensures { λ r. ⌜ r ≡ matchedOf (pick (now (kinds .entry)) id) ⌝ }
 {
     let mut i = 0;
     while i < kinds.len() {
-        let kind = kinds[i];
+        let kind = kinds[i] as u32;
         if id_of(kind) == id {
             return Matched::Kind(kind);
         }
@@ -105,8 +105,8 @@ fn place(set: usize) -> Part
 {
     if set < 55 {
         return Part {
-            from: BEGINS[set],
-            to: BEGINS[set + 1],
+            from: BEGINS[set] as usize,
+            to: BEGINS[set + 1] as usize,
         };
     }
     Part { from: 0, to: 0 }
@@ -124,11 +124,11 @@ pub fn matched(set: usize, id: u32) -> Matched
 }
 
 // The id of the k-th of the kinds, from 0.
-fn nth(kinds: &[u32], k: usize) -> Name
+fn nth(kinds: &[u8], k: usize) -> Name
     ensures { λ r. ⌜ r ≡ nameOf (getElem? (idsOf (now (kinds .entry))) k) ⌝ }
 {
     if k < kinds.len() {
-        return Name::Is(id_of(kinds[k]));
+        return Name::Is(id_of(kinds[k] as u32));
     }
     Name::Nothing
 }

@@ -70,11 +70,11 @@ module _ (S : List ℕ) (f : P.Reader) {x : Source} {s : State} {b : Bufs} (F : 
       found (hit k is) q a = refl
 
   -- it does not
-  pub branch-out : {r : State} → ahead S (x .ids) s ≡ false → Plain (P.branches S (λ a. a)) x s r → Did (P.branches S f) x s r b b
+  pub branch-out : {r : State} {b′ : Bufs} → ahead S (x .ids) s ≡ false → Did (P.branches S (λ a. a)) x s r b b′ → Did (P.branches S f) x s r b b′
   branch-out e y =
       retold (P.branches S f) (λ p a n. refl) (λ p. sticky p x .at-ifnext S (λ a. a) (λ a n. refl)) (λ p. sticky p x .at-ifnext S f (F p)) (λ p a t. sticky p x .at-ifnext S f (F p) a)
       (λ p a t i j. by (s .mode) a (t .means i .mode) (ap (λ (l : List ℕ). hits (P.next S l)) (t .means i .rest)) refl)
-      (idle w (λ p a t. like-same refl)) (y .did b w)
+      (idle w (λ p a t. like-same refl)) y
     where
       passed : (z : Next) → hits z ≡ false → (a : P.State) → P.branch (idsOf S) (λ a. a) z a ≡ P.branch (idsOf S) f z a
       passed end q a = refl

@@ -18,7 +18,7 @@ use Rattle.reader.specs.declared.state.State.{State}
 use Rattle.reader.specs.Bits.{ifb}
 use Rattle.reader.specs.Change.{withPos, withEv, withFull}
 use Rattle.reader.specs.Means.{limits, Bufs, bufs, Past, Means, Stands, Lines, overOf}
-use Rattle.reader.specs.Did.{Ok, Wf, Roomy, Did, Events, Errors, Plain, Put}
+use Rattle.reader.specs.Did.{Ok, Wf, Roomy, Did, Events, Errors, Plain, Penned, Put}
 use Rattle.reader.proofs.Lists.{stored, take-four, keep-four, length-four}
 use Rattle.reader.proofs.Rooms.{ev-count, er-count, fits, first-of, spill, marked, full-first, exceeds-none, exceeds-events}
 
@@ -111,28 +111,31 @@ quiet-said x (leaf a n) o q = refl
 quiet-said x (closed a n m) o q = refl
 quiet-said x (bad n c) o q = absurd q
 
--- four numbers more: what `put` returns
-module _ (s : State) (ev : List ℕ) where
-  pub put-not : (q : List ℕ) → s .ev ≤ s .evcap → (s .full ≡ 0 → ⊥) → Put q s s ev ev
-  put-not q h f = record { is = refl; stuck = λ n. refl; filled = λ z. absurd (f z); room = λ z. z; wrote = λ z. absurd (f z); more = λ z. absurd (f z); fits = h; grows = le-refl _; long = refl; kept = refl }
+-- four numbers more: what `write` returns
+module _ (at cap full : ℕ) (ev : List ℕ) where
+  pub pen-not : (q : List ℕ) → at ≤ cap → (full ≡ 0 → ⊥) → Penned q at cap full at full ev ev
+  pen-not q h f = record { stuck = λ n. refl; filled = λ z. absurd (f z); room = λ z. z; wrote = λ z. absurd (f z); more = λ z. absurd (f z); fits = h; grows = le-refl _; long = refl; kept = refl }
 
-  pub put-full : (q : List ℕ) → s .full ≡ 0 → s .ev ≤ s .evcap → s .evcap < s .ev + 4 → Put q s (withFull 7 s) ev ev
-  put-full q z h l = record { is = refl; stuck = λ n. absurd (n z); filled = λ y. ap (λ (c : Bool). ifb c 7 0) (sym (lt-ltb (s .evcap) (s .ev + 4) l)); room = λ y. absurd (omega arith); wrote = λ y. absurd (omega arith); more = λ y. absurd (omega arith); fits = h; grows = le-refl _; long = refl; kept = refl }
+  pub pen-full : (q : List ℕ) → full ≡ 0 → at ≤ cap → cap < at + 4 → Penned q at cap full at 7 ev ev
+  pen-full q z h l = record { stuck = λ n. absurd (n z); filled = λ y. ap (λ (c : Bool). ifb c 7 0) (sym (lt-ltb cap (at + 4) l)); room = λ y. absurd (omega arith); wrote = λ y. absurd (omega arith); more = λ y. absurd (omega arith); fits = h; grows = le-refl _; long = refl; kept = refl }
 
-  pub put-four : (a b c d : ℕ) → s .full ≡ 0 → s .ev + 4 ≤ s .evcap → s .evcap ≤ length ev → Put (four a b c d) s (withEv (s .ev + 4) s) ev (stored ev (s .ev) a b c d)
-  put-four a b c d z f l =
+  pub pen-four : (a b c d : ℕ) → full ≡ 0 → at + 4 ≤ cap → cap ≤ length ev → Penned (four a b c d) at cap full (at + 4) full ev (stored ev at a b c d)
+  pen-four a b c d z f l =
       record {
-        is = refl;
         stuck = λ n. refl;
-        filled = λ y. z ∙ ap (λ (t : Bool). ifb t 7 0) (sym (le-ltb (s .evcap) (s .ev + 4) f));
+        filled = λ y. z ∙ ap (λ (t : Bool). ifb t 7 0) (sym (le-ltb cap (at + 4) f));
         room = λ y. z;
-        wrote = λ y. take-four ev (s .ev) a b c d (le-trans f l);
+        wrote = λ y. take-four ev at a b c d (le-trans f l);
         more = λ y. refl;
         fits = f;
         grows = omega arith;
-        long = length-four ev (s .ev) a b c d;
-        kept = keep-four ev (s .ev) a b c d;
+        long = length-four ev at a b c d;
+        kept = keep-four ev at a b c d;
       }
+
+-- and what that is in a state
+pub put-of : (s : State) {q : List ℕ} {e f : ℕ} {ev ev′ : List ℕ} → Penned q (s .ev) (s .evcap) (s .full) e f ev ev′ → Put q s (withEv e (withFull f s)) ev ev′
+put-of s u = record { is = refl; stuck = u .stuck; filled = u .filled; room = u .room; wrote = u .wrote; more = u .more; fits = u .fits; grows = u .grows; long = u .long; kept = u .kept }
 
 module _ {q : List ℕ} {s r : State} {ev ev′ : List ℕ} (u : Put q s r ev ev′) where
   pub ok-put : {n : ℕ} → Ok n s → Ok n r

@@ -16,13 +16,13 @@ use Rattle.peg.specs.Render.{Source, starts-at, ends-at, span-end, said, held, 
 use Rattle.peg.specs.Buffer.{four, buffer}
 use Rattle.peg.proofs.Buffer.{buffer-leaf, buffer-opened}
 use Rattle.reader.specs.declared.state.State.{State}
-use Rattle.reader.specs.Change.{withPos, withMode, withFuel, withEv, withFull}
+use Rattle.reader.specs.Change.{withPos, withMode, withFuel, withEv, withFull, standing}
 use Rattle.reader.specs.Means.{limits, Bufs, bufs, Past, source, Means, Stands, Lines, modeOf, overOf}
-use Rattle.reader.specs.Did.{Ok, Wf, Did, Events, Plain, Put, Began, Peeked}
+use Rattle.reader.specs.Did.{Ok, Wf, Did, Events, Plain, Penned, Put, Began, Peeked}
 use Rattle.reader.proofs.Lists.{getD-any}
 use Rattle.reader.proofs.Rooms.{fits, marked, still, thin, first-of, spill}
 use Rattle.reader.proofs.Sticky.{sticky-trans, sticky-trivia, sticky-take}
-use Rattle.reader.proofs.Core.{bare, Like, like-same, like-trans, like-at, alike, idle, then, emitted, moved, writes, ok-put, wf-put, caps-put}
+use Rattle.reader.proofs.Core.{bare, Like, like-same, like-trans, like-at, alike, idle, then, emitted, moved, writes, put-of, ok-put, wf-put, caps-put}
 
 -- the index of a row that is named by how many rows are left from it on
 pub row : (p : ℕ) (ids : List ℕ) → p ≤ length ids → length ids - length (drop p ids) ≡ p
@@ -212,3 +212,18 @@ module _ {x : Source} {s₀ s : State} {ev₀ ev : List ℕ} (k : Taking P.trivi
 
 pub trivia-idle : {x : Source} {s : State} {ev : List ℕ} → Ok (length (x .ids)) s → s .evcap ≤ length ev → (s .mode ≡ 0 → ⊥) → Events P.trivia x s s ev ev
 trivia-idle {x} {s} {ev} w h n = record { did = λ er sc v. idle v (λ p a t. trivia-none v t (λ z. trivia-not (s .mode) a n (t .means z .mode))); ok = w; fits = h; first = refl; grows = le-refl _ }
+
+-- trivia are skipped from a place on, whatever state in good order stands there
+pub record Skipping (ids ends : List ℕ) (pos ev cap full at to over : ℕ) (ev₀ ev₁ : List ℕ) : Type 0 where
+  pub of : (bytes : List ℕ) (s : State) → s .mode ≡ 0 → Ok (length ids) (standing pos ev cap full s) → Taking P.trivia (source bytes ids ends) (standing pos ev cap full s) (standing at to cap over s) ev₀ ev₁
+  pub lines : Lines ids ends
+  pub fits : to ≤ cap
+  pub room : cap ≤ length ev₁
+  pub long : length ev₁ ≡ length ev₀
+
+pub skipping : {ids ends : List ℕ} (pos ev cap full : ℕ) (ev₀ : List ℕ) → Lines ids ends → ev ≤ cap → cap ≤ length ev₀ → Skipping ids ends pos ev cap full pos ev full ev₀ ev₀
+skipping pos ev cap full ev₀ l h k = record { of = λ bytes s m w. taking P.trivia l w k; lines = l; fits = h; room = k; long = refl }
+
+pub skips : {ids ends : List ℕ} {pos ev cap full at to over : ℕ} {ev₀ ev₁ : List ℕ} → Skipping ids ends pos ev cap full at to over ev₀ ev₁ → (st : ℕ) {e f : ℕ} {ev₂ : List ℕ} → at < length ids → trivial (getD ids at 0) ≡ true → st ≡ getD (0 ∷ ends) at 0
+    → Penned (four 2 (getD ids at 0) st (getD ends at 0)) to cap over e f ev₁ ev₂ → Skipping ids ends pos ev cap full (at + 1) e f ev₀ ev₂
+skips k st h y q u = record { of = λ bytes s m w. trivia-on (k .of bytes s m w) m st h y q (put-of _ u); lines = k .lines; fits = u .fits; room = omega (arith, k .room, u .long); long = u .long ∙ k .long }

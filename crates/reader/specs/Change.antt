@@ -33,6 +33,10 @@ withWants w u s = record { pos = s .pos; fuel = s .fuel; mode = s .mode; ev = s 
 abbrev pub withNames : ℕ → List ℕ → State → State
 withNames n l s = record { pos = s .pos; fuel = s .fuel; mode = s .mode; ev = s .ev; evcap = s .evcap; er = s .er; ercap = s .ercap; item = s .item; first = s .first; far = s .far; want = s .want; unwant = s .unwant; full = s .full; count = n; names = l }
 
+-- a state at a place, with room for events up to cap
+abbrev pub standing : ℕ → ℕ → ℕ → ℕ → State → State
+standing p e cap f s = record { pos = p; fuel = s .fuel; mode = s .mode; ev = e; evcap = cap; er = s .er; ercap = s .ercap; item = s .item; first = s .first; far = s .far; want = s .want; unwant = s .unwant; full = f; count = s .count; names = s .names }
+
 abbrev pub markOf : State → Mark
 markOf s = record { pos = s .pos; ev = s .ev }
 

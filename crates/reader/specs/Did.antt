@@ -118,6 +118,18 @@ pub record Both (f : P.Reader) (x : Source) (s r : State) (ev ev′ er er′ : L
   pub event-fits : r .evcap ≤ length ev′
   pub error-fits : r .ercap ≤ length er′
 
+-- four numbers were written at a place, if there was room up to cap
+pub record Penned (q : List ℕ) (at cap full at′ full′ : ℕ) (ev ev′ : List ℕ) : Type 0 where
+  pub stuck : (full ≡ 0 → ⊥) → full′ ≡ full
+  pub filled : full ≡ 0 → full′ ≡ ifb (ltb cap (at + 4)) 7 0
+  pub room : full′ ≡ 0 → full ≡ 0
+  pub wrote : full′ ≡ 0 → take at′ ev′ ≡ take at ev ++ q
+  pub more : full′ ≡ 0 → at′ ≡ at + 4
+  pub fits : at′ ≤ cap
+  pub grows : at ≤ at′
+  pub long : length ev′ ≡ length ev
+  pub kept : take at ev′ ≡ take at ev
+
 -- four numbers were written at the end of the events, if there was room
 pub record Put (q : List ℕ) (s r : State) (ev ev′ : List ℕ) : Type 0 where
   pub is : r ≡ withEv (r .ev) (withFull (r .full) s)

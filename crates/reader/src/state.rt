@@ -8,9 +8,9 @@ ghost use lib.ListN.{length};
 ghost use Rattle.peg.specs.Buffer.{four};
 ghost use Rattle.peg.specs.Render.{Source};
 ghost use Rattle.peg.specs.Run as P;
-ghost use Rattle.reader.specs.Change.{markOf, gone, undoneTo, withMode};
+ghost use Rattle.reader.specs.Change.{markOf, gone, undoneTo, withMode, standing};
 ghost use Rattle.reader.specs.Means.{source, bufs, Lines};
-ghost use Rattle.reader.specs.Did.{Ok, Wf, Put, Events, Plain, Began, Shuts, shutA};
+ghost use Rattle.reader.specs.Did.{Ok, Wf, Penned, Put, Events, Plain, Began, Shuts, shutA};
 
 pub struct State {
     // How many rows are covered.
@@ -44,25 +44,100 @@ pub struct Mark {
     pub ev: usize,
 }
 
+// How many numbers stand written, and whether a room was exceeded.
+struct Pen {
+    ev: usize,
+    full: u8,
+}
+
+// Writes four numbers of events at a place; where there is no room, says so. It takes and gives numbers and not the state, which is copied where
+// it is handed over.
+fn write(
+    at: usize,
+    cap: usize,
+    full: u8,
+    sort: u32,
+    kind: u32,
+    start: u32,
+    end: u32,
+    events: &mut [u32],
+) -> Pen
+    requires { ⌜ (at ≤ cap) × (cap ≤ length (now events)) ⌝ }
+    ensures { λ r. ⌜ Penned (four sort kind start end) at cap full (r .ev) (r .full) (now (events .entry)) (now (events .exit)) ⌝ }
+{
+    if full != 0 {
+        return Pen { ev: at, full };
+    }
+    if cap - at < 4 {
+        return Pen { ev: at, full: 7 };
+    }
+    events[at] = sort;
+    events[at + 1] = kind;
+    events[at + 2] = start;
+    events[at + 3] = end;
+    Pen { ev: at + 4, full }
+}
+
+// How many rows are covered, how many numbers stand written, and whether a room was exceeded.
+pub struct Place {
+    pub pos: usize,
+    pub ev: usize,
+    pub full: u8,
+}
+
+// Takes up trivia from a place on, with room up to cap, in a state of good order that stands there.
+pub fn skip_trivia(
+    pos: usize,
+    ev: usize,
+    cap: usize,
+    full: u8,
+    ids: &[u32],
+    ends: &[u32],
+    events: &mut [u32],
+) -> Place
+    requires { ⌜ Lines (now ids) (now ends) × (ev ≤ cap) × (cap ≤ length (now events)) ⌝ }
+    ensures { λ r. ⌜ ((bytes : List ℕ) (s : State) → s .mode ≡ 0 → Ok (length (now (ids .entry))) (standing pos ev cap full s) → Events P.trivia (source bytes (now (ids .entry)) (now (ends .entry))) (standing pos ev cap full s) (standing (r .pos) (r .ev) cap (r .full) s) (now (events .entry)) (now (events .exit))) ⌝ }
+{
+    let mut at = pos;
+    let mut to = ev;
+    let mut over = full;
+    while at < ids.len() {
+        let id = ids[at];
+        if !is_trivia(id) {
+            break;
+        }
+        let start = start_of(at, ends);
+        let end = ends[at];
+        let pen = write(to, cap, over, 2, id, start, end, events);
+        to = pen.ev;
+        over = pen.full;
+        at += 1;
+    }
+    Place {
+        pos: at,
+        ev: to,
+        full: over,
+    }
+}
+
 impl State {
     // Writes an event; where there is no room, says so.
     pub fn put(mut self, sort: u32, kind: u32, start: u32, end: u32, events: &mut [u32]) -> Self
         requires { ⌜ (self .ev ≤ self .evcap) × (self .evcap ≤ length (now events)) ⌝ }
         ensures { λ r. ⌜ Put (four sort kind start end) self r (now (events .entry)) (now (events .exit)) ⌝ }
     {
-        if self.full != 0 {
-            return self;
-        }
-        let at = self.ev;
-        if self.evcap - at < 4 {
-            self.full = 7;
-            return self;
-        }
-        events[at] = sort;
-        events[at + 1] = kind;
-        events[at + 2] = start;
-        events[at + 3] = end;
-        self.ev = at + 4;
+        let pen = write(
+            self.ev,
+            self.evcap,
+            self.full,
+            sort,
+            kind,
+            start,
+            end,
+            events,
+        );
+        self.ev = pen.ev;
+        self.full = pen.full;
         self
     }
 
@@ -74,17 +149,10 @@ impl State {
         if self.mode != 0 {
             return self;
         }
-        while self.pos < ids.len() {
-            let at = self.pos;
-            let id = ids[at];
-            if !is_trivia(id) {
-                return self;
-            }
-            let start = start_of(at, ends);
-            let end = ends[at];
-            self = self.put(2, id, start, end, events);
-            self.pos = at + 1;
-        }
+        let at = skip_trivia(self.pos, self.ev, self.evcap, self.full, ids, ends, events);
+        self.pos = at.pos;
+        self.ev = at.ev;
+        self.full = at.full;
         self
     }
 

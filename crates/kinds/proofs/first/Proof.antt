@@ -1,5 +1,6 @@
 -- `kinds::first` meets its contract: what is left from `i` on gives what the whole list gives.
 use Prim.Native.Nat.{_-_}
+use native.Mathlib.Omega.{arith}
 use mathlib.Core.Path.{sym, ap, _∙_}
 use lib.ListN.{length}
 use borrow.Author.Needs.{needs}
@@ -17,11 +18,11 @@ abbrev μ-loop : tie.MeasureT-loop
 loop-holds : tie.Need-loop-holds Inv-loop μ-loop
 loop-holds c = looked _ _
 
-mul-kind : tie.Need-mul-kind Inv-loop μ-loop
-mul-kind c = search needs
-
 shared-slice-read-kind : tie.Need-shared-slice-read-kind Inv-loop μ-loop
 shared-slice-read-kind c = search needs
+
+cast-kind : tie.Need-cast-kind Inv-loop μ-loop
+cast-kind c = omega (arith, c .shared-slice-known2 .given (c .before .before .loop .i))
 
 id-of-requires : tie.Need-id-of-requires Inv-loop μ-loop
 id-of-requires c κs = search needs
@@ -48,8 +49,8 @@ first-spec =
     Inv-loop
     μ-loop
     loop-holds
-    mul-kind
     shared-slice-read-kind
+    cast-kind
     id-of-requires
     returns
     add-i

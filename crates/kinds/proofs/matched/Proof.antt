@@ -11,9 +11,6 @@ use Rattle.kinds.proofs.matched.Tie as tie
 place-requires : tie.Need-place-requires
 place-requires c κs = search needs
 
-mul-first : tie.Need-mul-first
-mul-first c = search needs
-
 sub-first : tie.Need-sub-first
 sub-first c = search needs
 
@@ -34,7 +31,6 @@ matched-spec =
     tie.close
     (tie.spec
     place-requires
-    mul-first
     sub-first
     part-first-start
     part-first-end

@@ -12,9 +12,6 @@ use Rattle.kinds.proofs.name_at.Tie as tie
 place-requires : tie.Need-place-requires
 place-requires c κs = search needs
 
-mul-nth : tie.Need-mul-nth
-mul-nth c = search needs
-
 sub-nth : tie.Need-sub-nth
 sub-nth c = search needs
 
@@ -33,4 +30,4 @@ returns c = c .nth .ensures ∙ ap (λ (S : List ℕ). nameOf (getElem? (idsOf S
 pub name-at-spec : {M : Type 1} → statement M
 name-at-spec =
     tie.close
-    (tie.spec place-requires mul-nth sub-nth part-nth-start part-nth-end nth-requires returns)
+    (tie.spec place-requires sub-nth part-nth-start part-nth-end nth-requires returns)

@@ -6,10 +6,12 @@ use Rattle.grammar.proofs.parts.part_at.Statement.{statement}
 use Rattle.grammar.proofs.parts.part_at.Tie as tie
 use Rattle.grammar.proofs.parts.part_at.Reads as reads
 use Rattle.grammar.proofs.parts.part_at.Lts as lts
-use Rattle.grammar.proofs.parts.row_at.Reads as row-at-reads
 
-row-at-requires : tie.Need-row-at-requires
-row-at-requires c κs = search needs
+mul-row : tie.Need-mul-row
+mul-row c = omega (arith, c .pre .0, c .pre .1 .long)
+
+shared-slice-read-row : tie.Need-shared-slice-read-row
+shared-slice-read-row c = omega (arith, c .before .pre .0, c .before .pre .1 .long)
 
 cast-first : tie.Need-cast-first
 cast-first c = search needs
@@ -18,40 +20,41 @@ cast-second : tie.Need-cast-second
 cast-second c = search needs
 
 returns : tie.Need-returns
-returns c = row-of _ (c .before .row-at .ensures) 0 (c .match .keys1)
+returns c = row-of _ (c .before .before .pre .1 .row _) 0 (c .match .keys1)
 
 returns-2 : tie.Need-returns-2
-returns-2 c = row-of _ (c .before .row-at .ensures) 1 (c .match .keys2)
+returns-2 c = row-of _ (c .before .before .pre .1 .row _) 1 (c .match .keys2)
 
 returns-3 : tie.Need-returns-3
-returns-3 c = row-of _ (c .before .row-at .ensures) 2 (c .match .keys3)
+returns-3 c = row-of _ (c .before .before .pre .1 .row _) 2 (c .match .keys3)
 
 returns-4 : tie.Need-returns-4
-returns-4 c = row-of _ (c .before .row-at .ensures) 3 (c .match .keys4)
+returns-4 c = row-of _ (c .before .before .pre .1 .row _) 3 (c .match .keys4)
 
 returns-5 : tie.Need-returns-5
-returns-5 c = row-of _ (c .before .row-at .ensures) 4 (c .match .keys5)
+returns-5 c = row-of _ (c .before .before .pre .1 .row _) 4 (c .match .keys5)
 
 returns-6 : tie.Need-returns-6
-returns-6 c = row-of _ (c .before .row-at .ensures) 5 (c .match .keys6)
+returns-6 c = row-of _ (c .before .before .pre .1 .row _) 5 (c .match .keys6)
 
 returns-7 : tie.Need-returns-7
-returns-7 c = row-of _ (c .before .row-at .ensures) 6 (c .match .keys7)
+returns-7 c = row-of _ (c .before .before .pre .1 .row _) 6 (c .match .keys7)
 
 returns-8 : tie.Need-returns-8
-returns-8 c = row-of _ (c .before .row-at .ensures) 7 (c .match .keys8)
+returns-8 c = row-of _ (c .before .before .pre .1 .row _) 7 (c .match .keys8)
 
 returns-9 : tie.Need-returns-9
-returns-9 c = row-of _ (c .before .row-at .ensures) 8 (c .match .keys9)
+returns-9 c = row-of _ (c .before .before .pre .1 .row _) 8 (c .match .keys9)
 
 returns-10 : tie.Need-returns-10
-returns-10 c = row-else _ (c .before .row-at .ensures) (past 8 (past 7 (past 6 (past 5 (past 4 (past 3 (past 2 (past 1 (past 0 (omega arith) (c .match .rest .0 .0 .0 .0 .0 .0 .0 .0 .1)) (c .match .rest .0 .0 .0 .0 .0 .0 .0 .1)) (c .match .rest .0 .0 .0 .0 .0 .0 .1)) (c .match .rest .0 .0 .0 .0 .0 .1)) (c .match .rest .0 .0 .0 .0 .1)) (c .match .rest .0 .0 .0 .1)) (c .match .rest .0 .0 .1)) (c .match .rest .0 .1)) (c .match .rest .1))
+returns-10 c = row-else _ (c .before .before .pre .1 .row _) (past 8 (past 7 (past 6 (past 5 (past 4 (past 3 (past 2 (past 1 (past 0 (omega arith) (c .match .rest .0 .0 .0 .0 .0 .0 .0 .0 .1)) (c .match .rest .0 .0 .0 .0 .0 .0 .0 .1)) (c .match .rest .0 .0 .0 .0 .0 .0 .1)) (c .match .rest .0 .0 .0 .0 .0 .1)) (c .match .rest .0 .0 .0 .0 .1)) (c .match .rest .0 .0 .0 .1)) (c .match .rest .0 .0 .1)) (c .match .rest .0 .1)) (c .match .rest .1))
 
 pub part-at-spec : {M : Type 1} → statement M
 part-at-spec =
     tie.close
     (tie.spec
-    row-at-requires
+    mul-row
+    shared-slice-read-row
     cast-first
     cast-second
     returns

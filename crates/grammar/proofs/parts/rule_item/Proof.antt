@@ -1,5 +1,6 @@
 -- An item that begins with a rule keyword is the table's last row.
-use Rattle.grammar.proofs.Lines.{is-item}
+use native.Mathlib.Omega.{arith}
+use Rattle.grammar.proofs.Lines.{is-item, rows-lent}
 use borrow.Author.Needs.{needs}
 use Rattle.grammar.proofs.parts.rule_item.Statement.{statement}
 use Rattle.grammar.proofs.parts.rule_item.Tie as tie
@@ -7,8 +8,11 @@ use Rattle.grammar.proofs.parts.rule_item.Reads as reads
 use Rattle.grammar.proofs.parts.rule_item.Lts as lts
 use Rattle.grammar.proofs.parts.exec.Reads as exec-reads
 
+slice-aggregate-exec : tie.Need-slice-aggregate-exec
+slice-aggregate-exec c = search needs
+
 exec-requires : tie.Need-exec-requires
-exec-requires c κs = search needs
+exec-requires c κs = (c .before .before .before .before .before .before .before .before .before .before .pre .0, c .before .before .before .before .before .before .before .before .before .before .pre .1, omega arith, rows-lent)
 
 same-length : tie.Need-same-length
 same-length c = search needs
@@ -23,4 +27,6 @@ returns : tie.Need-returns
 returns c = is-item (c .before .before .before .before .before .before .exec .ensures)
 
 pub rule-item-spec : {M : Type 1} → statement M
-rule-item-spec = tie.close (tie.spec exec-requires same-length same-length-2 same-length-3 returns)
+rule-item-spec =
+    tie.close
+    (tie.spec slice-aggregate-exec exec-requires same-length same-length-2 same-length-3 returns)

@@ -1,20 +1,20 @@
 use native.Mathlib.Omega.{arith}
 use lib.ListN.{length-set}
-use Rattle.reader.proofs.Core.{put-not, put-full, put-four}
+use Rattle.reader.proofs.Core.{pen-not, pen-full, pen-four}
 use borrow.Author.Needs.{needs}
-use Rattle.reader.proofs.state.State.put.Statement.{statement}
-use Rattle.reader.proofs.state.State.put.Tie as tie
-use Rattle.reader.proofs.state.State.put.Reads as reads
-use Rattle.reader.proofs.state.State.put.Lts as lts
+use Rattle.reader.proofs.state.write.Statement.{statement}
+use Rattle.reader.proofs.state.write.Tie as tie
+use Rattle.reader.proofs.state.write.Reads as reads
+use Rattle.reader.proofs.state.write.Lts as lts
 
 returns : tie.Need-returns
-returns c = put-not (c .before .before .args .self) _ _ (c .before .before .pre .0) (c .if1 .taken)
+returns c = pen-not (c .before .args .at) (c .before .args .cap) (c .before .args .full) _ _ (c .before .pre .0) (c .if1 .taken)
 
 sub-if2 : tie.Need-sub-if2
 sub-if2 c = search needs
 
 returns-2 : tie.Need-returns-2
-returns-2 c = put-full (c .before .before .before .before .args .self) _ _ (c .before .before .if1 .left) (c .before .before .before .before .pre .0) (omega arith)
+returns-2 c = pen-full (c .before .before .args .at) (c .before .before .args .cap) (c .before .before .args .full) _ _ (c .before .if1 .left) (c .before .before .pre .0) (omega arith)
 
 mul-events : tie.Need-mul-events
 mul-events c = search needs
@@ -49,17 +49,17 @@ mul-events-4 c = search needs
 slice-write-events-4 : tie.Need-slice-write-events-4
 slice-write-events-4 c = simp length-set (omega arith)
 
-add-self : tie.Need-add-self
-add-self c = search needs
+add-t10 : tie.Need-add-t10
+add-t10 c = search needs
 
 same-length : tie.Need-same-length
 same-length c = simp length-set
 
 returns-3 : tie.Need-returns-3
-returns-3 c = put-four (c .before .before .before .before .args .self) _ _ _ _ _ (c .before .before .if1 .left) (omega arith) (c .before .before .before .before .pre .1)
+returns-3 c = pen-four (c .before .before .args .at) (c .before .before .args .cap) (c .before .before .args .full) _ _ _ _ _ (c .before .if1 .left) (omega arith) (c .before .before .pre .1)
 
-pub put-spec : {M : Type 1} → statement M
-put-spec =
+pub write-spec : {M : Type 1} → statement M
+write-spec =
     tie.close
     (tie.spec
     returns
@@ -76,6 +76,6 @@ put-spec =
     add-events-3
     mul-events-4
     slice-write-events-4
-    add-self
+    add-t10
     same-length
     returns-3)
