@@ -72,12 +72,15 @@ module _ {f : P.Reader} {x : Source} {s r : State} {b : Bufs} {ev er sc : List �
   pub asksE : Rows x → Lines (x .ids) (x .ends) × Ok (length (x .ids)) r × (r .evcap ≤ length ev)
   asksE l = (l .lines, y .wf .0, y .wf .1 .events)
 
-  -- what `step` asks, of a row of the table and of an `if_next` that is passed over
-  pub asksL : Rows x → {A : Type 0} → A → Rows x × Ok (length (x .ids)) r × (r .evcap ≤ length ev) × (r .ercap ≤ length er) × (3 ≤ 3) × (0 < 86) × A
-  asksL l a = (l, y .wf .0, y .wf .1 .events, y .wf .1 .errors, omega arith, omega arith, a)
+  pub asksX : Rows x → {A : Type 0} → A → Lines (x .ids) (x .ends) × Ok (length (x .ids)) r × (r .evcap ≤ length ev) × A
+  asksX l a = (l .lines, y .wf .0, y .wf .1 .events, a)
 
-  pub asksS : Rows x → {A : Type 0} {n m : ℕ} → (n < 3) × (m < 86) → Rows x × Ok (length (x .ids)) r × (r .evcap ≤ length ev) × (r .ercap ≤ length er) × (n ≤ 3) × (m < 86) × (n ≡ 3 → A)
-  asksS l {n = n} h = (l, y .wf .0, y .wf .1 .events, y .wf .1 .errors, omega (arith, h .0), h .1, λ e. absurd (omega (arith, h .0, e)))
+  -- what `step` asks, of a row of the table and of an `if_next` that is passed over
+  pub asksL : Rows x → {A : Type 0} → A → Rows x × Ok (length (x .ids)) r × (r .evcap ≤ length ev) × (r .ercap ≤ length er) × (3 ≤ 3) × A
+  asksL l a = (l, y .wf .0, y .wf .1 .events, y .wf .1 .errors, omega arith, a)
+
+  pub asksS : Rows x → {A : Type 0} {n : ℕ} → n < 3 → Rows x × Ok (length (x .ids)) r × (r .evcap ≤ length ev) × (r .ercap ≤ length er) × (n ≤ 3) × (n ≡ 3 → A)
+  asksS l h = (l, y .wf .0, y .wf .1 .events, y .wf .1 .errors, omega (arith, h), λ e. absurd (omega (arith, h, e)))
 
   -- where the state is now
   pub here : Did (λ a. a) x r r (bufs ev er sc) (bufs ev er sc)

@@ -30,7 +30,7 @@ use Rattle.reader.proofs.Core as core
 use Rattle.grammar.proofs.Cycle.{from, plus, plusE, stops, thence, Tries, tries, tried, again, tried-last, lost-back, lost-on, waives, waived-back, waived-on, enters, passes}
 use Rattle.reader.specs.Bits.{ifb}
 use Rattle.grammar.specs.declared.parts.Part.{Part}
-use Rattle.grammar.specs.declared.parts.Part.the-variants.{Step, Node, Memo, Seq, Then, When, Many, Try}
+use Rattle.grammar.specs.declared.parts.Part.the-variants.{Eat, Step, Node, Memo, Seq, Then, When, Many, Try}
 use Rattle.reader.proofs.Branch as branch
 use Rattle.grammar.specs.Rows.{rows, size, item}
 use Rattle.grammar.specs.Table.{Lent, rowOf, split, labelOf, stepOf, stepping, reads, made, partOf, production, progOf, prog, Line, Cached}
@@ -57,7 +57,7 @@ module _ (i : ℕ) {r : ℕ} (e : r ≡ rowOf i) where
 
   pub row-else : 9 ≤ r / 16777216 → Try (r / 16777216) first second ≡ partOf i
   row-else h =
-      sym (List·getD-eq-default (Step 0 first second ∷ Step 1 first second ∷ Step 2 first second ∷ Node first second ∷ Memo first second ∷ Seq first second ∷ Then first ∷ When first second ∷ Many first ∷ []) (Try (r / 16777216) first second) h)
+      sym (List·getD-eq-default (Eat first second ∷ Step 1 first ∷ Step 2 first ∷ Node first second ∷ Memo first second ∷ Seq first second ∷ Then first ∷ When first second ∷ Many first ∷ []) (Try (r / 16777216) first second) h)
       ∙ whole
 
 -- a number that is none of those before
@@ -98,7 +98,8 @@ either false b = b
 
 -- the rows that a row names stand before it; a name is one, a production's kind and line belong together
 abbrev pub sound : ℕ → Part → Bool
-sound i (Step n s m) = both (ltb n 3) (ltb m 86)
+sound i (Eat s n) = ltb n 86
+sound i (Step n s) = ltb n 3
 sound i (Node a j) = both (eqb (kind (production a)) a) (ltb j size)
 sound i (Memo a j) = both (either (eqb a k.EXPR) (eqb a k.TERM)) (both (eqb (kind (production a)) a) (ltb j size))
 sound i (Seq j h) = both (ltb j i) (ltb h i)
@@ -112,7 +113,8 @@ unfolding prog partOf rowOf production productions kind
 tested = refl
 
 abbrev pub Sound : ℕ → Part → Type 0
-Sound i (Step n s m) = (n < 3) × (m < 86)
+Sound i (Eat s n) = n < 86
+Sound i (Step n s) = n < 3
 Sound i (Node a j) = (kind (production a) ≡ a) × (j < size)
 Sound i (Memo a j) = Cached a × (kind (production a) ≡ a) × (j < size)
 Sound i (Seq j h) = (j < i) × (h < i)
@@ -132,7 +134,8 @@ cached a t = go (ℕ-discrete a k.EXPR)
     go (no q) = inr (eqb-true a k.TERM (sym (ap (λ (c : Bool). either c (eqb a k.TERM)) (ne-eqb a k.EXPR q)) ∙ t))
 
 sound-so : (i : ℕ) (p : Part) → sound i p ≡ true → Sound i p
-sound-so i (Step n s m) t = two-facts (ltb-true n 3) (ltb-true m 86) t
+sound-so i (Eat s n) t = ltb-true n 86 t
+sound-so i (Step n s) t = ltb-true n 3 t
 sound-so i (Node a j) t = two-facts (eqb-true _ a) (ltb-true j size) t
 sound-so i (Memo a j) t = let q = both-right (either (eqb a k.EXPR) (eqb a k.TERM)) _ t in (cached a (both-left (either (eqb a k.EXPR) (eqb a k.TERM)) _ t), eqb-true _ a (both-left (eqb (kind (production a)) a) _ q), ltb-true j size (both-right (eqb (kind (production a)) a) _ q))
 sound-so i (Seq j h) t = two-facts (ltb-true j i) (ltb-true h i) t
@@ -146,7 +149,8 @@ row-sound i h {p} e = sound-so i p (ap (sound i) e ∙ all-sound (λ j. sound j 
 
 -- a function of the kind and the line that a row names
 abbrev called : (ℕ → ℕ → Prog) → Part → Prog
-called f (Step n s m) = prog 0
+called f (Eat s n) = prog 0
+called f (Step n s) = prog 0
 called f (Node a j) = f a j
 called f (Memo a j) = f a j
 called f (Seq j h) = prog 0
@@ -189,32 +193,26 @@ module _ (d : ℕ) (o : Bool) {x : Source} {s r : State} {b b′ : Bufs} where
   pub is-line : {a j : ℕ} → Line a j → Did (reads d o (prog j)) x s r b b′ → Did (reads d o (grammar (production a))) x s r b b′
   is-line l y = subst (λ (q : Prog). Did (reads d o q) x s r b b′) (l .line) y
 
-  -- what takes no other part, by which it is
-  module _ (n c m : ℕ) where
-    none-passed : n < 3 → Did (reads d o (stepOf n c m)) x s r b b′ → Did (stepping d o n c m) x s r b b′
-    none-passed e y = subst (λ (t : Bool). Did (ifb t (P.branches (setOf c) (λ a. a)) (reads d o (stepOf n c m))) x s r b b′) (sym (ne-eqb n 3 (λ i. omega (arith, e, i)))) y
+  pub is-eat : (i : ℕ) → i < size → {n m : ℕ} → Eat n m ≡ partOf i → {l : Label} → l ≡ labelOf m → Did (P.eats (setOf n) (namesOf n l)) x s r b b′ → Did (reads d o (prog i)) x s r b b′
+  is-eat i h {n} e {l} f y = is-row i h e (subst (λ (q : Label). Did (P.eats (setOf n) (namesOf n q)) x s r b b′) f y)
 
-    none-eaten : (n ≡ 0 → ⊥) → Did (reads d o (ifb (eqb n 1) (G.unless (setOf c)) (G.recover (setOf c)))) x s r b b′ → Did (reads d o (stepOf n c m)) x s r b b′
-    none-eaten e y = subst (λ (t : Bool). Did (reads d o (ifb t (G.eat (setOf c) (namesOf c (labelOf m))) (ifb (eqb n 1) (G.unless (setOf c)) (G.recover (setOf c))))) x s r b b′) (sym (ne-eqb n 0 e)) y
+  -- `not`, `recover` or an `if_next` that is passed over, by which it is
+  module _ (n c : ℕ) where
+    none-passed : n < 3 → Did (reads d o (stepOf n c)) x s r b b′ → Did (stepping d o n c) x s r b b′
+    none-passed e y = subst (λ (t : Bool). Did (ifb t (P.branches (setOf c) (λ a. a)) (reads d o (stepOf n c))) x s r b b′) (sym (ne-eqb n 3 (λ i. omega (arith, e, i)))) y
 
-    pub is-eat : n ≡ 0 → {l : Label} → l ≡ labelOf m → Did (P.eats (setOf c) (namesOf c l)) x s r b b′ → Did (stepping d o n c m) x s r b b′
-    is-eat e {l} f y =
-        none-passed (omega (arith, e))
-        (subst (λ (t : Bool). Did (reads d o (ifb t (G.eat (setOf c) (namesOf c (labelOf m))) (ifb (eqb n 1) (G.unless (setOf c)) (G.recover (setOf c))))) x s r b b′) (sym (eq-eqb n 0 e))
-        (subst (λ (q : Label). Did (P.eats (setOf c) (namesOf c q)) x s r b b′) f y))
+    pub is-unless : n ≡ 1 → Did (P.refuses (setOf c)) x s r b b′ → Did (stepping d o n c) x s r b b′
+    is-unless f y = none-passed (omega (arith, f)) (subst (λ (t : Bool). Did (reads d o (ifb t (G.unless (setOf c)) (G.recover (setOf c)))) x s r b b′) (sym (eq-eqb n 1 f)) y)
 
-    pub is-unless : (n ≡ 0 → ⊥) → n ≡ 1 → Did (P.refuses (setOf c)) x s r b b′ → Did (stepping d o n c m) x s r b b′
-    is-unless e f y = none-passed (omega (arith, f)) (none-eaten e (subst (λ (t : Bool). Did (reads d o (ifb t (G.unless (setOf c)) (G.recover (setOf c)))) x s r b b′) (sym (eq-eqb n 1 f)) y))
+    pub is-passed : n ≡ 3 → Did (P.branches (setOf c) (λ a. a)) x s r b b′ → Did (stepping d o n c) x s r b b′
+    is-passed e y = subst (λ (t : Bool). Did (ifb t (P.branches (setOf c) (λ a. a)) (reads d o (stepOf n c))) x s r b b′) (sym (eq-eqb n 3 e)) y
 
-    pub is-passed : n ≡ 3 → Did (P.branches (setOf c) (λ a. a)) x s r b b′ → Did (stepping d o n c m) x s r b b′
-    is-passed e y = subst (λ (t : Bool). Did (ifb t (P.branches (setOf c) (λ a. a)) (reads d o (stepOf n c m))) x s r b b′) (sym (eq-eqb n 3 e)) y
+    pub is-recover : (n ≡ 1 → ⊥) → n < 3 → Did (P.recovery d o (setOf c)) x s r b b′ → Did (stepping d o n c) x s r b b′
+    is-recover f h y = none-passed h (subst (λ (t : Bool). Did (reads d o (ifb t (G.unless (setOf c)) (G.recover (setOf c)))) x s r b b′) (sym (ne-eqb n 1 f)) y)
 
-    pub is-recover : (n ≡ 0 → ⊥) → (n ≡ 1 → ⊥) → n < 3 → Did (P.recovery d o (setOf c)) x s r b b′ → Did (stepping d o n c m) x s r b b′
-    is-recover e f h y = none-passed h (none-eaten e (subst (λ (t : Bool). Did (reads d o (ifb t (G.unless (setOf c)) (G.recover (setOf c)))) x s r b b′) (sym (ne-eqb n 1 f)) y))
-
-  pub is-step : (i : ℕ) → i < size → {n c m : ℕ} → Step n c m ≡ partOf i → n < 3 → Did (stepping d o n c m) x s r b b′ → Did (reads d o (prog i)) x s r b b′
-  is-step i h {n} {c} {m} e k y =
-      is-row i h e (subst (λ (t : Bool). Did (ifb t (P.branches (setOf c) (λ a. a)) (reads d o (stepOf n c m))) x s r b b′) (ne-eqb n 3 (λ i. omega (arith, k, i))) y)
+  pub is-step : (i : ℕ) → i < size → {n c : ℕ} → Step n c ≡ partOf i → n < 3 → Did (stepping d o n c) x s r b b′ → Did (reads d o (prog i)) x s r b b′
+  is-step i h {n} {c} e k y =
+      is-row i h e (subst (λ (t : Bool). Did (ifb t (P.branches (setOf c) (λ a. a)) (reads d o (stepOf n c))) x s r b b′) (ne-eqb n 3 (λ i. omega (arith, k, i))) y)
 
 pub proper : (n : ℕ) → n < 86 → {l : Label} → l ≡ labelOf n → Proper l
 proper n h {l} e = subst (λ (q : Label). Proper q) (sym e) (go (ℕ-discrete n 85))

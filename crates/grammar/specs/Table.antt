@@ -18,13 +18,13 @@ use Rattle.reader.specs.declared.names.Label.the-variants.{Ids, As}
 use Rattle.reader.specs.Bits.{ifb}
 use Rattle.reader.specs.Did.{namesOf}
 use Rattle.grammar.specs.declared.parts.Part.{Part}
-use Rattle.grammar.specs.declared.parts.Part.the-variants.{Step, Node, Memo, Seq, Then, When, Many, Try}
+use Rattle.grammar.specs.declared.parts.Part.the-variants.{Eat, Step, Node, Memo, Seq, Then, When, Many, Try}
 use Rattle.grammar.specs.Rows.{rows, size}
 
 -- the combinator's number and its two operands
 abbrev pub made : ℕ → ℕ → ℕ → Part
 made n a b =
-    getD (Step 0 a b ∷ Step 1 a b ∷ Step 2 a b ∷ Node a b ∷ Memo a b ∷ Seq a b ∷ Then a ∷ When a b ∷ Many a ∷ []) n (Try n a b)
+    getD (Eat a b ∷ Step 1 a ∷ Step 2 a ∷ Node a b ∷ Memo a b ∷ Seq a b ∷ Then a ∷ When a b ∷ Many a ∷ []) n (Try n a b)
 
 unfoldable pub rowOf : ℕ → ℕ
 rowOf i = getD rows i 0
@@ -49,13 +49,14 @@ labelOf n = ifb (eqb n 85) Ids (As n)
 unfoldable pub production : ℕ → Production
 production n = getD productions (n - k.RULE-DECL) RULE-DECL
 
--- what takes no other part
-abbrev pub stepOf : ℕ → ℕ → ℕ → Prog
-stepOf n s m = ifb (eqb n 0) (eat (setOf s) (namesOf s (labelOf m))) (ifb (eqb n 1) (unless (setOf s)) (recover (setOf s)))
+-- `not` or `recover`
+abbrev pub stepOf : ℕ → ℕ → Prog
+stepOf n s = ifb (eqb n 1) (unless (setOf s)) (recover (setOf s))
 
 -- a part, given what the rows before it stand for
 abbrev pub progOf : (ℕ → Prog) → Part → Prog
-progOf g (Step n s m) = stepOf n s m
+progOf g (Eat s n) = eat (setOf s) (namesOf s (labelOf n))
+progOf g (Step n s) = stepOf n s
 progOf g (Node a i) = node (production a)
 progOf g (Memo a i) = memo (production a)
 progOf g (Seq i j) = g i ⨟ g j
@@ -76,9 +77,9 @@ prog i = decode 40 i
 abbrev pub reads : ℕ → Bool → Prog → P.Reader
 reads d o p a = P.exec d (λ o b u. P.run d o b u) p o a
 
--- what takes no other part, or the names of an `if_next` whose row is not there
-abbrev pub stepping : ℕ → Bool → ℕ → ℕ → ℕ → P.Reader
-stepping d o n s m = ifb (eqb n 3) (P.branches (setOf s) (λ a. a)) (reads d o (stepOf n s m))
+-- or the names of an `if_next` whose row is not there
+abbrev pub stepping : ℕ → Bool → ℕ → ℕ → P.Reader
+stepping d o n s = ifb (eqb n 3) (P.branches (setOf s) (λ a. a)) (reads d o (stepOf n s))
 
 -- a production's kind and the row of its line
 pub record Line (a i : ℕ) : Type 0 where

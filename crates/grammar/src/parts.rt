@@ -22,9 +22,7 @@ ghost use Rattle.reader.specs.Did.{Ok, Wf, Did, Both, ahead};
 ghost use Rattle.grammar.specs.Rows.{size};
 ghost use Rattle.grammar.specs.Table.{Lent, partOf, labelOf, stepping, prog, production, reads, Line, Cached, Bit};
 
-// `expect_d` and `not`, beside `recover`.
-const EAT: u32 = 0;
-
+// `not`, beside `recover`.
 const UNLESS: u32 = 1;
 
 // An `if_next` whose row is not there.
@@ -38,8 +36,9 @@ const LAST: u32 = 10;
 // A combinator of the module with its operands: sets and names by number, a production by its kind and the row of its line, parts by
 // their rows.
 pub enum Part {
-    // What takes no other part, by which it is: `expect_d`, `not` or `recover`.
-    Step(u32, usize, u32),
+    Eat(usize, u32),
+    // `not` or `recover`, by which it is.
+    Step(u32, usize),
     Node(u32, usize),
     Memo(u32, usize),
     Seq(usize, usize),
@@ -62,9 +61,9 @@ fn part_at(i: usize, table: &[u32]) -> Part
     let first = a as usize;
     let second = b as usize;
     match n {
-        0 => Part::Step(0, first, b),
-        1 => Part::Step(1, first, b),
-        2 => Part::Step(2, first, b),
+        0 => Part::Eat(first, b),
+        1 => Part::Step(1, first),
+        2 => Part::Step(2, first),
         3 => Part::Node(a, second),
         4 => Part::Memo(a, second),
         5 => Part::Seq(first, second),
@@ -97,11 +96,11 @@ fn bit_of(kind: u32, row: usize) -> usize
     2 * row + 1
 }
 
-// `expect_d`, `not` or `recover`, which take no other part, or the names of an `if_next` that is passed over. It stands apart from `exec`, so that its room on the stack is not taken by each open node.
+// `not` or `recover`, which take no other part, or the names of an `if_next` that is passed over. They stand apart from `exec`, so that their room on
+// the stack is not taken by each open node.
 fn step(
     which: u32,
     set: usize,
-    name: u32,
     s: State,
     d: usize,
     optional: bool,
@@ -111,12 +110,9 @@ fn step(
     events: &mut [u32],
     errors: &mut [u32],
 ) -> State
-    requires { ⌜ Rows (source (now src) (now ids) (now ends)) × Ok (length (now ids)) s × (s .evcap ≤ length (now events)) × (s .ercap ≤ length (now errors)) × (which ≤ 3) × (name < 86) × (which ≡ 3 → ahead (setOf set) (now ids) s ≡ false) ⌝ }
-    ensures { λ r. ⌜ Both (stepping d optional which set name) (source (now (src .entry)) (now (ids .entry)) (now (ends .entry))) s r (now (events .entry)) (now (events .exit)) (now (errors .entry)) (now (errors .exit)) ⌝ }
+    requires { ⌜ Rows (source (now src) (now ids) (now ends)) × Ok (length (now ids)) s × (s .evcap ≤ length (now events)) × (s .ercap ≤ length (now errors)) × (which ≤ 3) × (which ≡ 3 → ahead (setOf set) (now ids) s ≡ false) ⌝ }
+    ensures { λ r. ⌜ Both (stepping d optional which set) (source (now (src .entry)) (now (ids .entry)) (now (ends .entry))) s r (now (events .entry)) (now (events .exit)) (now (errors .entry)) (now (errors .exit)) ⌝ }
 {
-    if which == EAT {
-        return s.eat(set, label(name), ids, ends, events);
-    }
     if which == UNLESS {
         return s.unless(set, ids, ends, events);
     }
@@ -146,20 +142,12 @@ fn exec(
 {
     loop {
         match part_at(i, table) {
-            Part::Step(which, set, name) => {
-                s = step(
-                    which,
-                    set,
-                    name,
-                    s,
-                    d,
-                    optional,
-                    src,
-                    ids,
-                    ends,
-                    events,
-                    errors,
-                );
+            Part::Eat(set, name) => {
+                s = s.eat(set, label(name), ids, ends, events);
+                return s;
+            }
+            Part::Step(which, set) => {
+                s = step(which, set, s, d, optional, src, ids, ends, events, errors);
                 return s;
             }
             Part::Node(kind, line) => {
@@ -228,7 +216,7 @@ fn exec(
             }
             Part::When(set, p) => {
                 if !s.sees(set, ids) {
-                    s = step(PASS, set, 0, s, d, optional, src, ids, ends, events, errors);
+                    s = step(PASS, set, s, d, optional, src, ids, ends, events, errors);
                     return s;
                 }
                 let at = skip_trivia(s.pos, s.ev, s.evcap, s.full, ids, ends, events);
@@ -296,19 +284,8 @@ fn head(
     ensures { λ r. ⌜ Did (reads d optional (prog p)) (source (now (src .entry)) (now (ids .entry)) (now (ends .entry))) s r (bufs (now (events .entry)) (now (errors .entry)) (now (scratch .entry))) (bufs (now (events .exit)) (now (errors .exit)) (now (scratch .exit))) ⌝ }
 {
     match part_at(p, table) {
-        Part::Step(which, set, name) => step(
-            which,
-            set,
-            name,
-            s,
-            d,
-            optional,
-            src,
-            ids,
-            ends,
-            events,
-            errors,
-        ),
+        Part::Eat(set, name) => s.eat(set, label(name), ids, ends, events),
+        Part::Step(which, set) => step(which, set, s, d, optional, src, ids, ends, events, errors),
         Part::Node(kind, line) => node(
             kind,
             line,

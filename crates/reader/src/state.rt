@@ -45,14 +45,14 @@ pub struct Mark {
 }
 
 // How many numbers stand written, and whether a room was exceeded.
-struct Pen {
-    ev: usize,
-    full: u8,
+pub struct Pen {
+    pub ev: usize,
+    pub full: u8,
 }
 
 // Writes four numbers of events at a place; where there is no room, says so. It takes and gives numbers and not the state, which is copied where
 // it is handed over.
-fn write(
+pub fn write(
     at: usize,
     cap: usize,
     full: u8,

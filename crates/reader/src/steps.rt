@@ -3,6 +3,8 @@ use crate::names::Label;
 use crate::rows::peek;
 use crate::rows::start_of;
 use crate::state::State;
+use crate::state::skip_trivia;
+use crate::state::write;
 use kinds::Matched;
 use kinds::contains;
 use kinds::is_trivia;
@@ -54,11 +56,13 @@ impl State {
         let Matched::Kind(kind) = matched(set, id) else {
             return self.miss(set, label, at);
         };
-        self = self.trivia(ids, ends, events);
+        let past = skip_trivia(self.pos, self.ev, self.evcap, self.full, ids, ends, events);
         let start = start_of(at, ends);
         let end = ends[at];
-        self = self.put(2, kind, start, end, events);
+        let pen = write(past.ev, self.evcap, past.full, 2, kind, start, end, events);
         self.pos = at + 1;
+        self.ev = pen.ev;
+        self.full = pen.full;
         self
     }
 

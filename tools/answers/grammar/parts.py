@@ -10,17 +10,17 @@ use Rattle.reader.specs.Means.{source}
 use Rattle.reader.proofs.Lists.{not-yes, not-no}
 use Rattle.reader.proofs.Sticky.{sticky-exec}
 use Rattle.grammar.specs.Table.{prog, production, reads}
-use Rattle.grammar.proofs.Cycle.{from, here, plus, plusE, plusB, asksE, asksS, asksL, stops, Turns, turns, turns-more, turns-undone, turns-over, begun, closing, made, none-made}
+use Rattle.grammar.proofs.Cycle.{from, here, plus, plusE, plusB, asksE, asksX, asksS, asksL, stops, Turns, turns, turns-more, turns-undone, turns-over, begun, closing, made, none-made}
 use Rattle.grammar.proofs.Known.{bit-in, bit-in-still, found-bit, known-idle, known-hit, known-through, known-failed}
-use Rattle.grammar.proofs.Lines.{is-row, is-step, is-line, node-line, memo-line, row-sound, Going, going, goes-on, seq-goes, then-stops, then-goes, when-passes, when-good, when-goes, try-stops, try-on, try-opt, try-last, others, try-others}
+use Rattle.grammar.proofs.Lines.{is-row, is-eat, is-step, is-line, proper, node-line, memo-line, row-sound, Going, going, goes-on, seq-goes, then-stops, then-goes, when-passes, when-good, when-goes, try-stops, try-on, try-opt, try-last, others, try-others}
 '''
 S, D, O = "({args} .src .now)", "({args} .d)", "({args} .optional)"
 ROWS, WF, LENT = "({pre} .1 .0)", "({pre} .1 .1)", "{pre} .1 .3"
 FROM = f"(from (source ({{args}} .src .now) ({{args}} .ids .now) ({{args}} .ends .now)) ({{args}} .s) ({{args}} .events .now) ({{args}} .errors .now) ({{args}} .scratch .now) {WF})"
 PART = "(prog ({args} .p))"
 # where a callee has the events among its parameters; errors and scratch follow, where it has them
-EVENTS = {"trivia": 3, "skip-trivia": 6, "step": 9, "begin": 4, "end": 8, "exec": 7, "head": 7, "node": 8, "cached": 8, "many": 6}
-LISTS = {"trivia": 1, "skip-trivia": 1, "step": 2, "begin": 1, "end": 2}
+EVENTS = {"trivia": 3, "skip-trivia": 6, "eat": 5, "step": 8, "begin": 4, "end": 8, "exec": 7, "head": 7, "node": 8, "cached": 8, "many": 6}
+LISTS = {"trivia": 1, "skip-trivia": 1, "eat": 1, "step": 2, "begin": 1, "end": 2}
 # what each function's measure adds to 4,096 times the depth that is left
 DEPTH = {"exec": 2, "head": 2, "many": 2, "node": 3, "cached": 3}
 LEVEL = {"exec": "8 * a .0 + 2", "head": "8 * a .0 + 3", "many": "8 * a .0 + 4", "node": "0", "cached": "1"}
@@ -139,7 +139,7 @@ def trivia(k, good):
 
 
 SKIPS = f"({ROWS} .lines, {HERE} .wf .0 .2 .events, {HERE} .wf .1 .events)"
-GOOD = ["({if1} .left)", f"(when-good ({{args}} .ids .now) ({{loop}} .s) {I} {row('set')} ({{sees}} .ensures) (not-no _ ({{if2}} .left)))", "({if3} .left)"]
+GOOD = ["({if1} .left)", f"(when-good ({{args}} .ids .now) ({{loop}} .s) {I} {row('set2')} ({{sees}} .ensures) (not-no _ ({{if2}} .left)))", "({if3} .left)"]
 THEN, WHEN, TRIES = trivia("", GOOD[0]), trivia(2, GOOD[1]), trivia(3, GOOD[2])
 FIRST = f"(plus {HERE} ({{head}} .ensures))"
 TRIED = f"(plus (plusE {HERE} {TRIES}) ({{exec}} .ensures))"
@@ -148,36 +148,39 @@ CAME = f"{TRY} ({{if3}} .left) refl {TRIED}"
 EXEC = {
     "loop-holds": f"going {D} {O} ({{args}} .i) ({{args}} .events .now) ({{args}} .errors .now) ({{args}} .scratch .now) {WF} ({{pre}} .1 .2)",
     "part-at-requires": f"({IN}, {LENT})",
+    "label-requires": sound("set"),
+    "eat-requires": f"asksX {HERE} {ROWS} (proper _ ({sound('set')}) ({{label}} .ensures))",
+    **returns(1, ["eat"], f"{INV} .go (is-eat {D} {O} {I} {IN} {row('set')} ({{label}} .ensures) (plusE {HERE} ({{eat}} .ensures {S})))"),
     "step-requires": f"asksS {HERE} {ROWS} ({sound('which')})",
-    **returns(1, ["step"], f"{INV} .go (is-step {D} {O} {I} {IN} {row('which')} ({sound('which')} .0) (plusB {HERE} ({{step}} .ensures)))"),
+    **returns(2, ["step"], f"{INV} .go (is-step {D} {O} {I} {IN} {row('which')} ({sound('which')}) (plusB {HERE} ({{step}} .ensures)))"),
     "node-requires": below(f"{INV} .wf, node-line {I} {IN} {row('kind')}"),
-    **returns(2, ["node"], read("kind", "{node} .ensures")),
+    **returns(3, ["node"], read("kind", "{node} .ensures")),
     "cached-requires": below(f"{INV} .wf, memo-line {I} {IN} {row('kind2')}, {sound('kind2')} .0"),
-    **returns(3, ["cached"], read("kind2", "{cached} .ensures")),
+    **returns(4, ["cached"], read("kind2", "{cached} .ensures")),
     "head-requires": below(f"{INV} .wf, omega (arith, {sound('p2')} .0, {IN})", f"{sound('p2')} .0"),
     "loop-less": f"{sound('p2')} .1",
     "loop-again": on(FIRST, f"{sound('p2')} .1", f"seq-goes {AT} {row('p2')} ({{head}} .ensures) y", ["head"]),
-    **returns(5, [], f"{INV} .go (then-stops {AT} {row('p3')} ({{if1}} .taken))"),
+    **returns(6, [], f"{INV} .go (then-stops {AT} {row('p3')} ({{if1}} .taken))"),
     "skip-trivia-requires": SKIPS,
     "loop-less-2": sound("p3"),
     "loop-again-2": on(f"(plusE {HERE} {THEN})", sound("p3"), f"then-goes {AT} {row('p3')} ({{if1}} .left) {THEN} y", ["skip-trivia"]),
     "sees-requires": f"{HERE} .wf .0",
     "step-requires-2": f"asksL {HERE} {ROWS} (λ e. sym ({{sees}} .ensures) ∙ not-yes _ ({{if2}} .taken))",
-    **returns(6, ["step2"], f"{INV} .go (when-passes {AT} {row('set')} ({{sees}} .ensures) (not-yes _ ({{if2}} .taken)) (plusB {HERE} ({{step2}} .ensures)))"),
+    **returns(7, ["step2"], f"{INV} .go (when-passes {AT} {row('set2')} ({{sees}} .ensures) (not-yes _ ({{if2}} .taken)) (plusB {HERE} ({{step2}} .ensures)))"),
     "skip-trivia-requires-2": SKIPS,
-    "loop-less-3": sound("set"),
-    "loop-again-3": on(f"(plusE {HERE} {WHEN})", sound("set"), f"when-goes {AT} {row('set')} ({{sees}} .ensures) (not-no _ ({{if2}} .left)) {WHEN} y", ["skip-trivia2"]),
-    **returns(7, [], f"{INV} .go (try-stops {TRY} ({{if3}} .taken))"),
+    "loop-less-3": sound("set2"),
+    "loop-again-3": on(f"(plusE {HERE} {WHEN})", sound("set2"), f"when-goes {AT} {row('set2')} ({{sees}} .ensures) (not-no _ ({{if2}} .left)) {WHEN} y", ["skip-trivia2"]),
+    **returns(8, [], f"{INV} .go (try-stops {TRY} ({{if3}} .taken))"),
     "skip-trivia-requires-3": SKIPS,
     "exec-requires": below(f"(plusE {HERE} {TRIES}) .wf, omega (arith, {sound('how')} .0, {IN})", f"{sound('how')} .0"),
-    **returns(8, ["exec", "skip-trivia3"], f"{INV} .go (try-on {CAME} ({{if4}} .taken))"),
-    **returns(9, ["exec", "skip-trivia3"], f"{INV} .go (try-last {CAME} ({{if4}} .left) (λ e. omega (arith, e, {{if5}} .taken)) ({{if5}} .taken) refl)"),
-    **returns(10, ["exec", "skip-trivia3"], f"{INV} .go (try-opt {CAME} ({{if4}} .left) ({{if6}} .taken) refl)"),
+    **returns(9, ["exec", "skip-trivia3"], f"{INV} .go (try-on {CAME} ({{if4}} .taken))"),
+    **returns(10, ["exec", "skip-trivia3"], f"{INV} .go (try-last {CAME} ({{if4}} .left) (λ e. omega (arith, e, {{if5}} .taken)) ({{if5}} .taken) refl)"),
+    **returns(11, ["exec", "skip-trivia3"], f"{INV} .go (try-opt {CAME} ({{if4}} .left) ({{if6}} .taken) refl)"),
     "loop-less-4": f"{sound('how')} .1",
     "loop-again-4": on(f"(others {CAME} ({{if4}} .left) refl .here)", f"{sound('how')} .1", f"try-others {CAME} ({{if6}} .left) ({{if5}} .left) ({{if4}} .left) refl y", ["exec", "skip-trivia3"]),
 }
 for k, (callee, place) in enumerate([("many", "p")]):
-    EXEC.update({f"{callee}-requires": below(f"{INV} .wf, omega (arith, {sound(place)}, {IN})", sound(place)), **returns(4 + k, [callee], read(place, f"{{{callee}}} .ensures"))})
+    EXEC.update({f"{callee}-requires": below(f"{INV} .wf, omega (arith, {sound(place)}, {IN})", sound(place)), **returns(5 + k, [callee], read(place, f"{{{callee}}} .ensures"))})
 P_, IN_P = "({args} .p)", "({pre} .1 .2)"
 
 
@@ -195,14 +198,18 @@ def here_read(place, callee):
 
 HEAD = {
     "part-at-requires": f"({IN_P}, {LENT})",
+    "label-requires": here_sound("set"),
+    "eat-requires": f"asksX {FROM} {ROWS} (proper _ ({here_sound('set')}) ({{label}} .ensures))",
+    **lengths(["eat"], 1),
+    "returns": f"is-eat {D} {O} {here_row('set')} ({{label}} .ensures) (plusE {FROM} ({{eat}} .ensures {S}))",
     "step-requires": f"asksS {FROM} {ROWS} ({here_sound('which')})",
-    **lengths(["step"], 1),
-    "returns": f"is-step {D} {O} {here_row('which')} ({here_sound('which')} .0) (plusB {FROM} ({{step}} .ensures))",
+    **lengths(["step"], 2),
+    "returns-2": f"is-step {D} {O} {here_row('which')} ({here_sound('which')}) (plusB {FROM} ({{step}} .ensures))",
     "node-requires": falls(FROM, f"node-line {here_row('kind')}"),
     "cached-requires": falls(FROM, f"memo-line {here_row('kind2')}, {here_sound('kind2')} .0"),
     "many-requires": falls(FROM, f"omega (arith, {here_sound('q')}, {IN_P})", here_sound("q")),
     "exec-requires": falls(FROM, IN_P),
 }
 for k, (callee, answer) in enumerate([("node", here_read("kind", "node")), ("cached", here_read("kind2", "cached")), ("many", here_read("q", "many")), ("exec", "{exec} .ensures")]):
-    HEAD |= {**lengths([callee], 3 * k + 3), f"returns-{k + 2}": answer}
+    HEAD |= {**lengths([callee], 3 * k + 4), f"returns-{k + 3}": answer}
 ANSWERS = {"many": MANY, "node": NODE, "cached": CACHED, "exec": EXEC, "head": HEAD}

@@ -9,9 +9,9 @@ use Rattle.reader.specs.Means.{source}
 use Rattle.reader.proofs.Lists.{not-yes, not-no}
 use Rattle.reader.proofs.Sticky.{sticky-exec}
 use Rattle.grammar.specs.Table.{prog, production, reads}
-use Rattle.grammar.proofs.Cycle.{from, here, plus, plusE, plusB, asksE, asksS, asksL, stops, Turns, turns, turns-more, turns-undone, turns-over, begun, closing, made, none-made}
+use Rattle.grammar.proofs.Cycle.{from, here, plus, plusE, plusB, asksE, asksX, asksS, asksL, stops, Turns, turns, turns-more, turns-undone, turns-over, begun, closing, made, none-made}
 use Rattle.grammar.proofs.Known.{bit-in, bit-in-still, found-bit, known-idle, known-hit, known-through, known-failed}
-use Rattle.grammar.proofs.Lines.{is-row, is-step, is-line, node-line, memo-line, row-sound, Going, going, goes-on, seq-goes, then-stops, then-goes, when-passes, when-good, when-goes, try-stops, try-on, try-opt, try-last, others, try-others}
+use Rattle.grammar.proofs.Lines.{is-row, is-eat, is-step, is-line, proper, node-line, memo-line, row-sound, Going, going, goes-on, seq-goes, then-stops, then-goes, when-passes, when-good, when-goes, try-stops, try-on, try-opt, try-last, others, try-others}
 use Prim.Native.Nat.{ℕ, _<_}
 use borrow.Fn.Kinds.{In}
 use borrow.Fn.PlainCycle.{Measures, is, falls, and}
@@ -31,10 +31,12 @@ use Rattle.grammar.proofs.parts.node.Reads as node
 use Rattle.grammar.proofs.parts.node.Kinds as node-kinds
 use Rattle.grammar.proofs.parts.+cached+exec+head+many+node.Lts-node as node-lts
 use Rattle.grammar.proofs.parts.bit_of.Reads as bit-of-reads
+use Rattle.grammar.proofs.parts.label.Reads as label-reads
 use Rattle.grammar.proofs.parts.part_at.Reads as part-at-reads
 use Rattle.grammar.proofs.parts.step.Reads as step-reads
 use Rattle.reader.proofs.cache.seen.Reads as seen-reads
 use Rattle.reader.proofs.state.State.begin.Reads as begin-reads
+use Rattle.reader.proofs.state.State.eat.Reads as eat-reads
 use Rattle.reader.proofs.state.State.end.Reads as end-reads
 use Rattle.reader.proofs.state.State.mark.Reads as mark-reads
 use Rattle.reader.proofs.state.State.remembers.Reads as remembers-reads
@@ -145,7 +147,7 @@ abbrev exec-μ-loop : exec-lts.MeasureT-loop
 exec-μ-loop i₀ s₀ d optional src ids ends events₀ errors₀ scratch₀ table i s events errors scratch = i
 
 abbrev exec-cs : ℕ → exec-lts.Claims
-exec-cs t = (part-at-reads.Asked, part-at-reads.Learnt, step-reads.Asked, step-reads.Learnt, node-below t, node.Post, cached-below t, cached.Post, many-below t, many.Post, head-below t, head.Post, skip-trivia-reads.Asked, skip-trivia-reads.Learnt, sees-reads.Asked, sees-reads.Learnt, exec-below t, exec.Post)
+exec-cs t = (part-at-reads.Asked, part-at-reads.Learnt, label-reads.Asked, label-reads.Learnt, eat-reads.Asked, eat-reads.Learnt, step-reads.Asked, step-reads.Learnt, node-below t, node.Post, cached-below t, cached.Post, many-below t, many.Post, head-below t, head.Post, skip-trivia-reads.Asked, skip-trivia-reads.Learnt, sees-reads.Asked, sees-reads.Learnt, exec-below t, exec.Post)
 
 exec-loop-holds : (t : ℕ) → exec-lts.Need-loop-holds (exec-cs t) (exec-at t) exec.Post exec-Inv-loop exec-μ-loop
 exec-loop-holds t c = going (c .before .before .before .before .before .before .before .args .d) (c .before .before .before .before .before .before .before .args .optional) (c .before .before .before .before .before .before .before .args .i) (c .before .before .before .before .before .before .before .args .events .now) (c .before .before .before .before .before .before .before .args .errors .now) (c .before .before .before .before .before .before .before .args .scratch .now) (c .before .before .before .before .before .before .before .pre .1 .1) (c .before .before .before .before .before .before .before .pre .1 .2)
@@ -153,23 +155,44 @@ exec-loop-holds t c = going (c .before .before .before .before .before .before .
 exec-part-at-requires : (t : ℕ) → exec-lts.Need-part-at-requires (exec-cs t) (exec-at t) exec.Post exec-Inv-loop exec-μ-loop
 exec-part-at-requires t c κs = ((c .loop .inv .inside), c .before .before .before .before .before .before .before .before .pre .1 .3)
 
+exec-enum-known-set : (t : ℕ) → exec-lts.Need-enum-known-set (exec-cs t) (exec-at t) exec.Post exec-Inv-loop exec-μ-loop
+exec-enum-known-set t c = search needs
+
+exec-label-requires : (t : ℕ) → exec-lts.Need-label-requires (exec-cs t) (exec-at t) exec.Post exec-Inv-loop exec-μ-loop
+exec-label-requires t c κs = row-sound (c .before .before .before .before .loop .i) (c .before .before .before .before .loop .inv .inside) (sym (c .before .set .given .1) ∙ c .before .before .before .part-at .ensures)
+
+exec-eat-requires : (t : ℕ) → exec-lts.Need-eat-requires (exec-cs t) (exec-at t) exec.Post exec-Inv-loop exec-μ-loop
+exec-eat-requires t c κs = asksX (from (source (c .before .before .before .before .before .before .before .before .before .before .before .before .before .before .args .src .now) (c .before .before .before .before .before .before .before .before .before .before .before .before .before .before .args .ids .now) (c .before .before .before .before .before .before .before .before .before .before .before .before .before .before .args .ends .now)) (c .before .before .before .before .before .before .loop .s) (c .before .before .before .before .before .before .loop .events) (c .before .before .before .before .before .before .loop .errors) (c .before .before .before .before .before .before .loop .scratch) (c .before .before .before .before .before .before .loop .inv .wf)) (c .before .before .before .before .before .before .before .before .before .before .before .before .before .before .pre .1 .0) (proper _ (row-sound (c .before .before .before .before .before .before .loop .i) (c .before .before .before .before .before .before .loop .inv .inside) (sym (c .before .before .before .set .given .1) ∙ c .before .before .before .before .before .part-at .ensures)) (c .before .label .ensures))
+
+exec-same-length : (t : ℕ) → exec-lts.Need-same-length (exec-cs t) (exec-at t) exec.Post exec-Inv-loop exec-μ-loop
+exec-same-length t c = c .before .before .eat .kept .1 .1 .1 .1 .1 .0 ∙ (c .before .before .before .before .before .before .before .before .before .loop .inv) .events
+
+exec-same-length-2 : (t : ℕ) → exec-lts.Need-same-length-2 (exec-cs t) (exec-at t) exec.Post exec-Inv-loop exec-μ-loop
+exec-same-length-2 t c = (c .before .before .before .before .before .before .before .before .before .loop .inv) .errors
+
+exec-same-length-3 : (t : ℕ) → exec-lts.Need-same-length-3 (exec-cs t) (exec-at t) exec.Post exec-Inv-loop exec-μ-loop
+exec-same-length-3 t c = (c .before .before .before .before .before .before .before .before .before .loop .inv) .scratch
+
+exec-returns : (t : ℕ) → exec-lts.Need-returns (exec-cs t) (exec-at t) exec.Post exec-Inv-loop exec-μ-loop
+exec-returns t c = (c .before .before .before .before .before .before .before .before .before .loop .inv) .go (is-eat (c .before .before .before .before .before .before .before .before .before .before .before .before .before .before .before .before .before .args .d) (c .before .before .before .before .before .before .before .before .before .before .before .before .before .before .before .before .before .args .optional) (c .before .before .before .before .before .before .before .before .before .loop .i) (c .before .before .before .before .before .before .before .before .before .loop .inv .inside) (sym (c .before .before .before .before .before .before .set .given .1) ∙ c .before .before .before .before .before .before .before .before .part-at .ensures) (c .before .before .before .before .label .ensures) (plusE (from (source (c .before .before .before .before .before .before .before .before .before .before .before .before .before .before .before .before .before .args .src .now) (c .before .before .before .before .before .before .before .before .before .before .before .before .before .before .before .before .before .args .ids .now) (c .before .before .before .before .before .before .before .before .before .before .before .before .before .before .before .before .before .args .ends .now)) (c .before .before .before .before .before .before .before .before .before .loop .s) (c .before .before .before .before .before .before .before .before .before .loop .events) (c .before .before .before .before .before .before .before .before .before .loop .errors) (c .before .before .before .before .before .before .before .before .before .loop .scratch) (c .before .before .before .before .before .before .before .before .before .loop .inv .wf)) (c .before .before .eat .ensures (c .before .before .before .before .before .before .before .before .before .before .before .before .before .before .before .before .before .args .src .now))))
+
 exec-enum-known-which : (t : ℕ) → exec-lts.Need-enum-known-which (exec-cs t) (exec-at t) exec.Post exec-Inv-loop exec-μ-loop
 exec-enum-known-which t c = search needs
 
 exec-step-requires : (t : ℕ) → exec-lts.Need-step-requires (exec-cs t) (exec-at t) exec.Post exec-Inv-loop exec-μ-loop
 exec-step-requires t c κs = asksS (from (source (c .before .before .before .before .before .before .before .before .before .before .before .before .before .before .args .src .now) (c .before .before .before .before .before .before .before .before .before .before .before .before .before .before .args .ids .now) (c .before .before .before .before .before .before .before .before .before .before .before .before .before .before .args .ends .now)) (c .before .before .before .before .before .before .loop .s) (c .before .before .before .before .before .before .loop .events) (c .before .before .before .before .before .before .loop .errors) (c .before .before .before .before .before .before .loop .scratch) (c .before .before .before .before .before .before .loop .inv .wf)) (c .before .before .before .before .before .before .before .before .before .before .before .before .before .before .pre .1 .0) (row-sound (c .before .before .before .before .before .before .loop .i) (c .before .before .before .before .before .before .loop .inv .inside) (sym (c .before .before .before .which .given .1) ∙ c .before .before .before .before .before .part-at .ensures))
 
-exec-same-length : (t : ℕ) → exec-lts.Need-same-length (exec-cs t) (exec-at t) exec.Post exec-Inv-loop exec-μ-loop
-exec-same-length t c = c .before .before .before .before .step .kept .1 .1 .1 .1 .1 .1 .1 .1 .1 .0 ∙ (c .before .before .before .before .before .before .before .before .before .before .before .loop .inv) .events
+exec-same-length-4 : (t : ℕ) → exec-lts.Need-same-length-4 (exec-cs t) (exec-at t) exec.Post exec-Inv-loop exec-μ-loop
+exec-same-length-4 t c = c .before .before .before .before .step .kept .1 .1 .1 .1 .1 .1 .1 .1 .0 ∙ (c .before .before .before .before .before .before .before .before .before .before .before .loop .inv) .events
 
-exec-same-length-2 : (t : ℕ) → exec-lts.Need-same-length-2 (exec-cs t) (exec-at t) exec.Post exec-Inv-loop exec-μ-loop
-exec-same-length-2 t c = c .before .before .before .before .step .kept .1 .1 .1 .1 .1 .1 .1 .1 .1 .1 .0 ∙ (c .before .before .before .before .before .before .before .before .before .before .before .loop .inv) .errors
+exec-same-length-5 : (t : ℕ) → exec-lts.Need-same-length-5 (exec-cs t) (exec-at t) exec.Post exec-Inv-loop exec-μ-loop
+exec-same-length-5 t c = c .before .before .before .before .step .kept .1 .1 .1 .1 .1 .1 .1 .1 .1 .0 ∙ (c .before .before .before .before .before .before .before .before .before .before .before .loop .inv) .errors
 
-exec-same-length-3 : (t : ℕ) → exec-lts.Need-same-length-3 (exec-cs t) (exec-at t) exec.Post exec-Inv-loop exec-μ-loop
-exec-same-length-3 t c = (c .before .before .before .before .before .before .before .before .before .before .before .loop .inv) .scratch
+exec-same-length-6 : (t : ℕ) → exec-lts.Need-same-length-6 (exec-cs t) (exec-at t) exec.Post exec-Inv-loop exec-μ-loop
+exec-same-length-6 t c = (c .before .before .before .before .before .before .before .before .before .before .before .loop .inv) .scratch
 
-exec-returns : (t : ℕ) → exec-lts.Need-returns (exec-cs t) (exec-at t) exec.Post exec-Inv-loop exec-μ-loop
-exec-returns t c = (c .before .before .before .before .before .before .before .before .before .before .before .loop .inv) .go (is-step (c .before .before .before .before .before .before .before .before .before .before .before .before .before .before .before .before .before .before .before .args .d) (c .before .before .before .before .before .before .before .before .before .before .before .before .before .before .before .before .before .before .before .args .optional) (c .before .before .before .before .before .before .before .before .before .before .before .loop .i) (c .before .before .before .before .before .before .before .before .before .before .before .loop .inv .inside) (sym (c .before .before .before .before .before .before .before .before .which .given .1) ∙ c .before .before .before .before .before .before .before .before .before .before .part-at .ensures) (row-sound (c .before .before .before .before .before .before .before .before .before .before .before .loop .i) (c .before .before .before .before .before .before .before .before .before .before .before .loop .inv .inside) (sym (c .before .before .before .before .before .before .before .before .which .given .1) ∙ c .before .before .before .before .before .before .before .before .before .before .part-at .ensures) .0) (plusB (from (source (c .before .before .before .before .before .before .before .before .before .before .before .before .before .before .before .before .before .before .before .args .src .now) (c .before .before .before .before .before .before .before .before .before .before .before .before .before .before .before .before .before .before .before .args .ids .now) (c .before .before .before .before .before .before .before .before .before .before .before .before .before .before .before .before .before .before .before .args .ends .now)) (c .before .before .before .before .before .before .before .before .before .before .before .loop .s) (c .before .before .before .before .before .before .before .before .before .before .before .loop .events) (c .before .before .before .before .before .before .before .before .before .before .before .loop .errors) (c .before .before .before .before .before .before .before .before .before .before .before .loop .scratch) (c .before .before .before .before .before .before .before .before .before .before .before .loop .inv .wf)) (c .before .before .before .before .step .ensures)))
+exec-returns-2 : (t : ℕ) → exec-lts.Need-returns-2 (exec-cs t) (exec-at t) exec.Post exec-Inv-loop exec-μ-loop
+exec-returns-2 t c = (c .before .before .before .before .before .before .before .before .before .before .before .loop .inv) .go (is-step (c .before .before .before .before .before .before .before .before .before .before .before .before .before .before .before .before .before .before .before .args .d) (c .before .before .before .before .before .before .before .before .before .before .before .before .before .before .before .before .before .before .before .args .optional) (c .before .before .before .before .before .before .before .before .before .before .before .loop .i) (c .before .before .before .before .before .before .before .before .before .before .before .loop .inv .inside) (sym (c .before .before .before .before .before .before .before .before .which .given .1) ∙ c .before .before .before .before .before .before .before .before .before .before .part-at .ensures) (row-sound (c .before .before .before .before .before .before .before .before .before .before .before .loop .i) (c .before .before .before .before .before .before .before .before .before .before .before .loop .inv .inside) (sym (c .before .before .before .before .before .before .before .before .which .given .1) ∙ c .before .before .before .before .before .before .before .before .before .before .part-at .ensures)) (plusB (from (source (c .before .before .before .before .before .before .before .before .before .before .before .before .before .before .before .before .before .before .before .args .src .now) (c .before .before .before .before .before .before .before .before .before .before .before .before .before .before .before .before .before .before .before .args .ids .now) (c .before .before .before .before .before .before .before .before .before .before .before .before .before .before .before .before .before .before .before .args .ends .now)) (c .before .before .before .before .before .before .before .before .before .before .before .loop .s) (c .before .before .before .before .before .before .before .before .before .before .before .loop .events) (c .before .before .before .before .before .before .before .before .before .before .before .loop .errors) (c .before .before .before .before .before .before .before .before .before .before .before .loop .scratch) (c .before .before .before .before .before .before .before .before .before .before .before .loop .inv .wf)) (c .before .before .before .before .step .ensures)))
 
 exec-enum-known-kind : (t : ℕ) → exec-lts.Need-enum-known-kind (exec-cs t) (exec-at t) exec.Post exec-Inv-loop exec-μ-loop
 exec-enum-known-kind t c = search needs
@@ -177,17 +200,17 @@ exec-enum-known-kind t c = search needs
 exec-node-requires : (t : ℕ) → exec-lts.Need-node-requires (exec-cs t) (exec-at t) exec.Post exec-Inv-loop exec-μ-loop
 exec-node-requires t c κs = (omega (arith, c .before .before .before .before .before .before .before .before .before .before .before .before .before .before .before .pre .0, (c .before .before .before .before .before .before .before .loop .inv) .below), ((c .before .before .before .before .before .before .before .before .before .before .before .before .before .before .before .pre .1 .0), (c .before .before .before .before .before .before .before .loop .inv) .wf, node-line (c .before .before .before .before .before .before .before .loop .i) (c .before .before .before .before .before .before .before .loop .inv .inside) (sym (c .before .before .before .before .kind .given .1) ∙ c .before .before .before .before .before .before .part-at .ensures), c .before .before .before .before .before .before .before .before .before .before .before .before .before .before .before .pre .1 .3))
 
-exec-same-length-4 : (t : ℕ) → exec-lts.Need-same-length-4 (exec-cs t) (exec-at t) exec.Post exec-Inv-loop exec-μ-loop
-exec-same-length-4 t c = c .before .before .before .before .before .before .node .kept .1 .1 .1 .1 .1 .1 .1 .1 .0 ∙ (c .before .before .before .before .before .before .before .before .before .before .before .before .before .before .loop .inv) .events
+exec-same-length-7 : (t : ℕ) → exec-lts.Need-same-length-7 (exec-cs t) (exec-at t) exec.Post exec-Inv-loop exec-μ-loop
+exec-same-length-7 t c = c .before .before .before .before .before .before .node .kept .1 .1 .1 .1 .1 .1 .1 .1 .0 ∙ (c .before .before .before .before .before .before .before .before .before .before .before .before .before .before .loop .inv) .events
 
-exec-same-length-5 : (t : ℕ) → exec-lts.Need-same-length-5 (exec-cs t) (exec-at t) exec.Post exec-Inv-loop exec-μ-loop
-exec-same-length-5 t c = c .before .before .before .before .before .before .node .kept .1 .1 .1 .1 .1 .1 .1 .1 .1 .0 ∙ (c .before .before .before .before .before .before .before .before .before .before .before .before .before .before .loop .inv) .errors
+exec-same-length-8 : (t : ℕ) → exec-lts.Need-same-length-8 (exec-cs t) (exec-at t) exec.Post exec-Inv-loop exec-μ-loop
+exec-same-length-8 t c = c .before .before .before .before .before .before .node .kept .1 .1 .1 .1 .1 .1 .1 .1 .1 .0 ∙ (c .before .before .before .before .before .before .before .before .before .before .before .before .before .before .loop .inv) .errors
 
-exec-same-length-6 : (t : ℕ) → exec-lts.Need-same-length-6 (exec-cs t) (exec-at t) exec.Post exec-Inv-loop exec-μ-loop
-exec-same-length-6 t c = c .before .before .before .before .before .before .node .kept .1 .1 .1 .1 .1 .1 .1 .1 .1 .1 .0 ∙ (c .before .before .before .before .before .before .before .before .before .before .before .before .before .before .loop .inv) .scratch
+exec-same-length-9 : (t : ℕ) → exec-lts.Need-same-length-9 (exec-cs t) (exec-at t) exec.Post exec-Inv-loop exec-μ-loop
+exec-same-length-9 t c = c .before .before .before .before .before .before .node .kept .1 .1 .1 .1 .1 .1 .1 .1 .1 .1 .0 ∙ (c .before .before .before .before .before .before .before .before .before .before .before .before .before .before .loop .inv) .scratch
 
-exec-returns-2 : (t : ℕ) → exec-lts.Need-returns-2 (exec-cs t) (exec-at t) exec.Post exec-Inv-loop exec-μ-loop
-exec-returns-2 t c = (c .before .before .before .before .before .before .before .before .before .before .before .before .before .before .loop .inv) .go (is-row (c .before .before .before .before .before .before .before .before .before .before .before .before .before .before .before .before .before .before .before .before .before .before .args .d) (c .before .before .before .before .before .before .before .before .before .before .before .before .before .before .before .before .before .before .before .before .before .before .args .optional) (c .before .before .before .before .before .before .before .before .before .before .before .before .before .before .loop .i) (c .before .before .before .before .before .before .before .before .before .before .before .before .before .before .loop .inv .inside) (sym (c .before .before .before .before .before .before .before .before .before .before .before .kind .given .1) ∙ c .before .before .before .before .before .before .before .before .before .before .before .before .before .part-at .ensures) (c .before .before .before .before .before .before .node .ensures))
+exec-returns-3 : (t : ℕ) → exec-lts.Need-returns-3 (exec-cs t) (exec-at t) exec.Post exec-Inv-loop exec-μ-loop
+exec-returns-3 t c = (c .before .before .before .before .before .before .before .before .before .before .before .before .before .before .loop .inv) .go (is-row (c .before .before .before .before .before .before .before .before .before .before .before .before .before .before .before .before .before .before .before .before .before .before .args .d) (c .before .before .before .before .before .before .before .before .before .before .before .before .before .before .before .before .before .before .before .before .before .before .args .optional) (c .before .before .before .before .before .before .before .before .before .before .before .before .before .before .loop .i) (c .before .before .before .before .before .before .before .before .before .before .before .before .before .before .loop .inv .inside) (sym (c .before .before .before .before .before .before .before .before .before .before .before .kind .given .1) ∙ c .before .before .before .before .before .before .before .before .before .before .before .before .before .part-at .ensures) (c .before .before .before .before .before .before .node .ensures))
 
 exec-enum-known-kind-2 : (t : ℕ) → exec-lts.Need-enum-known-kind-2 (exec-cs t) (exec-at t) exec.Post exec-Inv-loop exec-μ-loop
 exec-enum-known-kind-2 t c = search needs
@@ -195,17 +218,17 @@ exec-enum-known-kind-2 t c = search needs
 exec-cached-requires : (t : ℕ) → exec-lts.Need-cached-requires (exec-cs t) (exec-at t) exec.Post exec-Inv-loop exec-μ-loop
 exec-cached-requires t c κs = (omega (arith, c .before .before .before .before .before .before .before .before .before .before .before .before .before .before .before .pre .0, (c .before .before .before .before .before .before .before .loop .inv) .below), ((c .before .before .before .before .before .before .before .before .before .before .before .before .before .before .before .pre .1 .0), (c .before .before .before .before .before .before .before .loop .inv) .wf, memo-line (c .before .before .before .before .before .before .before .loop .i) (c .before .before .before .before .before .before .before .loop .inv .inside) (sym (c .before .before .before .before .kind2 .given .1) ∙ c .before .before .before .before .before .before .part-at .ensures), row-sound (c .before .before .before .before .before .before .before .loop .i) (c .before .before .before .before .before .before .before .loop .inv .inside) (sym (c .before .before .before .before .kind2 .given .1) ∙ c .before .before .before .before .before .before .part-at .ensures) .0, c .before .before .before .before .before .before .before .before .before .before .before .before .before .before .before .pre .1 .3))
 
-exec-same-length-7 : (t : ℕ) → exec-lts.Need-same-length-7 (exec-cs t) (exec-at t) exec.Post exec-Inv-loop exec-μ-loop
-exec-same-length-7 t c = c .before .before .before .before .before .before .cached .kept .1 .1 .1 .1 .1 .1 .1 .1 .0 ∙ (c .before .before .before .before .before .before .before .before .before .before .before .before .before .before .loop .inv) .events
+exec-same-length-10 : (t : ℕ) → exec-lts.Need-same-length-10 (exec-cs t) (exec-at t) exec.Post exec-Inv-loop exec-μ-loop
+exec-same-length-10 t c = c .before .before .before .before .before .before .cached .kept .1 .1 .1 .1 .1 .1 .1 .1 .0 ∙ (c .before .before .before .before .before .before .before .before .before .before .before .before .before .before .loop .inv) .events
 
-exec-same-length-8 : (t : ℕ) → exec-lts.Need-same-length-8 (exec-cs t) (exec-at t) exec.Post exec-Inv-loop exec-μ-loop
-exec-same-length-8 t c = c .before .before .before .before .before .before .cached .kept .1 .1 .1 .1 .1 .1 .1 .1 .1 .0 ∙ (c .before .before .before .before .before .before .before .before .before .before .before .before .before .before .loop .inv) .errors
+exec-same-length-11 : (t : ℕ) → exec-lts.Need-same-length-11 (exec-cs t) (exec-at t) exec.Post exec-Inv-loop exec-μ-loop
+exec-same-length-11 t c = c .before .before .before .before .before .before .cached .kept .1 .1 .1 .1 .1 .1 .1 .1 .1 .0 ∙ (c .before .before .before .before .before .before .before .before .before .before .before .before .before .before .loop .inv) .errors
 
-exec-same-length-9 : (t : ℕ) → exec-lts.Need-same-length-9 (exec-cs t) (exec-at t) exec.Post exec-Inv-loop exec-μ-loop
-exec-same-length-9 t c = c .before .before .before .before .before .before .cached .kept .1 .1 .1 .1 .1 .1 .1 .1 .1 .1 .0 ∙ (c .before .before .before .before .before .before .before .before .before .before .before .before .before .before .loop .inv) .scratch
+exec-same-length-12 : (t : ℕ) → exec-lts.Need-same-length-12 (exec-cs t) (exec-at t) exec.Post exec-Inv-loop exec-μ-loop
+exec-same-length-12 t c = c .before .before .before .before .before .before .cached .kept .1 .1 .1 .1 .1 .1 .1 .1 .1 .1 .0 ∙ (c .before .before .before .before .before .before .before .before .before .before .before .before .before .before .loop .inv) .scratch
 
-exec-returns-3 : (t : ℕ) → exec-lts.Need-returns-3 (exec-cs t) (exec-at t) exec.Post exec-Inv-loop exec-μ-loop
-exec-returns-3 t c = (c .before .before .before .before .before .before .before .before .before .before .before .before .before .before .loop .inv) .go (is-row (c .before .before .before .before .before .before .before .before .before .before .before .before .before .before .before .before .before .before .before .before .before .before .args .d) (c .before .before .before .before .before .before .before .before .before .before .before .before .before .before .before .before .before .before .before .before .before .before .args .optional) (c .before .before .before .before .before .before .before .before .before .before .before .before .before .before .loop .i) (c .before .before .before .before .before .before .before .before .before .before .before .before .before .before .loop .inv .inside) (sym (c .before .before .before .before .before .before .before .before .before .before .before .kind2 .given .1) ∙ c .before .before .before .before .before .before .before .before .before .before .before .before .before .part-at .ensures) (c .before .before .before .before .before .before .cached .ensures))
+exec-returns-4 : (t : ℕ) → exec-lts.Need-returns-4 (exec-cs t) (exec-at t) exec.Post exec-Inv-loop exec-μ-loop
+exec-returns-4 t c = (c .before .before .before .before .before .before .before .before .before .before .before .before .before .before .loop .inv) .go (is-row (c .before .before .before .before .before .before .before .before .before .before .before .before .before .before .before .before .before .before .before .before .before .before .args .d) (c .before .before .before .before .before .before .before .before .before .before .before .before .before .before .before .before .before .before .before .before .before .before .args .optional) (c .before .before .before .before .before .before .before .before .before .before .before .before .before .before .loop .i) (c .before .before .before .before .before .before .before .before .before .before .before .before .before .before .loop .inv .inside) (sym (c .before .before .before .before .before .before .before .before .before .before .before .kind2 .given .1) ∙ c .before .before .before .before .before .before .before .before .before .before .before .before .before .part-at .ensures) (c .before .before .before .before .before .before .cached .ensures))
 
 exec-enum-known-p : (t : ℕ) → exec-lts.Need-enum-known-p (exec-cs t) (exec-at t) exec.Post exec-Inv-loop exec-μ-loop
 exec-enum-known-p t c = search needs
@@ -213,17 +236,17 @@ exec-enum-known-p t c = search needs
 exec-many-requires : (t : ℕ) → exec-lts.Need-many-requires (exec-cs t) (exec-at t) exec.Post exec-Inv-loop exec-μ-loop
 exec-many-requires t c κs = (omega (arith, c .before .before .before .before .before .before .before .before .before .before .before .before .before .before .before .pre .0, (c .before .before .before .before .before .before .before .loop .inv) .below, row-sound (c .before .before .before .before .before .before .before .loop .i) (c .before .before .before .before .before .before .before .loop .inv .inside) (sym (c .before .before .before .before .p .given .1) ∙ c .before .before .before .before .before .before .part-at .ensures)), ((c .before .before .before .before .before .before .before .before .before .before .before .before .before .before .before .pre .1 .0), (c .before .before .before .before .before .before .before .loop .inv) .wf, omega (arith, row-sound (c .before .before .before .before .before .before .before .loop .i) (c .before .before .before .before .before .before .before .loop .inv .inside) (sym (c .before .before .before .before .p .given .1) ∙ c .before .before .before .before .before .before .part-at .ensures), (c .before .before .before .before .before .before .before .loop .inv .inside)), c .before .before .before .before .before .before .before .before .before .before .before .before .before .before .before .pre .1 .3))
 
-exec-same-length-10 : (t : ℕ) → exec-lts.Need-same-length-10 (exec-cs t) (exec-at t) exec.Post exec-Inv-loop exec-μ-loop
-exec-same-length-10 t c = c .before .before .before .before .before .before .many .kept .1 .1 .1 .1 .1 .1 .0 ∙ (c .before .before .before .before .before .before .before .before .before .before .before .before .before .before .loop .inv) .events
+exec-same-length-13 : (t : ℕ) → exec-lts.Need-same-length-13 (exec-cs t) (exec-at t) exec.Post exec-Inv-loop exec-μ-loop
+exec-same-length-13 t c = c .before .before .before .before .before .before .many .kept .1 .1 .1 .1 .1 .1 .0 ∙ (c .before .before .before .before .before .before .before .before .before .before .before .before .before .before .loop .inv) .events
 
-exec-same-length-11 : (t : ℕ) → exec-lts.Need-same-length-11 (exec-cs t) (exec-at t) exec.Post exec-Inv-loop exec-μ-loop
-exec-same-length-11 t c = c .before .before .before .before .before .before .many .kept .1 .1 .1 .1 .1 .1 .1 .0 ∙ (c .before .before .before .before .before .before .before .before .before .before .before .before .before .before .loop .inv) .errors
+exec-same-length-14 : (t : ℕ) → exec-lts.Need-same-length-14 (exec-cs t) (exec-at t) exec.Post exec-Inv-loop exec-μ-loop
+exec-same-length-14 t c = c .before .before .before .before .before .before .many .kept .1 .1 .1 .1 .1 .1 .1 .0 ∙ (c .before .before .before .before .before .before .before .before .before .before .before .before .before .before .loop .inv) .errors
 
-exec-same-length-12 : (t : ℕ) → exec-lts.Need-same-length-12 (exec-cs t) (exec-at t) exec.Post exec-Inv-loop exec-μ-loop
-exec-same-length-12 t c = c .before .before .before .before .before .before .many .kept .1 .1 .1 .1 .1 .1 .1 .1 .0 ∙ (c .before .before .before .before .before .before .before .before .before .before .before .before .before .before .loop .inv) .scratch
+exec-same-length-15 : (t : ℕ) → exec-lts.Need-same-length-15 (exec-cs t) (exec-at t) exec.Post exec-Inv-loop exec-μ-loop
+exec-same-length-15 t c = c .before .before .before .before .before .before .many .kept .1 .1 .1 .1 .1 .1 .1 .1 .0 ∙ (c .before .before .before .before .before .before .before .before .before .before .before .before .before .before .loop .inv) .scratch
 
-exec-returns-4 : (t : ℕ) → exec-lts.Need-returns-4 (exec-cs t) (exec-at t) exec.Post exec-Inv-loop exec-μ-loop
-exec-returns-4 t c = (c .before .before .before .before .before .before .before .before .before .before .before .before .before .before .loop .inv) .go (is-row (c .before .before .before .before .before .before .before .before .before .before .before .before .before .before .before .before .before .before .before .before .before .before .args .d) (c .before .before .before .before .before .before .before .before .before .before .before .before .before .before .before .before .before .before .before .before .before .before .args .optional) (c .before .before .before .before .before .before .before .before .before .before .before .before .before .before .loop .i) (c .before .before .before .before .before .before .before .before .before .before .before .before .before .before .loop .inv .inside) (sym (c .before .before .before .before .before .before .before .before .before .before .before .p .given .1) ∙ c .before .before .before .before .before .before .before .before .before .before .before .before .before .part-at .ensures) (c .before .before .before .before .before .before .many .ensures))
+exec-returns-5 : (t : ℕ) → exec-lts.Need-returns-5 (exec-cs t) (exec-at t) exec.Post exec-Inv-loop exec-μ-loop
+exec-returns-5 t c = (c .before .before .before .before .before .before .before .before .before .before .before .before .before .before .loop .inv) .go (is-row (c .before .before .before .before .before .before .before .before .before .before .before .before .before .before .before .before .before .before .before .before .before .before .args .d) (c .before .before .before .before .before .before .before .before .before .before .before .before .before .before .before .before .before .before .before .before .before .before .args .optional) (c .before .before .before .before .before .before .before .before .before .before .before .before .before .before .loop .i) (c .before .before .before .before .before .before .before .before .before .before .before .before .before .before .loop .inv .inside) (sym (c .before .before .before .before .before .before .before .before .before .before .before .p .given .1) ∙ c .before .before .before .before .before .before .before .before .before .before .before .before .before .part-at .ensures) (c .before .before .before .before .before .before .many .ensures))
 
 exec-enum-known-p-2 : (t : ℕ) → exec-lts.Need-enum-known-p-2 (exec-cs t) (exec-at t) exec.Post exec-Inv-loop exec-μ-loop
 exec-enum-known-p-2 t c = search needs
@@ -240,17 +263,17 @@ exec-loop-again t c = goes-on (c .before .before .before .before .before .before
 exec-enum-known-p-3 : (t : ℕ) → exec-lts.Need-enum-known-p-3 (exec-cs t) (exec-at t) exec.Post exec-Inv-loop exec-μ-loop
 exec-enum-known-p-3 t c = search needs
 
-exec-same-length-13 : (t : ℕ) → exec-lts.Need-same-length-13 (exec-cs t) (exec-at t) exec.Post exec-Inv-loop exec-μ-loop
-exec-same-length-13 t c = (c .before .before .before .before .before .before .loop .inv) .events
+exec-same-length-16 : (t : ℕ) → exec-lts.Need-same-length-16 (exec-cs t) (exec-at t) exec.Post exec-Inv-loop exec-μ-loop
+exec-same-length-16 t c = (c .before .before .before .before .before .before .loop .inv) .events
 
-exec-same-length-14 : (t : ℕ) → exec-lts.Need-same-length-14 (exec-cs t) (exec-at t) exec.Post exec-Inv-loop exec-μ-loop
-exec-same-length-14 t c = (c .before .before .before .before .before .before .loop .inv) .errors
+exec-same-length-17 : (t : ℕ) → exec-lts.Need-same-length-17 (exec-cs t) (exec-at t) exec.Post exec-Inv-loop exec-μ-loop
+exec-same-length-17 t c = (c .before .before .before .before .before .before .loop .inv) .errors
 
-exec-same-length-15 : (t : ℕ) → exec-lts.Need-same-length-15 (exec-cs t) (exec-at t) exec.Post exec-Inv-loop exec-μ-loop
-exec-same-length-15 t c = (c .before .before .before .before .before .before .loop .inv) .scratch
+exec-same-length-18 : (t : ℕ) → exec-lts.Need-same-length-18 (exec-cs t) (exec-at t) exec.Post exec-Inv-loop exec-μ-loop
+exec-same-length-18 t c = (c .before .before .before .before .before .before .loop .inv) .scratch
 
-exec-returns-5 : (t : ℕ) → exec-lts.Need-returns-5 (exec-cs t) (exec-at t) exec.Post exec-Inv-loop exec-μ-loop
-exec-returns-5 t c = (c .before .before .before .before .before .before .loop .inv) .go (then-stops (c .before .before .before .before .before .before .before .before .before .before .before .before .before .before .args .d) (c .before .before .before .before .before .before .before .before .before .before .before .before .before .before .args .optional) (c .before .before .before .before .before .before .loop .i) (c .before .before .before .before .before .before .loop .inv .inside) (c .before .before .before .before .before .before .loop .events) (c .before .before .before .before .before .before .loop .errors) (c .before .before .before .before .before .before .loop .scratch) (c .before .before .before .before .before .before .loop .inv .wf) (sym (c .before .before .before .p3 .given .1) ∙ c .before .before .before .before .before .part-at .ensures) (c .if1 .taken))
+exec-returns-6 : (t : ℕ) → exec-lts.Need-returns-6 (exec-cs t) (exec-at t) exec.Post exec-Inv-loop exec-μ-loop
+exec-returns-6 t c = (c .before .before .before .before .before .before .loop .inv) .go (then-stops (c .before .before .before .before .before .before .before .before .before .before .before .before .before .before .args .d) (c .before .before .before .before .before .before .before .before .before .before .before .before .before .before .args .optional) (c .before .before .before .before .before .before .loop .i) (c .before .before .before .before .before .before .loop .inv .inside) (c .before .before .before .before .before .before .loop .events) (c .before .before .before .before .before .before .loop .errors) (c .before .before .before .before .before .before .loop .scratch) (c .before .before .before .before .before .before .loop .inv .wf) (sym (c .before .before .before .p3 .given .1) ∙ c .before .before .before .before .before .part-at .ensures) (c .if1 .taken))
 
 exec-skip-trivia-requires : (t : ℕ) → exec-lts.Need-skip-trivia-requires (exec-cs t) (exec-at t) exec.Post exec-Inv-loop exec-μ-loop
 exec-skip-trivia-requires t c κs = ((c .before .before .before .before .before .before .before .before .before .before .before .before .before .before .before .pre .1 .0) .lines, (from (source (c .before .before .before .before .before .before .before .before .before .before .before .before .before .before .before .args .src .now) (c .before .before .before .before .before .before .before .before .before .before .before .before .before .before .before .args .ids .now) (c .before .before .before .before .before .before .before .before .before .before .before .before .before .before .before .args .ends .now)) (c .before .before .before .before .before .before .before .loop .s) (c .before .before .before .before .before .before .before .loop .events) (c .before .before .before .before .before .before .before .loop .errors) (c .before .before .before .before .before .before .before .loop .scratch) (c .before .before .before .before .before .before .before .loop .inv .wf)) .wf .0 .2 .events, (from (source (c .before .before .before .before .before .before .before .before .before .before .before .before .before .before .before .args .src .now) (c .before .before .before .before .before .before .before .before .before .before .before .before .before .before .before .args .ids .now) (c .before .before .before .before .before .before .before .before .before .before .before .before .before .before .before .args .ends .now)) (c .before .before .before .before .before .before .before .loop .s) (c .before .before .before .before .before .before .before .loop .events) (c .before .before .before .before .before .before .before .loop .errors) (c .before .before .before .before .before .before .before .loop .scratch) (c .before .before .before .before .before .before .before .loop .inv .wf)) .wf .1 .events)
@@ -261,8 +284,8 @@ exec-loop-less-2 t c = row-sound (c .before .before .before .before .before .bef
 exec-loop-again-2 : (t : ℕ) → exec-lts.Need-loop-again-2 (exec-cs t) (exec-at t) exec.Post exec-Inv-loop exec-μ-loop
 exec-loop-again-2 t c = goes-on (c .before .before .before .before .before .before .before .before .before .before .loop .inv) ((plusE (from (source (c .before .before .before .before .before .before .before .before .before .before .before .before .before .before .before .before .before .before .args .src .now) (c .before .before .before .before .before .before .before .before .before .before .before .before .before .before .before .before .before .before .args .ids .now) (c .before .before .before .before .before .before .before .before .before .before .before .before .before .before .before .before .before .before .args .ends .now)) (c .before .before .before .before .before .before .before .before .before .before .loop .s) (c .before .before .before .before .before .before .before .before .before .before .loop .events) (c .before .before .before .before .before .before .before .before .before .before .loop .errors) (c .before .before .before .before .before .before .before .before .before .before .loop .scratch) (c .before .before .before .before .before .before .before .before .before .before .loop .inv .wf)) (c .before .before .skip-trivia .ensures (c .before .before .before .before .before .before .before .before .before .before .before .before .before .before .before .before .before .before .args .src .now) (c .before .before .before .before .before .before .before .before .before .before .loop .s) (c .before .before .before .before .if1 .left) ((from (source (c .before .before .before .before .before .before .before .before .before .before .before .before .before .before .before .before .before .before .args .src .now) (c .before .before .before .before .before .before .before .before .before .before .before .before .before .before .before .before .before .before .args .ids .now) (c .before .before .before .before .before .before .before .before .before .before .before .before .before .before .before .before .before .before .args .ends .now)) (c .before .before .before .before .before .before .before .before .before .before .loop .s) (c .before .before .before .before .before .before .before .before .before .before .loop .events) (c .before .before .before .before .before .before .before .before .before .before .loop .errors) (c .before .before .before .before .before .before .before .before .before .before .loop .scratch) (c .before .before .before .before .before .before .before .before .before .before .loop .inv .wf)) .wf .0))) .wf) (row-sound (c .before .before .before .before .before .before .before .before .before .before .loop .i) (c .before .before .before .before .before .before .before .before .before .before .loop .inv .inside) (sym (c .before .before .before .before .before .before .before .p3 .given .1) ∙ c .before .before .before .before .before .before .before .before .before .part-at .ensures)) (λ z b y. then-goes (c .before .before .before .before .before .before .before .before .before .before .before .before .before .before .before .before .before .before .args .d) (c .before .before .before .before .before .before .before .before .before .before .before .before .before .before .before .before .before .before .args .optional) (c .before .before .before .before .before .before .before .before .before .before .loop .i) (c .before .before .before .before .before .before .before .before .before .before .loop .inv .inside) (c .before .before .before .before .before .before .before .before .before .before .loop .events) (c .before .before .before .before .before .before .before .before .before .before .loop .errors) (c .before .before .before .before .before .before .before .before .before .before .loop .scratch) (c .before .before .before .before .before .before .before .before .before .before .loop .inv .wf) (sym (c .before .before .before .before .before .before .before .p3 .given .1) ∙ c .before .before .before .before .before .before .before .before .before .part-at .ensures) (c .before .before .before .before .if1 .left) (c .before .before .skip-trivia .ensures (c .before .before .before .before .before .before .before .before .before .before .before .before .before .before .before .before .before .before .args .src .now) (c .before .before .before .before .before .before .before .before .before .before .loop .s) (c .before .before .before .before .if1 .left) ((from (source (c .before .before .before .before .before .before .before .before .before .before .before .before .before .before .before .before .before .before .args .src .now) (c .before .before .before .before .before .before .before .before .before .before .before .before .before .before .before .before .before .before .args .ids .now) (c .before .before .before .before .before .before .before .before .before .before .before .before .before .before .before .before .before .before .args .ends .now)) (c .before .before .before .before .before .before .before .before .before .before .loop .s) (c .before .before .before .before .before .before .before .before .before .before .loop .events) (c .before .before .before .before .before .before .before .before .before .before .loop .errors) (c .before .before .before .before .before .before .before .before .before .before .loop .scratch) (c .before .before .before .before .before .before .before .before .before .before .loop .inv .wf)) .wf .0)) y) (c .before .before .skip-trivia .kept .1 .1 .1 .1 .1 .1 .0) (refl) (refl)
 
-exec-enum-known-set : (t : ℕ) → exec-lts.Need-enum-known-set (exec-cs t) (exec-at t) exec.Post exec-Inv-loop exec-μ-loop
-exec-enum-known-set t c = search needs
+exec-enum-known-set-2 : (t : ℕ) → exec-lts.Need-enum-known-set-2 (exec-cs t) (exec-at t) exec.Post exec-Inv-loop exec-μ-loop
+exec-enum-known-set-2 t c = search needs
 
 exec-sees-requires : (t : ℕ) → exec-lts.Need-sees-requires (exec-cs t) (exec-at t) exec.Post exec-Inv-loop exec-μ-loop
 exec-sees-requires t c κs = (from (source (c .before .before .before .before .before .before .before .before .before .before .before .before .args .src .now) (c .before .before .before .before .before .before .before .before .before .before .before .before .args .ids .now) (c .before .before .before .before .before .before .before .before .before .before .before .before .args .ends .now)) (c .before .before .before .before .loop .s) (c .before .before .before .before .loop .events) (c .before .before .before .before .loop .errors) (c .before .before .before .before .loop .scratch) (c .before .before .before .before .loop .inv .wf)) .wf .0
@@ -270,41 +293,41 @@ exec-sees-requires t c κs = (from (source (c .before .before .before .before .b
 exec-step-requires-2 : (t : ℕ) → exec-lts.Need-step-requires-2 (exec-cs t) (exec-at t) exec.Post exec-Inv-loop exec-μ-loop
 exec-step-requires-2 t c κs = asksL (from (source (c .before .before .before .before .before .before .before .before .before .before .before .before .before .before .before .before .args .src .now) (c .before .before .before .before .before .before .before .before .before .before .before .before .before .before .before .before .args .ids .now) (c .before .before .before .before .before .before .before .before .before .before .before .before .before .before .before .before .args .ends .now)) (c .before .before .before .before .before .before .before .before .loop .s) (c .before .before .before .before .before .before .before .before .loop .events) (c .before .before .before .before .before .before .before .before .loop .errors) (c .before .before .before .before .before .before .before .before .loop .scratch) (c .before .before .before .before .before .before .before .before .loop .inv .wf)) (c .before .before .before .before .before .before .before .before .before .before .before .before .before .before .before .before .pre .1 .0) (λ e. sym (c .before .before .before .sees .ensures) ∙ not-yes _ (c .before .before .if2 .taken))
 
-exec-same-length-16 : (t : ℕ) → exec-lts.Need-same-length-16 (exec-cs t) (exec-at t) exec.Post exec-Inv-loop exec-μ-loop
-exec-same-length-16 t c = c .before .before .before .before .step2 .kept .1 .1 .1 .1 .1 .1 .1 .1 .1 .0 ∙ (c .before .before .before .before .before .before .before .before .before .before .before .before .before .loop .inv) .events
+exec-same-length-19 : (t : ℕ) → exec-lts.Need-same-length-19 (exec-cs t) (exec-at t) exec.Post exec-Inv-loop exec-μ-loop
+exec-same-length-19 t c = c .before .before .before .before .step2 .kept .1 .1 .1 .1 .1 .1 .1 .1 .0 ∙ (c .before .before .before .before .before .before .before .before .before .before .before .before .before .loop .inv) .events
 
-exec-same-length-17 : (t : ℕ) → exec-lts.Need-same-length-17 (exec-cs t) (exec-at t) exec.Post exec-Inv-loop exec-μ-loop
-exec-same-length-17 t c = c .before .before .before .before .step2 .kept .1 .1 .1 .1 .1 .1 .1 .1 .1 .1 .0 ∙ (c .before .before .before .before .before .before .before .before .before .before .before .before .before .loop .inv) .errors
+exec-same-length-20 : (t : ℕ) → exec-lts.Need-same-length-20 (exec-cs t) (exec-at t) exec.Post exec-Inv-loop exec-μ-loop
+exec-same-length-20 t c = c .before .before .before .before .step2 .kept .1 .1 .1 .1 .1 .1 .1 .1 .1 .0 ∙ (c .before .before .before .before .before .before .before .before .before .before .before .before .before .loop .inv) .errors
 
-exec-same-length-18 : (t : ℕ) → exec-lts.Need-same-length-18 (exec-cs t) (exec-at t) exec.Post exec-Inv-loop exec-μ-loop
-exec-same-length-18 t c = (c .before .before .before .before .before .before .before .before .before .before .before .before .before .loop .inv) .scratch
+exec-same-length-21 : (t : ℕ) → exec-lts.Need-same-length-21 (exec-cs t) (exec-at t) exec.Post exec-Inv-loop exec-μ-loop
+exec-same-length-21 t c = (c .before .before .before .before .before .before .before .before .before .before .before .before .before .loop .inv) .scratch
 
-exec-returns-6 : (t : ℕ) → exec-lts.Need-returns-6 (exec-cs t) (exec-at t) exec.Post exec-Inv-loop exec-μ-loop
-exec-returns-6 t c = (c .before .before .before .before .before .before .before .before .before .before .before .before .before .loop .inv) .go (when-passes (c .before .before .before .before .before .before .before .before .before .before .before .before .before .before .before .before .before .before .before .before .before .args .d) (c .before .before .before .before .before .before .before .before .before .before .before .before .before .before .before .before .before .before .before .before .before .args .optional) (c .before .before .before .before .before .before .before .before .before .before .before .before .before .loop .i) (c .before .before .before .before .before .before .before .before .before .before .before .before .before .loop .inv .inside) (c .before .before .before .before .before .before .before .before .before .before .before .before .before .loop .events) (c .before .before .before .before .before .before .before .before .before .before .before .before .before .loop .errors) (c .before .before .before .before .before .before .before .before .before .before .before .before .before .loop .scratch) (c .before .before .before .before .before .before .before .before .before .before .before .before .before .loop .inv .wf) (sym (c .before .before .before .before .before .before .before .before .before .before .set .given .1) ∙ c .before .before .before .before .before .before .before .before .before .before .before .before .part-at .ensures) (c .before .before .before .before .before .before .before .before .sees .ensures) (not-yes _ (c .before .before .before .before .before .before .before .if2 .taken)) (plusB (from (source (c .before .before .before .before .before .before .before .before .before .before .before .before .before .before .before .before .before .before .before .before .before .args .src .now) (c .before .before .before .before .before .before .before .before .before .before .before .before .before .before .before .before .before .before .before .before .before .args .ids .now) (c .before .before .before .before .before .before .before .before .before .before .before .before .before .before .before .before .before .before .before .before .before .args .ends .now)) (c .before .before .before .before .before .before .before .before .before .before .before .before .before .loop .s) (c .before .before .before .before .before .before .before .before .before .before .before .before .before .loop .events) (c .before .before .before .before .before .before .before .before .before .before .before .before .before .loop .errors) (c .before .before .before .before .before .before .before .before .before .before .before .before .before .loop .scratch) (c .before .before .before .before .before .before .before .before .before .before .before .before .before .loop .inv .wf)) (c .before .before .before .before .step2 .ensures)))
+exec-returns-7 : (t : ℕ) → exec-lts.Need-returns-7 (exec-cs t) (exec-at t) exec.Post exec-Inv-loop exec-μ-loop
+exec-returns-7 t c = (c .before .before .before .before .before .before .before .before .before .before .before .before .before .loop .inv) .go (when-passes (c .before .before .before .before .before .before .before .before .before .before .before .before .before .before .before .before .before .before .before .before .before .args .d) (c .before .before .before .before .before .before .before .before .before .before .before .before .before .before .before .before .before .before .before .before .before .args .optional) (c .before .before .before .before .before .before .before .before .before .before .before .before .before .loop .i) (c .before .before .before .before .before .before .before .before .before .before .before .before .before .loop .inv .inside) (c .before .before .before .before .before .before .before .before .before .before .before .before .before .loop .events) (c .before .before .before .before .before .before .before .before .before .before .before .before .before .loop .errors) (c .before .before .before .before .before .before .before .before .before .before .before .before .before .loop .scratch) (c .before .before .before .before .before .before .before .before .before .before .before .before .before .loop .inv .wf) (sym (c .before .before .before .before .before .before .before .before .before .before .set2 .given .1) ∙ c .before .before .before .before .before .before .before .before .before .before .before .before .part-at .ensures) (c .before .before .before .before .before .before .before .before .sees .ensures) (not-yes _ (c .before .before .before .before .before .before .before .if2 .taken)) (plusB (from (source (c .before .before .before .before .before .before .before .before .before .before .before .before .before .before .before .before .before .before .before .before .before .args .src .now) (c .before .before .before .before .before .before .before .before .before .before .before .before .before .before .before .before .before .before .before .before .before .args .ids .now) (c .before .before .before .before .before .before .before .before .before .before .before .before .before .before .before .before .before .before .before .before .before .args .ends .now)) (c .before .before .before .before .before .before .before .before .before .before .before .before .before .loop .s) (c .before .before .before .before .before .before .before .before .before .before .before .before .before .loop .events) (c .before .before .before .before .before .before .before .before .before .before .before .before .before .loop .errors) (c .before .before .before .before .before .before .before .before .before .before .before .before .before .loop .scratch) (c .before .before .before .before .before .before .before .before .before .before .before .before .before .loop .inv .wf)) (c .before .before .before .before .step2 .ensures)))
 
 exec-skip-trivia-requires-2 : (t : ℕ) → exec-lts.Need-skip-trivia-requires-2 (exec-cs t) (exec-at t) exec.Post exec-Inv-loop exec-μ-loop
 exec-skip-trivia-requires-2 t c κs = ((c .before .before .before .before .before .before .before .before .before .before .before .before .before .before .before .pre .1 .0) .lines, (from (source (c .before .before .before .before .before .before .before .before .before .before .before .before .before .before .before .args .src .now) (c .before .before .before .before .before .before .before .before .before .before .before .before .before .before .before .args .ids .now) (c .before .before .before .before .before .before .before .before .before .before .before .before .before .before .before .args .ends .now)) (c .before .before .before .before .before .before .before .loop .s) (c .before .before .before .before .before .before .before .loop .events) (c .before .before .before .before .before .before .before .loop .errors) (c .before .before .before .before .before .before .before .loop .scratch) (c .before .before .before .before .before .before .before .loop .inv .wf)) .wf .0 .2 .events, (from (source (c .before .before .before .before .before .before .before .before .before .before .before .before .before .before .before .args .src .now) (c .before .before .before .before .before .before .before .before .before .before .before .before .before .before .before .args .ids .now) (c .before .before .before .before .before .before .before .before .before .before .before .before .before .before .before .args .ends .now)) (c .before .before .before .before .before .before .before .loop .s) (c .before .before .before .before .before .before .before .loop .events) (c .before .before .before .before .before .before .before .loop .errors) (c .before .before .before .before .before .before .before .loop .scratch) (c .before .before .before .before .before .before .before .loop .inv .wf)) .wf .1 .events)
 
 exec-loop-less-3 : (t : ℕ) → exec-lts.Need-loop-less-3 (exec-cs t) (exec-at t) exec.Post exec-Inv-loop exec-μ-loop
-exec-loop-less-3 t c = row-sound (c .before .before .before .before .before .before .before .before .before .before .loop .i) (c .before .before .before .before .before .before .before .before .before .before .loop .inv .inside) (sym (c .before .before .before .before .before .before .before .set .given .1) ∙ c .before .before .before .before .before .before .before .before .before .part-at .ensures)
+exec-loop-less-3 t c = row-sound (c .before .before .before .before .before .before .before .before .before .before .loop .i) (c .before .before .before .before .before .before .before .before .before .before .loop .inv .inside) (sym (c .before .before .before .before .before .before .before .set2 .given .1) ∙ c .before .before .before .before .before .before .before .before .before .part-at .ensures)
 
 exec-loop-again-3 : (t : ℕ) → exec-lts.Need-loop-again-3 (exec-cs t) (exec-at t) exec.Post exec-Inv-loop exec-μ-loop
-exec-loop-again-3 t c = goes-on (c .before .before .before .before .before .before .before .before .before .before .loop .inv) ((plusE (from (source (c .before .before .before .before .before .before .before .before .before .before .before .before .before .before .before .before .before .before .args .src .now) (c .before .before .before .before .before .before .before .before .before .before .before .before .before .before .before .before .before .before .args .ids .now) (c .before .before .before .before .before .before .before .before .before .before .before .before .before .before .before .before .before .before .args .ends .now)) (c .before .before .before .before .before .before .before .before .before .before .loop .s) (c .before .before .before .before .before .before .before .before .before .before .loop .events) (c .before .before .before .before .before .before .before .before .before .before .loop .errors) (c .before .before .before .before .before .before .before .before .before .before .loop .scratch) (c .before .before .before .before .before .before .before .before .before .before .loop .inv .wf)) (c .before .before .skip-trivia2 .ensures (c .before .before .before .before .before .before .before .before .before .before .before .before .before .before .before .before .before .before .args .src .now) (c .before .before .before .before .before .before .before .before .before .before .loop .s) (when-good (c .before .before .before .before .before .before .before .before .before .before .before .before .before .before .before .before .before .before .args .ids .now) (c .before .before .before .before .before .before .before .before .before .before .loop .s) (c .before .before .before .before .before .before .before .before .before .before .loop .i) (sym (c .before .before .before .before .before .before .before .set .given .1) ∙ c .before .before .before .before .before .before .before .before .before .part-at .ensures) (c .before .before .before .before .before .sees .ensures) (not-no _ (c .before .before .before .before .if2 .left))) ((from (source (c .before .before .before .before .before .before .before .before .before .before .before .before .before .before .before .before .before .before .args .src .now) (c .before .before .before .before .before .before .before .before .before .before .before .before .before .before .before .before .before .before .args .ids .now) (c .before .before .before .before .before .before .before .before .before .before .before .before .before .before .before .before .before .before .args .ends .now)) (c .before .before .before .before .before .before .before .before .before .before .loop .s) (c .before .before .before .before .before .before .before .before .before .before .loop .events) (c .before .before .before .before .before .before .before .before .before .before .loop .errors) (c .before .before .before .before .before .before .before .before .before .before .loop .scratch) (c .before .before .before .before .before .before .before .before .before .before .loop .inv .wf)) .wf .0))) .wf) (row-sound (c .before .before .before .before .before .before .before .before .before .before .loop .i) (c .before .before .before .before .before .before .before .before .before .before .loop .inv .inside) (sym (c .before .before .before .before .before .before .before .set .given .1) ∙ c .before .before .before .before .before .before .before .before .before .part-at .ensures)) (λ z b y. when-goes (c .before .before .before .before .before .before .before .before .before .before .before .before .before .before .before .before .before .before .args .d) (c .before .before .before .before .before .before .before .before .before .before .before .before .before .before .before .before .before .before .args .optional) (c .before .before .before .before .before .before .before .before .before .before .loop .i) (c .before .before .before .before .before .before .before .before .before .before .loop .inv .inside) (c .before .before .before .before .before .before .before .before .before .before .loop .events) (c .before .before .before .before .before .before .before .before .before .before .loop .errors) (c .before .before .before .before .before .before .before .before .before .before .loop .scratch) (c .before .before .before .before .before .before .before .before .before .before .loop .inv .wf) (sym (c .before .before .before .before .before .before .before .set .given .1) ∙ c .before .before .before .before .before .before .before .before .before .part-at .ensures) (c .before .before .before .before .before .sees .ensures) (not-no _ (c .before .before .before .before .if2 .left)) (c .before .before .skip-trivia2 .ensures (c .before .before .before .before .before .before .before .before .before .before .before .before .before .before .before .before .before .before .args .src .now) (c .before .before .before .before .before .before .before .before .before .before .loop .s) (when-good (c .before .before .before .before .before .before .before .before .before .before .before .before .before .before .before .before .before .before .args .ids .now) (c .before .before .before .before .before .before .before .before .before .before .loop .s) (c .before .before .before .before .before .before .before .before .before .before .loop .i) (sym (c .before .before .before .before .before .before .before .set .given .1) ∙ c .before .before .before .before .before .before .before .before .before .part-at .ensures) (c .before .before .before .before .before .sees .ensures) (not-no _ (c .before .before .before .before .if2 .left))) ((from (source (c .before .before .before .before .before .before .before .before .before .before .before .before .before .before .before .before .before .before .args .src .now) (c .before .before .before .before .before .before .before .before .before .before .before .before .before .before .before .before .before .before .args .ids .now) (c .before .before .before .before .before .before .before .before .before .before .before .before .before .before .before .before .before .before .args .ends .now)) (c .before .before .before .before .before .before .before .before .before .before .loop .s) (c .before .before .before .before .before .before .before .before .before .before .loop .events) (c .before .before .before .before .before .before .before .before .before .before .loop .errors) (c .before .before .before .before .before .before .before .before .before .before .loop .scratch) (c .before .before .before .before .before .before .before .before .before .before .loop .inv .wf)) .wf .0)) y) (c .before .before .skip-trivia2 .kept .1 .1 .1 .1 .1 .1 .0) (refl) (refl)
+exec-loop-again-3 t c = goes-on (c .before .before .before .before .before .before .before .before .before .before .loop .inv) ((plusE (from (source (c .before .before .before .before .before .before .before .before .before .before .before .before .before .before .before .before .before .before .args .src .now) (c .before .before .before .before .before .before .before .before .before .before .before .before .before .before .before .before .before .before .args .ids .now) (c .before .before .before .before .before .before .before .before .before .before .before .before .before .before .before .before .before .before .args .ends .now)) (c .before .before .before .before .before .before .before .before .before .before .loop .s) (c .before .before .before .before .before .before .before .before .before .before .loop .events) (c .before .before .before .before .before .before .before .before .before .before .loop .errors) (c .before .before .before .before .before .before .before .before .before .before .loop .scratch) (c .before .before .before .before .before .before .before .before .before .before .loop .inv .wf)) (c .before .before .skip-trivia2 .ensures (c .before .before .before .before .before .before .before .before .before .before .before .before .before .before .before .before .before .before .args .src .now) (c .before .before .before .before .before .before .before .before .before .before .loop .s) (when-good (c .before .before .before .before .before .before .before .before .before .before .before .before .before .before .before .before .before .before .args .ids .now) (c .before .before .before .before .before .before .before .before .before .before .loop .s) (c .before .before .before .before .before .before .before .before .before .before .loop .i) (sym (c .before .before .before .before .before .before .before .set2 .given .1) ∙ c .before .before .before .before .before .before .before .before .before .part-at .ensures) (c .before .before .before .before .before .sees .ensures) (not-no _ (c .before .before .before .before .if2 .left))) ((from (source (c .before .before .before .before .before .before .before .before .before .before .before .before .before .before .before .before .before .before .args .src .now) (c .before .before .before .before .before .before .before .before .before .before .before .before .before .before .before .before .before .before .args .ids .now) (c .before .before .before .before .before .before .before .before .before .before .before .before .before .before .before .before .before .before .args .ends .now)) (c .before .before .before .before .before .before .before .before .before .before .loop .s) (c .before .before .before .before .before .before .before .before .before .before .loop .events) (c .before .before .before .before .before .before .before .before .before .before .loop .errors) (c .before .before .before .before .before .before .before .before .before .before .loop .scratch) (c .before .before .before .before .before .before .before .before .before .before .loop .inv .wf)) .wf .0))) .wf) (row-sound (c .before .before .before .before .before .before .before .before .before .before .loop .i) (c .before .before .before .before .before .before .before .before .before .before .loop .inv .inside) (sym (c .before .before .before .before .before .before .before .set2 .given .1) ∙ c .before .before .before .before .before .before .before .before .before .part-at .ensures)) (λ z b y. when-goes (c .before .before .before .before .before .before .before .before .before .before .before .before .before .before .before .before .before .before .args .d) (c .before .before .before .before .before .before .before .before .before .before .before .before .before .before .before .before .before .before .args .optional) (c .before .before .before .before .before .before .before .before .before .before .loop .i) (c .before .before .before .before .before .before .before .before .before .before .loop .inv .inside) (c .before .before .before .before .before .before .before .before .before .before .loop .events) (c .before .before .before .before .before .before .before .before .before .before .loop .errors) (c .before .before .before .before .before .before .before .before .before .before .loop .scratch) (c .before .before .before .before .before .before .before .before .before .before .loop .inv .wf) (sym (c .before .before .before .before .before .before .before .set2 .given .1) ∙ c .before .before .before .before .before .before .before .before .before .part-at .ensures) (c .before .before .before .before .before .sees .ensures) (not-no _ (c .before .before .before .before .if2 .left)) (c .before .before .skip-trivia2 .ensures (c .before .before .before .before .before .before .before .before .before .before .before .before .before .before .before .before .before .before .args .src .now) (c .before .before .before .before .before .before .before .before .before .before .loop .s) (when-good (c .before .before .before .before .before .before .before .before .before .before .before .before .before .before .before .before .before .before .args .ids .now) (c .before .before .before .before .before .before .before .before .before .before .loop .s) (c .before .before .before .before .before .before .before .before .before .before .loop .i) (sym (c .before .before .before .before .before .before .before .set2 .given .1) ∙ c .before .before .before .before .before .before .before .before .before .part-at .ensures) (c .before .before .before .before .before .sees .ensures) (not-no _ (c .before .before .before .before .if2 .left))) ((from (source (c .before .before .before .before .before .before .before .before .before .before .before .before .before .before .before .before .before .before .args .src .now) (c .before .before .before .before .before .before .before .before .before .before .before .before .before .before .before .before .before .before .args .ids .now) (c .before .before .before .before .before .before .before .before .before .before .before .before .before .before .before .before .before .before .args .ends .now)) (c .before .before .before .before .before .before .before .before .before .before .loop .s) (c .before .before .before .before .before .before .before .before .before .before .loop .events) (c .before .before .before .before .before .before .before .before .before .before .loop .errors) (c .before .before .before .before .before .before .before .before .before .before .loop .scratch) (c .before .before .before .before .before .before .before .before .before .before .loop .inv .wf)) .wf .0)) y) (c .before .before .skip-trivia2 .kept .1 .1 .1 .1 .1 .1 .0) (refl) (refl)
 
 exec-enum-known-how : (t : ℕ) → exec-lts.Need-enum-known-how (exec-cs t) (exec-at t) exec.Post exec-Inv-loop exec-μ-loop
 exec-enum-known-how t c = search needs
 
-exec-same-length-19 : (t : ℕ) → exec-lts.Need-same-length-19 (exec-cs t) (exec-at t) exec.Post exec-Inv-loop exec-μ-loop
-exec-same-length-19 t c = (c .before .before .before .before .before .before .loop .inv) .events
+exec-same-length-22 : (t : ℕ) → exec-lts.Need-same-length-22 (exec-cs t) (exec-at t) exec.Post exec-Inv-loop exec-μ-loop
+exec-same-length-22 t c = (c .before .before .before .before .before .before .loop .inv) .events
 
-exec-same-length-20 : (t : ℕ) → exec-lts.Need-same-length-20 (exec-cs t) (exec-at t) exec.Post exec-Inv-loop exec-μ-loop
-exec-same-length-20 t c = (c .before .before .before .before .before .before .loop .inv) .errors
+exec-same-length-23 : (t : ℕ) → exec-lts.Need-same-length-23 (exec-cs t) (exec-at t) exec.Post exec-Inv-loop exec-μ-loop
+exec-same-length-23 t c = (c .before .before .before .before .before .before .loop .inv) .errors
 
-exec-same-length-21 : (t : ℕ) → exec-lts.Need-same-length-21 (exec-cs t) (exec-at t) exec.Post exec-Inv-loop exec-μ-loop
-exec-same-length-21 t c = (c .before .before .before .before .before .before .loop .inv) .scratch
+exec-same-length-24 : (t : ℕ) → exec-lts.Need-same-length-24 (exec-cs t) (exec-at t) exec.Post exec-Inv-loop exec-μ-loop
+exec-same-length-24 t c = (c .before .before .before .before .before .before .loop .inv) .scratch
 
-exec-returns-7 : (t : ℕ) → exec-lts.Need-returns-7 (exec-cs t) (exec-at t) exec.Post exec-Inv-loop exec-μ-loop
-exec-returns-7 t c = (c .before .before .before .before .before .before .loop .inv) .go (try-stops (c .before .before .before .before .before .before .before .before .before .before .before .before .before .before .args .d) (c .before .before .before .before .before .before .before .before .before .before .before .before .before .before .args .optional) (c .before .before .before .before .before .before .loop .i) (c .before .before .before .before .before .before .loop .inv .inside) (c .before .before .before .before .before .before .loop .events) (c .before .before .before .before .before .before .loop .errors) (c .before .before .before .before .before .before .loop .scratch) (c .before .before .before .before .before .before .loop .inv .wf) (sym (c .before .before .before .how .given .1) ∙ c .before .before .before .before .before .part-at .ensures) (c .if3 .taken))
+exec-returns-8 : (t : ℕ) → exec-lts.Need-returns-8 (exec-cs t) (exec-at t) exec.Post exec-Inv-loop exec-μ-loop
+exec-returns-8 t c = (c .before .before .before .before .before .before .loop .inv) .go (try-stops (c .before .before .before .before .before .before .before .before .before .before .before .before .before .before .args .d) (c .before .before .before .before .before .before .before .before .before .before .before .before .before .before .args .optional) (c .before .before .before .before .before .before .loop .i) (c .before .before .before .before .before .before .loop .inv .inside) (c .before .before .before .before .before .before .loop .events) (c .before .before .before .before .before .before .loop .errors) (c .before .before .before .before .before .before .loop .scratch) (c .before .before .before .before .before .before .loop .inv .wf) (sym (c .before .before .before .how .given .1) ∙ c .before .before .before .before .before .part-at .ensures) (c .if3 .taken))
 
 exec-skip-trivia-requires-3 : (t : ℕ) → exec-lts.Need-skip-trivia-requires-3 (exec-cs t) (exec-at t) exec.Post exec-Inv-loop exec-μ-loop
 exec-skip-trivia-requires-3 t c κs = ((c .before .before .before .before .before .before .before .before .before .before .before .before .before .before .before .pre .1 .0) .lines, (from (source (c .before .before .before .before .before .before .before .before .before .before .before .before .before .before .before .args .src .now) (c .before .before .before .before .before .before .before .before .before .before .before .before .before .before .before .args .ids .now) (c .before .before .before .before .before .before .before .before .before .before .before .before .before .before .before .args .ends .now)) (c .before .before .before .before .before .before .before .loop .s) (c .before .before .before .before .before .before .before .loop .events) (c .before .before .before .before .before .before .before .loop .errors) (c .before .before .before .before .before .before .before .loop .scratch) (c .before .before .before .before .before .before .before .loop .inv .wf)) .wf .0 .2 .events, (from (source (c .before .before .before .before .before .before .before .before .before .before .before .before .before .before .before .args .src .now) (c .before .before .before .before .before .before .before .before .before .before .before .before .before .before .before .args .ids .now) (c .before .before .before .before .before .before .before .before .before .before .before .before .before .before .before .args .ends .now)) (c .before .before .before .before .before .before .before .loop .s) (c .before .before .before .before .before .before .before .loop .events) (c .before .before .before .before .before .before .before .loop .errors) (c .before .before .before .before .before .before .before .loop .scratch) (c .before .before .before .before .before .before .before .loop .inv .wf)) .wf .1 .events)
@@ -312,41 +335,41 @@ exec-skip-trivia-requires-3 t c κs = ((c .before .before .before .before .befor
 exec-exec-requires : (t : ℕ) → exec-lts.Need-exec-requires (exec-cs t) (exec-at t) exec.Post exec-Inv-loop exec-μ-loop
 exec-exec-requires t c κs = (omega (arith, c .before .before .before .before .before .before .before .before .before .before .before .before .before .before .before .before .before .before .before .before .before .pre .0, (c .before .before .before .before .before .before .before .before .before .before .before .before .before .loop .inv) .below, row-sound (c .before .before .before .before .before .before .before .before .before .before .before .before .before .loop .i) (c .before .before .before .before .before .before .before .before .before .before .before .before .before .loop .inv .inside) (sym (c .before .before .before .before .before .before .before .before .before .before .how .given .1) ∙ c .before .before .before .before .before .before .before .before .before .before .before .before .part-at .ensures) .0), ((c .before .before .before .before .before .before .before .before .before .before .before .before .before .before .before .before .before .before .before .before .before .pre .1 .0), (plusE (from (source (c .before .before .before .before .before .before .before .before .before .before .before .before .before .before .before .before .before .before .before .before .before .args .src .now) (c .before .before .before .before .before .before .before .before .before .before .before .before .before .before .before .before .before .before .before .before .before .args .ids .now) (c .before .before .before .before .before .before .before .before .before .before .before .before .before .before .before .before .before .before .before .before .before .args .ends .now)) (c .before .before .before .before .before .before .before .before .before .before .before .before .before .loop .s) (c .before .before .before .before .before .before .before .before .before .before .before .before .before .loop .events) (c .before .before .before .before .before .before .before .before .before .before .before .before .before .loop .errors) (c .before .before .before .before .before .before .before .before .before .before .before .before .before .loop .scratch) (c .before .before .before .before .before .before .before .before .before .before .before .before .before .loop .inv .wf)) (c .before .before .before .before .before .skip-trivia3 .ensures (c .before .before .before .before .before .before .before .before .before .before .before .before .before .before .before .before .before .before .before .before .before .args .src .now) (c .before .before .before .before .before .before .before .before .before .before .before .before .before .loop .s) (c .before .before .before .before .before .before .before .if3 .left) ((from (source (c .before .before .before .before .before .before .before .before .before .before .before .before .before .before .before .before .before .before .before .before .before .args .src .now) (c .before .before .before .before .before .before .before .before .before .before .before .before .before .before .before .before .before .before .before .before .before .args .ids .now) (c .before .before .before .before .before .before .before .before .before .before .before .before .before .before .before .before .before .before .before .before .before .args .ends .now)) (c .before .before .before .before .before .before .before .before .before .before .before .before .before .loop .s) (c .before .before .before .before .before .before .before .before .before .before .before .before .before .loop .events) (c .before .before .before .before .before .before .before .before .before .before .before .before .before .loop .errors) (c .before .before .before .before .before .before .before .before .before .before .before .before .before .loop .scratch) (c .before .before .before .before .before .before .before .before .before .before .before .before .before .loop .inv .wf)) .wf .0))) .wf, omega (arith, row-sound (c .before .before .before .before .before .before .before .before .before .before .before .before .before .loop .i) (c .before .before .before .before .before .before .before .before .before .before .before .before .before .loop .inv .inside) (sym (c .before .before .before .before .before .before .before .before .before .before .how .given .1) ∙ c .before .before .before .before .before .before .before .before .before .before .before .before .part-at .ensures) .0, (c .before .before .before .before .before .before .before .before .before .before .before .before .before .loop .inv .inside)), c .before .before .before .before .before .before .before .before .before .before .before .before .before .before .before .before .before .before .before .before .before .pre .1 .3))
 
-exec-same-length-22 : (t : ℕ) → exec-lts.Need-same-length-22 (exec-cs t) (exec-at t) exec.Post exec-Inv-loop exec-μ-loop
-exec-same-length-22 t c = c .before .before .before .before .before .before .before .before .exec .kept .1 .1 .1 .1 .1 .1 .1 .0 ∙ c .before .before .before .before .before .before .before .before .before .before .before .before .before .before .skip-trivia3 .kept .1 .1 .1 .1 .1 .1 .0 ∙ (c .before .before .before .before .before .before .before .before .before .before .before .before .before .before .before .before .before .before .before .before .before .before .loop .inv) .events
-
-exec-same-length-23 : (t : ℕ) → exec-lts.Need-same-length-23 (exec-cs t) (exec-at t) exec.Post exec-Inv-loop exec-μ-loop
-exec-same-length-23 t c = c .before .before .before .before .before .before .before .before .exec .kept .1 .1 .1 .1 .1 .1 .1 .1 .0 ∙ (c .before .before .before .before .before .before .before .before .before .before .before .before .before .before .before .before .before .before .before .before .before .before .loop .inv) .errors
-
-exec-same-length-24 : (t : ℕ) → exec-lts.Need-same-length-24 (exec-cs t) (exec-at t) exec.Post exec-Inv-loop exec-μ-loop
-exec-same-length-24 t c = c .before .before .before .before .before .before .before .before .exec .kept .1 .1 .1 .1 .1 .1 .1 .1 .1 .0 ∙ (c .before .before .before .before .before .before .before .before .before .before .before .before .before .before .before .before .before .before .before .before .before .before .loop .inv) .scratch
-
-exec-returns-8 : (t : ℕ) → exec-lts.Need-returns-8 (exec-cs t) (exec-at t) exec.Post exec-Inv-loop exec-μ-loop
-exec-returns-8 t c = (c .before .before .before .before .before .before .before .before .before .before .before .before .before .before .before .before .before .before .before .before .before .before .loop .inv) .go (try-on (c .before .before .before .before .before .before .before .before .before .before .before .before .before .before .before .before .before .before .before .before .before .before .before .before .before .before .before .before .before .before .args .d) (c .before .before .before .before .before .before .before .before .before .before .before .before .before .before .before .before .before .before .before .before .before .before .before .before .before .before .before .before .before .before .args .optional) (c .before .before .before .before .before .before .before .before .before .before .before .before .before .before .before .before .before .before .before .before .before .before .loop .i) (c .before .before .before .before .before .before .before .before .before .before .before .before .before .before .before .before .before .before .before .before .before .before .loop .inv .inside) (c .before .before .before .before .before .before .before .before .before .before .before .before .before .before .before .before .before .before .before .before .before .before .loop .events) (c .before .before .before .before .before .before .before .before .before .before .before .before .before .before .before .before .before .before .before .before .before .before .loop .errors) (c .before .before .before .before .before .before .before .before .before .before .before .before .before .before .before .before .before .before .before .before .before .before .loop .scratch) (c .before .before .before .before .before .before .before .before .before .before .before .before .before .before .before .before .before .before .before .before .before .before .loop .inv .wf) (sym (c .before .before .before .before .before .before .before .before .before .before .before .before .before .before .before .before .before .before .before .how .given .1) ∙ c .before .before .before .before .before .before .before .before .before .before .before .before .before .before .before .before .before .before .before .before .before .part-at .ensures) (c .before .before .before .before .before .before .before .before .before .before .before .before .before .before .before .before .if3 .left) refl (plus (plusE (from (source (c .before .before .before .before .before .before .before .before .before .before .before .before .before .before .before .before .before .before .before .before .before .before .before .before .before .before .before .before .before .before .args .src .now) (c .before .before .before .before .before .before .before .before .before .before .before .before .before .before .before .before .before .before .before .before .before .before .before .before .before .before .before .before .before .before .args .ids .now) (c .before .before .before .before .before .before .before .before .before .before .before .before .before .before .before .before .before .before .before .before .before .before .before .before .before .before .before .before .before .before .args .ends .now)) (c .before .before .before .before .before .before .before .before .before .before .before .before .before .before .before .before .before .before .before .before .before .before .loop .s) (c .before .before .before .before .before .before .before .before .before .before .before .before .before .before .before .before .before .before .before .before .before .before .loop .events) (c .before .before .before .before .before .before .before .before .before .before .before .before .before .before .before .before .before .before .before .before .before .before .loop .errors) (c .before .before .before .before .before .before .before .before .before .before .before .before .before .before .before .before .before .before .before .before .before .before .loop .scratch) (c .before .before .before .before .before .before .before .before .before .before .before .before .before .before .before .before .before .before .before .before .before .before .loop .inv .wf)) (c .before .before .before .before .before .before .before .before .before .before .before .before .before .before .skip-trivia3 .ensures (c .before .before .before .before .before .before .before .before .before .before .before .before .before .before .before .before .before .before .before .before .before .before .before .before .before .before .before .before .before .before .args .src .now) (c .before .before .before .before .before .before .before .before .before .before .before .before .before .before .before .before .before .before .before .before .before .before .loop .s) (c .before .before .before .before .before .before .before .before .before .before .before .before .before .before .before .before .if3 .left) ((from (source (c .before .before .before .before .before .before .before .before .before .before .before .before .before .before .before .before .before .before .before .before .before .before .before .before .before .before .before .before .before .before .args .src .now) (c .before .before .before .before .before .before .before .before .before .before .before .before .before .before .before .before .before .before .before .before .before .before .before .before .before .before .before .before .before .before .args .ids .now) (c .before .before .before .before .before .before .before .before .before .before .before .before .before .before .before .before .before .before .before .before .before .before .before .before .before .before .before .before .before .before .args .ends .now)) (c .before .before .before .before .before .before .before .before .before .before .before .before .before .before .before .before .before .before .before .before .before .before .loop .s) (c .before .before .before .before .before .before .before .before .before .before .before .before .before .before .before .before .before .before .before .before .before .before .loop .events) (c .before .before .before .before .before .before .before .before .before .before .before .before .before .before .before .before .before .before .before .before .before .before .loop .errors) (c .before .before .before .before .before .before .before .before .before .before .before .before .before .before .before .before .before .before .before .before .before .before .loop .scratch) (c .before .before .before .before .before .before .before .before .before .before .before .before .before .before .before .before .before .before .before .before .before .before .loop .inv .wf)) .wf .0))) (c .before .before .before .before .before .before .before .before .exec .ensures)) (c .if4 .taken))
-
 exec-same-length-25 : (t : ℕ) → exec-lts.Need-same-length-25 (exec-cs t) (exec-at t) exec.Post exec-Inv-loop exec-μ-loop
-exec-same-length-25 t c = c .before .before .before .before .before .before .before .before .before .exec .kept .1 .1 .1 .1 .1 .1 .1 .0 ∙ c .before .before .before .before .before .before .before .before .before .before .before .before .before .before .before .skip-trivia3 .kept .1 .1 .1 .1 .1 .1 .0 ∙ (c .before .before .before .before .before .before .before .before .before .before .before .before .before .before .before .before .before .before .before .before .before .before .before .loop .inv) .events
+exec-same-length-25 t c = c .before .before .before .before .before .before .before .before .exec .kept .1 .1 .1 .1 .1 .1 .1 .0 ∙ c .before .before .before .before .before .before .before .before .before .before .before .before .before .before .skip-trivia3 .kept .1 .1 .1 .1 .1 .1 .0 ∙ (c .before .before .before .before .before .before .before .before .before .before .before .before .before .before .before .before .before .before .before .before .before .before .loop .inv) .events
 
 exec-same-length-26 : (t : ℕ) → exec-lts.Need-same-length-26 (exec-cs t) (exec-at t) exec.Post exec-Inv-loop exec-μ-loop
-exec-same-length-26 t c = c .before .before .before .before .before .before .before .before .before .exec .kept .1 .1 .1 .1 .1 .1 .1 .1 .0 ∙ (c .before .before .before .before .before .before .before .before .before .before .before .before .before .before .before .before .before .before .before .before .before .before .before .loop .inv) .errors
+exec-same-length-26 t c = c .before .before .before .before .before .before .before .before .exec .kept .1 .1 .1 .1 .1 .1 .1 .1 .0 ∙ (c .before .before .before .before .before .before .before .before .before .before .before .before .before .before .before .before .before .before .before .before .before .before .loop .inv) .errors
 
 exec-same-length-27 : (t : ℕ) → exec-lts.Need-same-length-27 (exec-cs t) (exec-at t) exec.Post exec-Inv-loop exec-μ-loop
-exec-same-length-27 t c = c .before .before .before .before .before .before .before .before .before .exec .kept .1 .1 .1 .1 .1 .1 .1 .1 .1 .0 ∙ (c .before .before .before .before .before .before .before .before .before .before .before .before .before .before .before .before .before .before .before .before .before .before .before .loop .inv) .scratch
+exec-same-length-27 t c = c .before .before .before .before .before .before .before .before .exec .kept .1 .1 .1 .1 .1 .1 .1 .1 .1 .0 ∙ (c .before .before .before .before .before .before .before .before .before .before .before .before .before .before .before .before .before .before .before .before .before .before .loop .inv) .scratch
 
 exec-returns-9 : (t : ℕ) → exec-lts.Need-returns-9 (exec-cs t) (exec-at t) exec.Post exec-Inv-loop exec-μ-loop
-exec-returns-9 t c = (c .before .before .before .before .before .before .before .before .before .before .before .before .before .before .before .before .before .before .before .before .before .before .before .loop .inv) .go (try-last (c .before .before .before .before .before .before .before .before .before .before .before .before .before .before .before .before .before .before .before .before .before .before .before .before .before .before .before .before .before .before .before .args .d) (c .before .before .before .before .before .before .before .before .before .before .before .before .before .before .before .before .before .before .before .before .before .before .before .before .before .before .before .before .before .before .before .args .optional) (c .before .before .before .before .before .before .before .before .before .before .before .before .before .before .before .before .before .before .before .before .before .before .before .loop .i) (c .before .before .before .before .before .before .before .before .before .before .before .before .before .before .before .before .before .before .before .before .before .before .before .loop .inv .inside) (c .before .before .before .before .before .before .before .before .before .before .before .before .before .before .before .before .before .before .before .before .before .before .before .loop .events) (c .before .before .before .before .before .before .before .before .before .before .before .before .before .before .before .before .before .before .before .before .before .before .before .loop .errors) (c .before .before .before .before .before .before .before .before .before .before .before .before .before .before .before .before .before .before .before .before .before .before .before .loop .scratch) (c .before .before .before .before .before .before .before .before .before .before .before .before .before .before .before .before .before .before .before .before .before .before .before .loop .inv .wf) (sym (c .before .before .before .before .before .before .before .before .before .before .before .before .before .before .before .before .before .before .before .before .how .given .1) ∙ c .before .before .before .before .before .before .before .before .before .before .before .before .before .before .before .before .before .before .before .before .before .before .part-at .ensures) (c .before .before .before .before .before .before .before .before .before .before .before .before .before .before .before .before .before .if3 .left) refl (plus (plusE (from (source (c .before .before .before .before .before .before .before .before .before .before .before .before .before .before .before .before .before .before .before .before .before .before .before .before .before .before .before .before .before .before .before .args .src .now) (c .before .before .before .before .before .before .before .before .before .before .before .before .before .before .before .before .before .before .before .before .before .before .before .before .before .before .before .before .before .before .before .args .ids .now) (c .before .before .before .before .before .before .before .before .before .before .before .before .before .before .before .before .before .before .before .before .before .before .before .before .before .before .before .before .before .before .before .args .ends .now)) (c .before .before .before .before .before .before .before .before .before .before .before .before .before .before .before .before .before .before .before .before .before .before .before .loop .s) (c .before .before .before .before .before .before .before .before .before .before .before .before .before .before .before .before .before .before .before .before .before .before .before .loop .events) (c .before .before .before .before .before .before .before .before .before .before .before .before .before .before .before .before .before .before .before .before .before .before .before .loop .errors) (c .before .before .before .before .before .before .before .before .before .before .before .before .before .before .before .before .before .before .before .before .before .before .before .loop .scratch) (c .before .before .before .before .before .before .before .before .before .before .before .before .before .before .before .before .before .before .before .before .before .before .before .loop .inv .wf)) (c .before .before .before .before .before .before .before .before .before .before .before .before .before .before .before .skip-trivia3 .ensures (c .before .before .before .before .before .before .before .before .before .before .before .before .before .before .before .before .before .before .before .before .before .before .before .before .before .before .before .before .before .before .before .args .src .now) (c .before .before .before .before .before .before .before .before .before .before .before .before .before .before .before .before .before .before .before .before .before .before .before .loop .s) (c .before .before .before .before .before .before .before .before .before .before .before .before .before .before .before .before .before .if3 .left) ((from (source (c .before .before .before .before .before .before .before .before .before .before .before .before .before .before .before .before .before .before .before .before .before .before .before .before .before .before .before .before .before .before .before .args .src .now) (c .before .before .before .before .before .before .before .before .before .before .before .before .before .before .before .before .before .before .before .before .before .before .before .before .before .before .before .before .before .before .before .args .ids .now) (c .before .before .before .before .before .before .before .before .before .before .before .before .before .before .before .before .before .before .before .before .before .before .before .before .before .before .before .before .before .before .before .args .ends .now)) (c .before .before .before .before .before .before .before .before .before .before .before .before .before .before .before .before .before .before .before .before .before .before .before .loop .s) (c .before .before .before .before .before .before .before .before .before .before .before .before .before .before .before .before .before .before .before .before .before .before .before .loop .events) (c .before .before .before .before .before .before .before .before .before .before .before .before .before .before .before .before .before .before .before .before .before .before .before .loop .errors) (c .before .before .before .before .before .before .before .before .before .before .before .before .before .before .before .before .before .before .before .before .before .before .before .loop .scratch) (c .before .before .before .before .before .before .before .before .before .before .before .before .before .before .before .before .before .before .before .before .before .before .before .loop .inv .wf)) .wf .0))) (c .before .before .before .before .before .before .before .before .before .exec .ensures)) (c .before .if4 .left) (λ e. omega (arith, e, c .if5 .taken)) (c .if5 .taken) refl)
+exec-returns-9 t c = (c .before .before .before .before .before .before .before .before .before .before .before .before .before .before .before .before .before .before .before .before .before .before .loop .inv) .go (try-on (c .before .before .before .before .before .before .before .before .before .before .before .before .before .before .before .before .before .before .before .before .before .before .before .before .before .before .before .before .before .before .args .d) (c .before .before .before .before .before .before .before .before .before .before .before .before .before .before .before .before .before .before .before .before .before .before .before .before .before .before .before .before .before .before .args .optional) (c .before .before .before .before .before .before .before .before .before .before .before .before .before .before .before .before .before .before .before .before .before .before .loop .i) (c .before .before .before .before .before .before .before .before .before .before .before .before .before .before .before .before .before .before .before .before .before .before .loop .inv .inside) (c .before .before .before .before .before .before .before .before .before .before .before .before .before .before .before .before .before .before .before .before .before .before .loop .events) (c .before .before .before .before .before .before .before .before .before .before .before .before .before .before .before .before .before .before .before .before .before .before .loop .errors) (c .before .before .before .before .before .before .before .before .before .before .before .before .before .before .before .before .before .before .before .before .before .before .loop .scratch) (c .before .before .before .before .before .before .before .before .before .before .before .before .before .before .before .before .before .before .before .before .before .before .loop .inv .wf) (sym (c .before .before .before .before .before .before .before .before .before .before .before .before .before .before .before .before .before .before .before .how .given .1) ∙ c .before .before .before .before .before .before .before .before .before .before .before .before .before .before .before .before .before .before .before .before .before .part-at .ensures) (c .before .before .before .before .before .before .before .before .before .before .before .before .before .before .before .before .if3 .left) refl (plus (plusE (from (source (c .before .before .before .before .before .before .before .before .before .before .before .before .before .before .before .before .before .before .before .before .before .before .before .before .before .before .before .before .before .before .args .src .now) (c .before .before .before .before .before .before .before .before .before .before .before .before .before .before .before .before .before .before .before .before .before .before .before .before .before .before .before .before .before .before .args .ids .now) (c .before .before .before .before .before .before .before .before .before .before .before .before .before .before .before .before .before .before .before .before .before .before .before .before .before .before .before .before .before .before .args .ends .now)) (c .before .before .before .before .before .before .before .before .before .before .before .before .before .before .before .before .before .before .before .before .before .before .loop .s) (c .before .before .before .before .before .before .before .before .before .before .before .before .before .before .before .before .before .before .before .before .before .before .loop .events) (c .before .before .before .before .before .before .before .before .before .before .before .before .before .before .before .before .before .before .before .before .before .before .loop .errors) (c .before .before .before .before .before .before .before .before .before .before .before .before .before .before .before .before .before .before .before .before .before .before .loop .scratch) (c .before .before .before .before .before .before .before .before .before .before .before .before .before .before .before .before .before .before .before .before .before .before .loop .inv .wf)) (c .before .before .before .before .before .before .before .before .before .before .before .before .before .before .skip-trivia3 .ensures (c .before .before .before .before .before .before .before .before .before .before .before .before .before .before .before .before .before .before .before .before .before .before .before .before .before .before .before .before .before .before .args .src .now) (c .before .before .before .before .before .before .before .before .before .before .before .before .before .before .before .before .before .before .before .before .before .before .loop .s) (c .before .before .before .before .before .before .before .before .before .before .before .before .before .before .before .before .if3 .left) ((from (source (c .before .before .before .before .before .before .before .before .before .before .before .before .before .before .before .before .before .before .before .before .before .before .before .before .before .before .before .before .before .before .args .src .now) (c .before .before .before .before .before .before .before .before .before .before .before .before .before .before .before .before .before .before .before .before .before .before .before .before .before .before .before .before .before .before .args .ids .now) (c .before .before .before .before .before .before .before .before .before .before .before .before .before .before .before .before .before .before .before .before .before .before .before .before .before .before .before .before .before .before .args .ends .now)) (c .before .before .before .before .before .before .before .before .before .before .before .before .before .before .before .before .before .before .before .before .before .before .loop .s) (c .before .before .before .before .before .before .before .before .before .before .before .before .before .before .before .before .before .before .before .before .before .before .loop .events) (c .before .before .before .before .before .before .before .before .before .before .before .before .before .before .before .before .before .before .before .before .before .before .loop .errors) (c .before .before .before .before .before .before .before .before .before .before .before .before .before .before .before .before .before .before .before .before .before .before .loop .scratch) (c .before .before .before .before .before .before .before .before .before .before .before .before .before .before .before .before .before .before .before .before .before .before .loop .inv .wf)) .wf .0))) (c .before .before .before .before .before .before .before .before .exec .ensures)) (c .if4 .taken))
 
 exec-same-length-28 : (t : ℕ) → exec-lts.Need-same-length-28 (exec-cs t) (exec-at t) exec.Post exec-Inv-loop exec-μ-loop
-exec-same-length-28 t c = c .before .before .before .before .before .before .before .before .before .before .exec .kept .1 .1 .1 .1 .1 .1 .1 .0 ∙ c .before .before .before .before .before .before .before .before .before .before .before .before .before .before .before .before .skip-trivia3 .kept .1 .1 .1 .1 .1 .1 .0 ∙ (c .before .before .before .before .before .before .before .before .before .before .before .before .before .before .before .before .before .before .before .before .before .before .before .before .loop .inv) .events
+exec-same-length-28 t c = c .before .before .before .before .before .before .before .before .before .exec .kept .1 .1 .1 .1 .1 .1 .1 .0 ∙ c .before .before .before .before .before .before .before .before .before .before .before .before .before .before .before .skip-trivia3 .kept .1 .1 .1 .1 .1 .1 .0 ∙ (c .before .before .before .before .before .before .before .before .before .before .before .before .before .before .before .before .before .before .before .before .before .before .before .loop .inv) .events
 
 exec-same-length-29 : (t : ℕ) → exec-lts.Need-same-length-29 (exec-cs t) (exec-at t) exec.Post exec-Inv-loop exec-μ-loop
-exec-same-length-29 t c = c .before .before .before .before .before .before .before .before .before .before .exec .kept .1 .1 .1 .1 .1 .1 .1 .1 .0 ∙ (c .before .before .before .before .before .before .before .before .before .before .before .before .before .before .before .before .before .before .before .before .before .before .before .before .loop .inv) .errors
+exec-same-length-29 t c = c .before .before .before .before .before .before .before .before .before .exec .kept .1 .1 .1 .1 .1 .1 .1 .1 .0 ∙ (c .before .before .before .before .before .before .before .before .before .before .before .before .before .before .before .before .before .before .before .before .before .before .before .loop .inv) .errors
 
 exec-same-length-30 : (t : ℕ) → exec-lts.Need-same-length-30 (exec-cs t) (exec-at t) exec.Post exec-Inv-loop exec-μ-loop
-exec-same-length-30 t c = c .before .before .before .before .before .before .before .before .before .before .exec .kept .1 .1 .1 .1 .1 .1 .1 .1 .1 .0 ∙ (c .before .before .before .before .before .before .before .before .before .before .before .before .before .before .before .before .before .before .before .before .before .before .before .before .loop .inv) .scratch
+exec-same-length-30 t c = c .before .before .before .before .before .before .before .before .before .exec .kept .1 .1 .1 .1 .1 .1 .1 .1 .1 .0 ∙ (c .before .before .before .before .before .before .before .before .before .before .before .before .before .before .before .before .before .before .before .before .before .before .before .loop .inv) .scratch
 
 exec-returns-10 : (t : ℕ) → exec-lts.Need-returns-10 (exec-cs t) (exec-at t) exec.Post exec-Inv-loop exec-μ-loop
-exec-returns-10 t c = (c .before .before .before .before .before .before .before .before .before .before .before .before .before .before .before .before .before .before .before .before .before .before .before .before .loop .inv) .go (try-opt (c .before .before .before .before .before .before .before .before .before .before .before .before .before .before .before .before .before .before .before .before .before .before .before .before .before .before .before .before .before .before .before .before .args .d) (c .before .before .before .before .before .before .before .before .before .before .before .before .before .before .before .before .before .before .before .before .before .before .before .before .before .before .before .before .before .before .before .before .args .optional) (c .before .before .before .before .before .before .before .before .before .before .before .before .before .before .before .before .before .before .before .before .before .before .before .before .loop .i) (c .before .before .before .before .before .before .before .before .before .before .before .before .before .before .before .before .before .before .before .before .before .before .before .before .loop .inv .inside) (c .before .before .before .before .before .before .before .before .before .before .before .before .before .before .before .before .before .before .before .before .before .before .before .before .loop .events) (c .before .before .before .before .before .before .before .before .before .before .before .before .before .before .before .before .before .before .before .before .before .before .before .before .loop .errors) (c .before .before .before .before .before .before .before .before .before .before .before .before .before .before .before .before .before .before .before .before .before .before .before .before .loop .scratch) (c .before .before .before .before .before .before .before .before .before .before .before .before .before .before .before .before .before .before .before .before .before .before .before .before .loop .inv .wf) (sym (c .before .before .before .before .before .before .before .before .before .before .before .before .before .before .before .before .before .before .before .before .before .how .given .1) ∙ c .before .before .before .before .before .before .before .before .before .before .before .before .before .before .before .before .before .before .before .before .before .before .before .part-at .ensures) (c .before .before .before .before .before .before .before .before .before .before .before .before .before .before .before .before .before .before .if3 .left) refl (plus (plusE (from (source (c .before .before .before .before .before .before .before .before .before .before .before .before .before .before .before .before .before .before .before .before .before .before .before .before .before .before .before .before .before .before .before .before .args .src .now) (c .before .before .before .before .before .before .before .before .before .before .before .before .before .before .before .before .before .before .before .before .before .before .before .before .before .before .before .before .before .before .before .before .args .ids .now) (c .before .before .before .before .before .before .before .before .before .before .before .before .before .before .before .before .before .before .before .before .before .before .before .before .before .before .before .before .before .before .before .before .args .ends .now)) (c .before .before .before .before .before .before .before .before .before .before .before .before .before .before .before .before .before .before .before .before .before .before .before .before .loop .s) (c .before .before .before .before .before .before .before .before .before .before .before .before .before .before .before .before .before .before .before .before .before .before .before .before .loop .events) (c .before .before .before .before .before .before .before .before .before .before .before .before .before .before .before .before .before .before .before .before .before .before .before .before .loop .errors) (c .before .before .before .before .before .before .before .before .before .before .before .before .before .before .before .before .before .before .before .before .before .before .before .before .loop .scratch) (c .before .before .before .before .before .before .before .before .before .before .before .before .before .before .before .before .before .before .before .before .before .before .before .before .loop .inv .wf)) (c .before .before .before .before .before .before .before .before .before .before .before .before .before .before .before .before .skip-trivia3 .ensures (c .before .before .before .before .before .before .before .before .before .before .before .before .before .before .before .before .before .before .before .before .before .before .before .before .before .before .before .before .before .before .before .before .args .src .now) (c .before .before .before .before .before .before .before .before .before .before .before .before .before .before .before .before .before .before .before .before .before .before .before .before .loop .s) (c .before .before .before .before .before .before .before .before .before .before .before .before .before .before .before .before .before .before .if3 .left) ((from (source (c .before .before .before .before .before .before .before .before .before .before .before .before .before .before .before .before .before .before .before .before .before .before .before .before .before .before .before .before .before .before .before .before .args .src .now) (c .before .before .before .before .before .before .before .before .before .before .before .before .before .before .before .before .before .before .before .before .before .before .before .before .before .before .before .before .before .before .before .before .args .ids .now) (c .before .before .before .before .before .before .before .before .before .before .before .before .before .before .before .before .before .before .before .before .before .before .before .before .before .before .before .before .before .before .before .before .args .ends .now)) (c .before .before .before .before .before .before .before .before .before .before .before .before .before .before .before .before .before .before .before .before .before .before .before .before .loop .s) (c .before .before .before .before .before .before .before .before .before .before .before .before .before .before .before .before .before .before .before .before .before .before .before .before .loop .events) (c .before .before .before .before .before .before .before .before .before .before .before .before .before .before .before .before .before .before .before .before .before .before .before .before .loop .errors) (c .before .before .before .before .before .before .before .before .before .before .before .before .before .before .before .before .before .before .before .before .before .before .before .before .loop .scratch) (c .before .before .before .before .before .before .before .before .before .before .before .before .before .before .before .before .before .before .before .before .before .before .before .before .loop .inv .wf)) .wf .0))) (c .before .before .before .before .before .before .before .before .before .before .exec .ensures)) (c .before .before .if4 .left) (c .if6 .taken) refl)
+exec-returns-10 t c = (c .before .before .before .before .before .before .before .before .before .before .before .before .before .before .before .before .before .before .before .before .before .before .before .loop .inv) .go (try-last (c .before .before .before .before .before .before .before .before .before .before .before .before .before .before .before .before .before .before .before .before .before .before .before .before .before .before .before .before .before .before .before .args .d) (c .before .before .before .before .before .before .before .before .before .before .before .before .before .before .before .before .before .before .before .before .before .before .before .before .before .before .before .before .before .before .before .args .optional) (c .before .before .before .before .before .before .before .before .before .before .before .before .before .before .before .before .before .before .before .before .before .before .before .loop .i) (c .before .before .before .before .before .before .before .before .before .before .before .before .before .before .before .before .before .before .before .before .before .before .before .loop .inv .inside) (c .before .before .before .before .before .before .before .before .before .before .before .before .before .before .before .before .before .before .before .before .before .before .before .loop .events) (c .before .before .before .before .before .before .before .before .before .before .before .before .before .before .before .before .before .before .before .before .before .before .before .loop .errors) (c .before .before .before .before .before .before .before .before .before .before .before .before .before .before .before .before .before .before .before .before .before .before .before .loop .scratch) (c .before .before .before .before .before .before .before .before .before .before .before .before .before .before .before .before .before .before .before .before .before .before .before .loop .inv .wf) (sym (c .before .before .before .before .before .before .before .before .before .before .before .before .before .before .before .before .before .before .before .before .how .given .1) ∙ c .before .before .before .before .before .before .before .before .before .before .before .before .before .before .before .before .before .before .before .before .before .before .part-at .ensures) (c .before .before .before .before .before .before .before .before .before .before .before .before .before .before .before .before .before .if3 .left) refl (plus (plusE (from (source (c .before .before .before .before .before .before .before .before .before .before .before .before .before .before .before .before .before .before .before .before .before .before .before .before .before .before .before .before .before .before .before .args .src .now) (c .before .before .before .before .before .before .before .before .before .before .before .before .before .before .before .before .before .before .before .before .before .before .before .before .before .before .before .before .before .before .before .args .ids .now) (c .before .before .before .before .before .before .before .before .before .before .before .before .before .before .before .before .before .before .before .before .before .before .before .before .before .before .before .before .before .before .before .args .ends .now)) (c .before .before .before .before .before .before .before .before .before .before .before .before .before .before .before .before .before .before .before .before .before .before .before .loop .s) (c .before .before .before .before .before .before .before .before .before .before .before .before .before .before .before .before .before .before .before .before .before .before .before .loop .events) (c .before .before .before .before .before .before .before .before .before .before .before .before .before .before .before .before .before .before .before .before .before .before .before .loop .errors) (c .before .before .before .before .before .before .before .before .before .before .before .before .before .before .before .before .before .before .before .before .before .before .before .loop .scratch) (c .before .before .before .before .before .before .before .before .before .before .before .before .before .before .before .before .before .before .before .before .before .before .before .loop .inv .wf)) (c .before .before .before .before .before .before .before .before .before .before .before .before .before .before .before .skip-trivia3 .ensures (c .before .before .before .before .before .before .before .before .before .before .before .before .before .before .before .before .before .before .before .before .before .before .before .before .before .before .before .before .before .before .before .args .src .now) (c .before .before .before .before .before .before .before .before .before .before .before .before .before .before .before .before .before .before .before .before .before .before .before .loop .s) (c .before .before .before .before .before .before .before .before .before .before .before .before .before .before .before .before .before .if3 .left) ((from (source (c .before .before .before .before .before .before .before .before .before .before .before .before .before .before .before .before .before .before .before .before .before .before .before .before .before .before .before .before .before .before .before .args .src .now) (c .before .before .before .before .before .before .before .before .before .before .before .before .before .before .before .before .before .before .before .before .before .before .before .before .before .before .before .before .before .before .before .args .ids .now) (c .before .before .before .before .before .before .before .before .before .before .before .before .before .before .before .before .before .before .before .before .before .before .before .before .before .before .before .before .before .before .before .args .ends .now)) (c .before .before .before .before .before .before .before .before .before .before .before .before .before .before .before .before .before .before .before .before .before .before .before .loop .s) (c .before .before .before .before .before .before .before .before .before .before .before .before .before .before .before .before .before .before .before .before .before .before .before .loop .events) (c .before .before .before .before .before .before .before .before .before .before .before .before .before .before .before .before .before .before .before .before .before .before .before .loop .errors) (c .before .before .before .before .before .before .before .before .before .before .before .before .before .before .before .before .before .before .before .before .before .before .before .loop .scratch) (c .before .before .before .before .before .before .before .before .before .before .before .before .before .before .before .before .before .before .before .before .before .before .before .loop .inv .wf)) .wf .0))) (c .before .before .before .before .before .before .before .before .before .exec .ensures)) (c .before .if4 .left) (λ e. omega (arith, e, c .if5 .taken)) (c .if5 .taken) refl)
+
+exec-same-length-31 : (t : ℕ) → exec-lts.Need-same-length-31 (exec-cs t) (exec-at t) exec.Post exec-Inv-loop exec-μ-loop
+exec-same-length-31 t c = c .before .before .before .before .before .before .before .before .before .before .exec .kept .1 .1 .1 .1 .1 .1 .1 .0 ∙ c .before .before .before .before .before .before .before .before .before .before .before .before .before .before .before .before .skip-trivia3 .kept .1 .1 .1 .1 .1 .1 .0 ∙ (c .before .before .before .before .before .before .before .before .before .before .before .before .before .before .before .before .before .before .before .before .before .before .before .before .loop .inv) .events
+
+exec-same-length-32 : (t : ℕ) → exec-lts.Need-same-length-32 (exec-cs t) (exec-at t) exec.Post exec-Inv-loop exec-μ-loop
+exec-same-length-32 t c = c .before .before .before .before .before .before .before .before .before .before .exec .kept .1 .1 .1 .1 .1 .1 .1 .1 .0 ∙ (c .before .before .before .before .before .before .before .before .before .before .before .before .before .before .before .before .before .before .before .before .before .before .before .before .loop .inv) .errors
+
+exec-same-length-33 : (t : ℕ) → exec-lts.Need-same-length-33 (exec-cs t) (exec-at t) exec.Post exec-Inv-loop exec-μ-loop
+exec-same-length-33 t c = c .before .before .before .before .before .before .before .before .before .before .exec .kept .1 .1 .1 .1 .1 .1 .1 .1 .1 .0 ∙ (c .before .before .before .before .before .before .before .before .before .before .before .before .before .before .before .before .before .before .before .before .before .before .before .before .loop .inv) .scratch
+
+exec-returns-11 : (t : ℕ) → exec-lts.Need-returns-11 (exec-cs t) (exec-at t) exec.Post exec-Inv-loop exec-μ-loop
+exec-returns-11 t c = (c .before .before .before .before .before .before .before .before .before .before .before .before .before .before .before .before .before .before .before .before .before .before .before .before .loop .inv) .go (try-opt (c .before .before .before .before .before .before .before .before .before .before .before .before .before .before .before .before .before .before .before .before .before .before .before .before .before .before .before .before .before .before .before .before .args .d) (c .before .before .before .before .before .before .before .before .before .before .before .before .before .before .before .before .before .before .before .before .before .before .before .before .before .before .before .before .before .before .before .before .args .optional) (c .before .before .before .before .before .before .before .before .before .before .before .before .before .before .before .before .before .before .before .before .before .before .before .before .loop .i) (c .before .before .before .before .before .before .before .before .before .before .before .before .before .before .before .before .before .before .before .before .before .before .before .before .loop .inv .inside) (c .before .before .before .before .before .before .before .before .before .before .before .before .before .before .before .before .before .before .before .before .before .before .before .before .loop .events) (c .before .before .before .before .before .before .before .before .before .before .before .before .before .before .before .before .before .before .before .before .before .before .before .before .loop .errors) (c .before .before .before .before .before .before .before .before .before .before .before .before .before .before .before .before .before .before .before .before .before .before .before .before .loop .scratch) (c .before .before .before .before .before .before .before .before .before .before .before .before .before .before .before .before .before .before .before .before .before .before .before .before .loop .inv .wf) (sym (c .before .before .before .before .before .before .before .before .before .before .before .before .before .before .before .before .before .before .before .before .before .how .given .1) ∙ c .before .before .before .before .before .before .before .before .before .before .before .before .before .before .before .before .before .before .before .before .before .before .before .part-at .ensures) (c .before .before .before .before .before .before .before .before .before .before .before .before .before .before .before .before .before .before .if3 .left) refl (plus (plusE (from (source (c .before .before .before .before .before .before .before .before .before .before .before .before .before .before .before .before .before .before .before .before .before .before .before .before .before .before .before .before .before .before .before .before .args .src .now) (c .before .before .before .before .before .before .before .before .before .before .before .before .before .before .before .before .before .before .before .before .before .before .before .before .before .before .before .before .before .before .before .before .args .ids .now) (c .before .before .before .before .before .before .before .before .before .before .before .before .before .before .before .before .before .before .before .before .before .before .before .before .before .before .before .before .before .before .before .before .args .ends .now)) (c .before .before .before .before .before .before .before .before .before .before .before .before .before .before .before .before .before .before .before .before .before .before .before .before .loop .s) (c .before .before .before .before .before .before .before .before .before .before .before .before .before .before .before .before .before .before .before .before .before .before .before .before .loop .events) (c .before .before .before .before .before .before .before .before .before .before .before .before .before .before .before .before .before .before .before .before .before .before .before .before .loop .errors) (c .before .before .before .before .before .before .before .before .before .before .before .before .before .before .before .before .before .before .before .before .before .before .before .before .loop .scratch) (c .before .before .before .before .before .before .before .before .before .before .before .before .before .before .before .before .before .before .before .before .before .before .before .before .loop .inv .wf)) (c .before .before .before .before .before .before .before .before .before .before .before .before .before .before .before .before .skip-trivia3 .ensures (c .before .before .before .before .before .before .before .before .before .before .before .before .before .before .before .before .before .before .before .before .before .before .before .before .before .before .before .before .before .before .before .before .args .src .now) (c .before .before .before .before .before .before .before .before .before .before .before .before .before .before .before .before .before .before .before .before .before .before .before .before .loop .s) (c .before .before .before .before .before .before .before .before .before .before .before .before .before .before .before .before .before .before .if3 .left) ((from (source (c .before .before .before .before .before .before .before .before .before .before .before .before .before .before .before .before .before .before .before .before .before .before .before .before .before .before .before .before .before .before .before .before .args .src .now) (c .before .before .before .before .before .before .before .before .before .before .before .before .before .before .before .before .before .before .before .before .before .before .before .before .before .before .before .before .before .before .before .before .args .ids .now) (c .before .before .before .before .before .before .before .before .before .before .before .before .before .before .before .before .before .before .before .before .before .before .before .before .before .before .before .before .before .before .before .before .args .ends .now)) (c .before .before .before .before .before .before .before .before .before .before .before .before .before .before .before .before .before .before .before .before .before .before .before .before .loop .s) (c .before .before .before .before .before .before .before .before .before .before .before .before .before .before .before .before .before .before .before .before .before .before .before .before .loop .events) (c .before .before .before .before .before .before .before .before .before .before .before .before .before .before .before .before .before .before .before .before .before .before .before .before .loop .errors) (c .before .before .before .before .before .before .before .before .before .before .before .before .before .before .before .before .before .before .before .before .before .before .before .before .loop .scratch) (c .before .before .before .before .before .before .before .before .before .before .before .before .before .before .before .before .before .before .before .before .before .before .before .before .loop .inv .wf)) .wf .0))) (c .before .before .before .before .before .before .before .before .before .before .exec .ensures)) (c .before .before .if4 .left) (c .if6 .taken) refl)
 
 exec-loop-less-4 : (t : ℕ) → exec-lts.Need-loop-less-4 (exec-cs t) (exec-at t) exec.Post exec-Inv-loop exec-μ-loop
 exec-loop-less-4 t c = row-sound (c .before .before .before .before .before .before .before .before .before .before .before .before .before .before .before .before .before .before .before .before .before .before .before .before .loop .i) (c .before .before .before .before .before .before .before .before .before .before .before .before .before .before .before .before .before .before .before .before .before .before .before .before .loop .inv .inside) (sym (c .before .before .before .before .before .before .before .before .before .before .before .before .before .before .before .before .before .before .before .before .before .how .given .1) ∙ c .before .before .before .before .before .before .before .before .before .before .before .before .before .before .before .before .before .before .before .before .before .before .before .part-at .ensures) .1
@@ -355,10 +378,19 @@ exec-loop-again-4 : (t : ℕ) → exec-lts.Need-loop-again-4 (exec-cs t) (exec-a
 exec-loop-again-4 t c = goes-on (c .before .before .before .before .before .before .before .before .before .before .before .before .before .before .before .before .before .before .before .before .before .before .before .before .loop .inv) ((others (c .before .before .before .before .before .before .before .before .before .before .before .before .before .before .before .before .before .before .before .before .before .before .before .before .before .before .before .before .before .before .before .before .args .d) (c .before .before .before .before .before .before .before .before .before .before .before .before .before .before .before .before .before .before .before .before .before .before .before .before .before .before .before .before .before .before .before .before .args .optional) (c .before .before .before .before .before .before .before .before .before .before .before .before .before .before .before .before .before .before .before .before .before .before .before .before .loop .i) (c .before .before .before .before .before .before .before .before .before .before .before .before .before .before .before .before .before .before .before .before .before .before .before .before .loop .inv .inside) (c .before .before .before .before .before .before .before .before .before .before .before .before .before .before .before .before .before .before .before .before .before .before .before .before .loop .events) (c .before .before .before .before .before .before .before .before .before .before .before .before .before .before .before .before .before .before .before .before .before .before .before .before .loop .errors) (c .before .before .before .before .before .before .before .before .before .before .before .before .before .before .before .before .before .before .before .before .before .before .before .before .loop .scratch) (c .before .before .before .before .before .before .before .before .before .before .before .before .before .before .before .before .before .before .before .before .before .before .before .before .loop .inv .wf) (sym (c .before .before .before .before .before .before .before .before .before .before .before .before .before .before .before .before .before .before .before .before .before .how .given .1) ∙ c .before .before .before .before .before .before .before .before .before .before .before .before .before .before .before .before .before .before .before .before .before .before .before .part-at .ensures) (c .before .before .before .before .before .before .before .before .before .before .before .before .before .before .before .before .before .before .if3 .left) refl (plus (plusE (from (source (c .before .before .before .before .before .before .before .before .before .before .before .before .before .before .before .before .before .before .before .before .before .before .before .before .before .before .before .before .before .before .before .before .args .src .now) (c .before .before .before .before .before .before .before .before .before .before .before .before .before .before .before .before .before .before .before .before .before .before .before .before .before .before .before .before .before .before .before .before .args .ids .now) (c .before .before .before .before .before .before .before .before .before .before .before .before .before .before .before .before .before .before .before .before .before .before .before .before .before .before .before .before .before .before .before .before .args .ends .now)) (c .before .before .before .before .before .before .before .before .before .before .before .before .before .before .before .before .before .before .before .before .before .before .before .before .loop .s) (c .before .before .before .before .before .before .before .before .before .before .before .before .before .before .before .before .before .before .before .before .before .before .before .before .loop .events) (c .before .before .before .before .before .before .before .before .before .before .before .before .before .before .before .before .before .before .before .before .before .before .before .before .loop .errors) (c .before .before .before .before .before .before .before .before .before .before .before .before .before .before .before .before .before .before .before .before .before .before .before .before .loop .scratch) (c .before .before .before .before .before .before .before .before .before .before .before .before .before .before .before .before .before .before .before .before .before .before .before .before .loop .inv .wf)) (c .before .before .before .before .before .before .before .before .before .before .before .before .before .before .before .before .skip-trivia3 .ensures (c .before .before .before .before .before .before .before .before .before .before .before .before .before .before .before .before .before .before .before .before .before .before .before .before .before .before .before .before .before .before .before .before .args .src .now) (c .before .before .before .before .before .before .before .before .before .before .before .before .before .before .before .before .before .before .before .before .before .before .before .before .loop .s) (c .before .before .before .before .before .before .before .before .before .before .before .before .before .before .before .before .before .before .if3 .left) ((from (source (c .before .before .before .before .before .before .before .before .before .before .before .before .before .before .before .before .before .before .before .before .before .before .before .before .before .before .before .before .before .before .before .before .args .src .now) (c .before .before .before .before .before .before .before .before .before .before .before .before .before .before .before .before .before .before .before .before .before .before .before .before .before .before .before .before .before .before .before .before .args .ids .now) (c .before .before .before .before .before .before .before .before .before .before .before .before .before .before .before .before .before .before .before .before .before .before .before .before .before .before .before .before .before .before .before .before .args .ends .now)) (c .before .before .before .before .before .before .before .before .before .before .before .before .before .before .before .before .before .before .before .before .before .before .before .before .loop .s) (c .before .before .before .before .before .before .before .before .before .before .before .before .before .before .before .before .before .before .before .before .before .before .before .before .loop .events) (c .before .before .before .before .before .before .before .before .before .before .before .before .before .before .before .before .before .before .before .before .before .before .before .before .loop .errors) (c .before .before .before .before .before .before .before .before .before .before .before .before .before .before .before .before .before .before .before .before .before .before .before .before .loop .scratch) (c .before .before .before .before .before .before .before .before .before .before .before .before .before .before .before .before .before .before .before .before .before .before .before .before .loop .inv .wf)) .wf .0))) (c .before .before .before .before .before .before .before .before .before .before .exec .ensures)) (c .before .before .if4 .left) refl .here) .wf) (row-sound (c .before .before .before .before .before .before .before .before .before .before .before .before .before .before .before .before .before .before .before .before .before .before .before .before .loop .i) (c .before .before .before .before .before .before .before .before .before .before .before .before .before .before .before .before .before .before .before .before .before .before .before .before .loop .inv .inside) (sym (c .before .before .before .before .before .before .before .before .before .before .before .before .before .before .before .before .before .before .before .before .before .how .given .1) ∙ c .before .before .before .before .before .before .before .before .before .before .before .before .before .before .before .before .before .before .before .before .before .before .before .part-at .ensures) .1) (λ z b y. try-others (c .before .before .before .before .before .before .before .before .before .before .before .before .before .before .before .before .before .before .before .before .before .before .before .before .before .before .before .before .before .before .before .before .args .d) (c .before .before .before .before .before .before .before .before .before .before .before .before .before .before .before .before .before .before .before .before .before .before .before .before .before .before .before .before .before .before .before .before .args .optional) (c .before .before .before .before .before .before .before .before .before .before .before .before .before .before .before .before .before .before .before .before .before .before .before .before .loop .i) (c .before .before .before .before .before .before .before .before .before .before .before .before .before .before .before .before .before .before .before .before .before .before .before .before .loop .inv .inside) (c .before .before .before .before .before .before .before .before .before .before .before .before .before .before .before .before .before .before .before .before .before .before .before .before .loop .events) (c .before .before .before .before .before .before .before .before .before .before .before .before .before .before .before .before .before .before .before .before .before .before .before .before .loop .errors) (c .before .before .before .before .before .before .before .before .before .before .before .before .before .before .before .before .before .before .before .before .before .before .before .before .loop .scratch) (c .before .before .before .before .before .before .before .before .before .before .before .before .before .before .before .before .before .before .before .before .before .before .before .before .loop .inv .wf) (sym (c .before .before .before .before .before .before .before .before .before .before .before .before .before .before .before .before .before .before .before .before .before .how .given .1) ∙ c .before .before .before .before .before .before .before .before .before .before .before .before .before .before .before .before .before .before .before .before .before .before .before .part-at .ensures) (c .before .before .before .before .before .before .before .before .before .before .before .before .before .before .before .before .before .before .if3 .left) refl (plus (plusE (from (source (c .before .before .before .before .before .before .before .before .before .before .before .before .before .before .before .before .before .before .before .before .before .before .before .before .before .before .before .before .before .before .before .before .args .src .now) (c .before .before .before .before .before .before .before .before .before .before .before .before .before .before .before .before .before .before .before .before .before .before .before .before .before .before .before .before .before .before .before .before .args .ids .now) (c .before .before .before .before .before .before .before .before .before .before .before .before .before .before .before .before .before .before .before .before .before .before .before .before .before .before .before .before .before .before .before .before .args .ends .now)) (c .before .before .before .before .before .before .before .before .before .before .before .before .before .before .before .before .before .before .before .before .before .before .before .before .loop .s) (c .before .before .before .before .before .before .before .before .before .before .before .before .before .before .before .before .before .before .before .before .before .before .before .before .loop .events) (c .before .before .before .before .before .before .before .before .before .before .before .before .before .before .before .before .before .before .before .before .before .before .before .before .loop .errors) (c .before .before .before .before .before .before .before .before .before .before .before .before .before .before .before .before .before .before .before .before .before .before .before .before .loop .scratch) (c .before .before .before .before .before .before .before .before .before .before .before .before .before .before .before .before .before .before .before .before .before .before .before .before .loop .inv .wf)) (c .before .before .before .before .before .before .before .before .before .before .before .before .before .before .before .before .skip-trivia3 .ensures (c .before .before .before .before .before .before .before .before .before .before .before .before .before .before .before .before .before .before .before .before .before .before .before .before .before .before .before .before .before .before .before .before .args .src .now) (c .before .before .before .before .before .before .before .before .before .before .before .before .before .before .before .before .before .before .before .before .before .before .before .before .loop .s) (c .before .before .before .before .before .before .before .before .before .before .before .before .before .before .before .before .before .before .if3 .left) ((from (source (c .before .before .before .before .before .before .before .before .before .before .before .before .before .before .before .before .before .before .before .before .before .before .before .before .before .before .before .before .before .before .before .before .args .src .now) (c .before .before .before .before .before .before .before .before .before .before .before .before .before .before .before .before .before .before .before .before .before .before .before .before .before .before .before .before .before .before .before .before .args .ids .now) (c .before .before .before .before .before .before .before .before .before .before .before .before .before .before .before .before .before .before .before .before .before .before .before .before .before .before .before .before .before .before .before .before .args .ends .now)) (c .before .before .before .before .before .before .before .before .before .before .before .before .before .before .before .before .before .before .before .before .before .before .before .before .loop .s) (c .before .before .before .before .before .before .before .before .before .before .before .before .before .before .before .before .before .before .before .before .before .before .before .before .loop .events) (c .before .before .before .before .before .before .before .before .before .before .before .before .before .before .before .before .before .before .before .before .before .before .before .before .loop .errors) (c .before .before .before .before .before .before .before .before .before .before .before .before .before .before .before .before .before .before .before .before .before .before .before .before .loop .scratch) (c .before .before .before .before .before .before .before .before .before .before .before .before .before .before .before .before .before .before .before .before .before .before .before .before .loop .inv .wf)) .wf .0))) (c .before .before .before .before .before .before .before .before .before .before .exec .ensures)) (c .if6 .left) (c .before .if5 .left) (c .before .before .if4 .left) refl y) (c .before .before .before .before .before .before .before .before .before .before .exec .kept .1 .1 .1 .1 .1 .1 .1 .0 ∙ c .before .before .before .before .before .before .before .before .before .before .before .before .before .before .before .before .skip-trivia3 .kept .1 .1 .1 .1 .1 .1 .0) (c .before .before .before .before .before .before .before .before .before .before .exec .kept .1 .1 .1 .1 .1 .1 .1 .1 .0) (c .before .before .before .before .before .before .before .before .before .before .exec .kept .1 .1 .1 .1 .1 .1 .1 .1 .1 .0)
 
 abbrev head-cs : ℕ → head-lts.Claims
-head-cs t = (part-at-reads.Asked, part-at-reads.Learnt, step-reads.Asked, step-reads.Learnt, node-below t, node.Post, cached-below t, cached.Post, many-below t, many.Post, exec-below t, exec.Post)
+head-cs t = (part-at-reads.Asked, part-at-reads.Learnt, label-reads.Asked, label-reads.Learnt, eat-reads.Asked, eat-reads.Learnt, step-reads.Asked, step-reads.Learnt, node-below t, node.Post, cached-below t, cached.Post, many-below t, many.Post, exec-below t, exec.Post)
 
 head-part-at-requires : (t : ℕ) → head-lts.Need-part-at-requires (head-cs t) (head-at t) head.Post
 head-part-at-requires t c κs = ((c .before .before .before .before .before .before .before .pre .1 .2), c .before .before .before .before .before .before .before .pre .1 .3)
+
+head-enum-known-set : (t : ℕ) → head-lts.Need-enum-known-set (head-cs t) (head-at t) head.Post
+head-enum-known-set t c = search needs
+
+head-label-requires : (t : ℕ) → head-lts.Need-label-requires (head-cs t) (head-at t) head.Post
+head-label-requires t c κs = row-sound (c .before .before .before .before .before .before .before .before .before .before .before .args .p) (c .before .before .before .before .before .before .before .before .before .before .before .pre .1 .2) (sym (c .before .set .given .1) ∙ c .before .before .before .part-at .ensures)
+
+head-eat-requires : (t : ℕ) → head-lts.Need-eat-requires (head-cs t) (head-at t) head.Post
+head-eat-requires t c κs = asksX (from (source (c .before .before .before .before .before .before .before .before .before .before .before .before .before .args .src .now) (c .before .before .before .before .before .before .before .before .before .before .before .before .before .args .ids .now) (c .before .before .before .before .before .before .before .before .before .before .before .before .before .args .ends .now)) (c .before .before .before .before .before .before .before .before .before .before .before .before .before .args .s) (c .before .before .before .before .before .before .before .before .before .before .before .before .before .args .events .now) (c .before .before .before .before .before .before .before .before .before .before .before .before .before .args .errors .now) (c .before .before .before .before .before .before .before .before .before .before .before .before .before .args .scratch .now) (c .before .before .before .before .before .before .before .before .before .before .before .before .before .pre .1 .1)) (c .before .before .before .before .before .before .before .before .before .before .before .before .before .pre .1 .0) (proper _ (row-sound (c .before .before .before .before .before .before .before .before .before .before .before .before .before .args .p) (c .before .before .before .before .before .before .before .before .before .before .before .before .before .pre .1 .2) (sym (c .before .before .before .set .given .1) ∙ c .before .before .before .before .before .part-at .ensures)) (c .before .label .ensures))
 
 head-enum-known-which : (t : ℕ) → head-lts.Need-enum-known-which (head-cs t) (head-at t) head.Post
 head-enum-known-which t c = search needs
@@ -388,61 +420,67 @@ head-exec-requires : (t : ℕ) → head-lts.Need-exec-requires (head-cs t) (head
 head-exec-requires t c κs = (omega (arith, c .before .before .before .before .before .before .before .before .before .before .before .before .pre .0), ((c .before .before .before .before .before .before .before .before .before .before .before .before .pre .1 .0), (from (source (c .before .before .before .before .before .before .before .before .before .before .before .before .args .src .now) (c .before .before .before .before .before .before .before .before .before .before .before .before .args .ids .now) (c .before .before .before .before .before .before .before .before .before .before .before .before .args .ends .now)) (c .before .before .before .before .before .before .before .before .before .before .before .before .args .s) (c .before .before .before .before .before .before .before .before .before .before .before .before .args .events .now) (c .before .before .before .before .before .before .before .before .before .before .before .before .args .errors .now) (c .before .before .before .before .before .before .before .before .before .before .before .before .args .scratch .now) (c .before .before .before .before .before .before .before .before .before .before .before .before .pre .1 .1)) .wf, (c .before .before .before .before .before .before .before .before .before .before .before .before .pre .1 .2), c .before .before .before .before .before .before .before .before .before .before .before .before .pre .1 .3))
 
 head-same-length : (t : ℕ) → head-lts.Need-same-length (head-cs t) (head-at t) head.Post
-head-same-length t c = c .before .before .before .before .step .kept .1 .1 .1 .1 .1 .1 .1 .1 .1 .0
-
-head-same-length-2 : (t : ℕ) → head-lts.Need-same-length-2 (head-cs t) (head-at t) head.Post
-head-same-length-2 t c = c .before .before .before .before .step .kept .1 .1 .1 .1 .1 .1 .1 .1 .1 .1 .0
+head-same-length t c = c .before .before .eat .kept .1 .1 .1 .1 .1 .0
 
 head-returns : (t : ℕ) → head-lts.Need-returns (head-cs t) (head-at t) head.Post
-head-returns t c = is-step (c .before .before .before .before .before .before .before .before .before .before .before .before .before .before .before .before .before .before .args .d) (c .before .before .before .before .before .before .before .before .before .before .before .before .before .before .before .before .before .before .args .optional) (c .before .before .before .before .before .before .before .before .before .before .before .before .before .before .before .before .before .before .args .p) (c .before .before .before .before .before .before .before .before .before .before .before .before .before .before .before .before .before .before .pre .1 .2) (sym (c .before .before .before .before .before .before .before .before .which .given .1) ∙ c .before .before .before .before .before .before .before .before .before .before .part-at .ensures) (row-sound (c .before .before .before .before .before .before .before .before .before .before .before .before .before .before .before .before .before .before .args .p) (c .before .before .before .before .before .before .before .before .before .before .before .before .before .before .before .before .before .before .pre .1 .2) (sym (c .before .before .before .before .before .before .before .before .which .given .1) ∙ c .before .before .before .before .before .before .before .before .before .before .part-at .ensures) .0) (plusB (from (source (c .before .before .before .before .before .before .before .before .before .before .before .before .before .before .before .before .before .before .args .src .now) (c .before .before .before .before .before .before .before .before .before .before .before .before .before .before .before .before .before .before .args .ids .now) (c .before .before .before .before .before .before .before .before .before .before .before .before .before .before .before .before .before .before .args .ends .now)) (c .before .before .before .before .before .before .before .before .before .before .before .before .before .before .before .before .before .before .args .s) (c .before .before .before .before .before .before .before .before .before .before .before .before .before .before .before .before .before .before .args .events .now) (c .before .before .before .before .before .before .before .before .before .before .before .before .before .before .before .before .before .before .args .errors .now) (c .before .before .before .before .before .before .before .before .before .before .before .before .before .before .before .before .before .before .args .scratch .now) (c .before .before .before .before .before .before .before .before .before .before .before .before .before .before .before .before .before .before .pre .1 .1)) (c .before .before .before .before .step .ensures))
+head-returns t c = is-eat (c .before .before .before .before .before .before .before .before .before .before .before .before .before .before .before .before .args .d) (c .before .before .before .before .before .before .before .before .before .before .before .before .before .before .before .before .args .optional) (c .before .before .before .before .before .before .before .before .before .before .before .before .before .before .before .before .args .p) (c .before .before .before .before .before .before .before .before .before .before .before .before .before .before .before .before .pre .1 .2) (sym (c .before .before .before .before .before .before .set .given .1) ∙ c .before .before .before .before .before .before .before .before .part-at .ensures) (c .before .before .before .before .label .ensures) (plusE (from (source (c .before .before .before .before .before .before .before .before .before .before .before .before .before .before .before .before .args .src .now) (c .before .before .before .before .before .before .before .before .before .before .before .before .before .before .before .before .args .ids .now) (c .before .before .before .before .before .before .before .before .before .before .before .before .before .before .before .before .args .ends .now)) (c .before .before .before .before .before .before .before .before .before .before .before .before .before .before .before .before .args .s) (c .before .before .before .before .before .before .before .before .before .before .before .before .before .before .before .before .args .events .now) (c .before .before .before .before .before .before .before .before .before .before .before .before .before .before .before .before .args .errors .now) (c .before .before .before .before .before .before .before .before .before .before .before .before .before .before .before .before .args .scratch .now) (c .before .before .before .before .before .before .before .before .before .before .before .before .before .before .before .before .pre .1 .1)) (c .before .before .eat .ensures (c .before .before .before .before .before .before .before .before .before .before .before .before .before .before .before .before .args .src .now)))
+
+head-same-length-2 : (t : ℕ) → head-lts.Need-same-length-2 (head-cs t) (head-at t) head.Post
+head-same-length-2 t c = c .before .before .before .before .step .kept .1 .1 .1 .1 .1 .1 .1 .1 .0
 
 head-same-length-3 : (t : ℕ) → head-lts.Need-same-length-3 (head-cs t) (head-at t) head.Post
-head-same-length-3 t c = c .before .before .before .before .before .before .node .kept .1 .1 .1 .1 .1 .1 .1 .1 .0
-
-head-same-length-4 : (t : ℕ) → head-lts.Need-same-length-4 (head-cs t) (head-at t) head.Post
-head-same-length-4 t c = c .before .before .before .before .before .before .node .kept .1 .1 .1 .1 .1 .1 .1 .1 .1 .0
-
-head-same-length-5 : (t : ℕ) → head-lts.Need-same-length-5 (head-cs t) (head-at t) head.Post
-head-same-length-5 t c = c .before .before .before .before .before .before .node .kept .1 .1 .1 .1 .1 .1 .1 .1 .1 .1 .0
+head-same-length-3 t c = c .before .before .before .before .step .kept .1 .1 .1 .1 .1 .1 .1 .1 .1 .0
 
 head-returns-2 : (t : ℕ) → head-lts.Need-returns-2 (head-cs t) (head-at t) head.Post
-head-returns-2 t c = is-row (c .before .before .before .before .before .before .before .before .before .before .before .before .before .before .before .before .before .before .before .before .before .args .d) (c .before .before .before .before .before .before .before .before .before .before .before .before .before .before .before .before .before .before .before .before .before .args .optional) (c .before .before .before .before .before .before .before .before .before .before .before .before .before .before .before .before .before .before .before .before .before .args .p) (c .before .before .before .before .before .before .before .before .before .before .before .before .before .before .before .before .before .before .before .before .before .pre .1 .2) (sym (c .before .before .before .before .before .before .before .before .before .before .before .kind .given .1) ∙ c .before .before .before .before .before .before .before .before .before .before .before .before .before .part-at .ensures) (c .before .before .before .before .before .before .node .ensures)
+head-returns-2 t c = is-step (c .before .before .before .before .before .before .before .before .before .before .before .before .before .before .before .before .before .before .args .d) (c .before .before .before .before .before .before .before .before .before .before .before .before .before .before .before .before .before .before .args .optional) (c .before .before .before .before .before .before .before .before .before .before .before .before .before .before .before .before .before .before .args .p) (c .before .before .before .before .before .before .before .before .before .before .before .before .before .before .before .before .before .before .pre .1 .2) (sym (c .before .before .before .before .before .before .before .before .which .given .1) ∙ c .before .before .before .before .before .before .before .before .before .before .part-at .ensures) (row-sound (c .before .before .before .before .before .before .before .before .before .before .before .before .before .before .before .before .before .before .args .p) (c .before .before .before .before .before .before .before .before .before .before .before .before .before .before .before .before .before .before .pre .1 .2) (sym (c .before .before .before .before .before .before .before .before .which .given .1) ∙ c .before .before .before .before .before .before .before .before .before .before .part-at .ensures)) (plusB (from (source (c .before .before .before .before .before .before .before .before .before .before .before .before .before .before .before .before .before .before .args .src .now) (c .before .before .before .before .before .before .before .before .before .before .before .before .before .before .before .before .before .before .args .ids .now) (c .before .before .before .before .before .before .before .before .before .before .before .before .before .before .before .before .before .before .args .ends .now)) (c .before .before .before .before .before .before .before .before .before .before .before .before .before .before .before .before .before .before .args .s) (c .before .before .before .before .before .before .before .before .before .before .before .before .before .before .before .before .before .before .args .events .now) (c .before .before .before .before .before .before .before .before .before .before .before .before .before .before .before .before .before .before .args .errors .now) (c .before .before .before .before .before .before .before .before .before .before .before .before .before .before .before .before .before .before .args .scratch .now) (c .before .before .before .before .before .before .before .before .before .before .before .before .before .before .before .before .before .before .pre .1 .1)) (c .before .before .before .before .step .ensures))
+
+head-same-length-4 : (t : ℕ) → head-lts.Need-same-length-4 (head-cs t) (head-at t) head.Post
+head-same-length-4 t c = c .before .before .before .before .before .before .node .kept .1 .1 .1 .1 .1 .1 .1 .1 .0
+
+head-same-length-5 : (t : ℕ) → head-lts.Need-same-length-5 (head-cs t) (head-at t) head.Post
+head-same-length-5 t c = c .before .before .before .before .before .before .node .kept .1 .1 .1 .1 .1 .1 .1 .1 .1 .0
 
 head-same-length-6 : (t : ℕ) → head-lts.Need-same-length-6 (head-cs t) (head-at t) head.Post
-head-same-length-6 t c = c .before .before .before .before .before .before .cached .kept .1 .1 .1 .1 .1 .1 .1 .1 .0
-
-head-same-length-7 : (t : ℕ) → head-lts.Need-same-length-7 (head-cs t) (head-at t) head.Post
-head-same-length-7 t c = c .before .before .before .before .before .before .cached .kept .1 .1 .1 .1 .1 .1 .1 .1 .1 .0
-
-head-same-length-8 : (t : ℕ) → head-lts.Need-same-length-8 (head-cs t) (head-at t) head.Post
-head-same-length-8 t c = c .before .before .before .before .before .before .cached .kept .1 .1 .1 .1 .1 .1 .1 .1 .1 .1 .0
+head-same-length-6 t c = c .before .before .before .before .before .before .node .kept .1 .1 .1 .1 .1 .1 .1 .1 .1 .1 .0
 
 head-returns-3 : (t : ℕ) → head-lts.Need-returns-3 (head-cs t) (head-at t) head.Post
-head-returns-3 t c = is-row (c .before .before .before .before .before .before .before .before .before .before .before .before .before .before .before .before .before .before .before .before .before .args .d) (c .before .before .before .before .before .before .before .before .before .before .before .before .before .before .before .before .before .before .before .before .before .args .optional) (c .before .before .before .before .before .before .before .before .before .before .before .before .before .before .before .before .before .before .before .before .before .args .p) (c .before .before .before .before .before .before .before .before .before .before .before .before .before .before .before .before .before .before .before .before .before .pre .1 .2) (sym (c .before .before .before .before .before .before .before .before .before .before .before .kind2 .given .1) ∙ c .before .before .before .before .before .before .before .before .before .before .before .before .before .part-at .ensures) (c .before .before .before .before .before .before .cached .ensures)
+head-returns-3 t c = is-row (c .before .before .before .before .before .before .before .before .before .before .before .before .before .before .before .before .before .before .before .before .before .args .d) (c .before .before .before .before .before .before .before .before .before .before .before .before .before .before .before .before .before .before .before .before .before .args .optional) (c .before .before .before .before .before .before .before .before .before .before .before .before .before .before .before .before .before .before .before .before .before .args .p) (c .before .before .before .before .before .before .before .before .before .before .before .before .before .before .before .before .before .before .before .before .before .pre .1 .2) (sym (c .before .before .before .before .before .before .before .before .before .before .before .kind .given .1) ∙ c .before .before .before .before .before .before .before .before .before .before .before .before .before .part-at .ensures) (c .before .before .before .before .before .before .node .ensures)
+
+head-same-length-7 : (t : ℕ) → head-lts.Need-same-length-7 (head-cs t) (head-at t) head.Post
+head-same-length-7 t c = c .before .before .before .before .before .before .cached .kept .1 .1 .1 .1 .1 .1 .1 .1 .0
+
+head-same-length-8 : (t : ℕ) → head-lts.Need-same-length-8 (head-cs t) (head-at t) head.Post
+head-same-length-8 t c = c .before .before .before .before .before .before .cached .kept .1 .1 .1 .1 .1 .1 .1 .1 .1 .0
 
 head-same-length-9 : (t : ℕ) → head-lts.Need-same-length-9 (head-cs t) (head-at t) head.Post
-head-same-length-9 t c = c .before .before .before .before .before .before .many .kept .1 .1 .1 .1 .1 .1 .0
-
-head-same-length-10 : (t : ℕ) → head-lts.Need-same-length-10 (head-cs t) (head-at t) head.Post
-head-same-length-10 t c = c .before .before .before .before .before .before .many .kept .1 .1 .1 .1 .1 .1 .1 .0
-
-head-same-length-11 : (t : ℕ) → head-lts.Need-same-length-11 (head-cs t) (head-at t) head.Post
-head-same-length-11 t c = c .before .before .before .before .before .before .many .kept .1 .1 .1 .1 .1 .1 .1 .1 .0
+head-same-length-9 t c = c .before .before .before .before .before .before .cached .kept .1 .1 .1 .1 .1 .1 .1 .1 .1 .1 .0
 
 head-returns-4 : (t : ℕ) → head-lts.Need-returns-4 (head-cs t) (head-at t) head.Post
-head-returns-4 t c = is-row (c .before .before .before .before .before .before .before .before .before .before .before .before .before .before .before .before .before .before .before .before .before .args .d) (c .before .before .before .before .before .before .before .before .before .before .before .before .before .before .before .before .before .before .before .before .before .args .optional) (c .before .before .before .before .before .before .before .before .before .before .before .before .before .before .before .before .before .before .before .before .before .args .p) (c .before .before .before .before .before .before .before .before .before .before .before .before .before .before .before .before .before .before .before .before .before .pre .1 .2) (sym (c .before .before .before .before .before .before .before .before .before .before .before .q .given .1) ∙ c .before .before .before .before .before .before .before .before .before .before .before .before .before .part-at .ensures) (c .before .before .before .before .before .before .many .ensures)
+head-returns-4 t c = is-row (c .before .before .before .before .before .before .before .before .before .before .before .before .before .before .before .before .before .before .before .before .before .args .d) (c .before .before .before .before .before .before .before .before .before .before .before .before .before .before .before .before .before .before .before .before .before .args .optional) (c .before .before .before .before .before .before .before .before .before .before .before .before .before .before .before .before .before .before .before .before .before .args .p) (c .before .before .before .before .before .before .before .before .before .before .before .before .before .before .before .before .before .before .before .before .before .pre .1 .2) (sym (c .before .before .before .before .before .before .before .before .before .before .before .kind2 .given .1) ∙ c .before .before .before .before .before .before .before .before .before .before .before .before .before .part-at .ensures) (c .before .before .before .before .before .before .cached .ensures)
+
+head-same-length-10 : (t : ℕ) → head-lts.Need-same-length-10 (head-cs t) (head-at t) head.Post
+head-same-length-10 t c = c .before .before .before .before .before .before .many .kept .1 .1 .1 .1 .1 .1 .0
+
+head-same-length-11 : (t : ℕ) → head-lts.Need-same-length-11 (head-cs t) (head-at t) head.Post
+head-same-length-11 t c = c .before .before .before .before .before .before .many .kept .1 .1 .1 .1 .1 .1 .1 .0
 
 head-same-length-12 : (t : ℕ) → head-lts.Need-same-length-12 (head-cs t) (head-at t) head.Post
-head-same-length-12 t c = c .before .before .before .before .before .before .exec .kept .1 .1 .1 .1 .1 .1 .1 .0
-
-head-same-length-13 : (t : ℕ) → head-lts.Need-same-length-13 (head-cs t) (head-at t) head.Post
-head-same-length-13 t c = c .before .before .before .before .before .before .exec .kept .1 .1 .1 .1 .1 .1 .1 .1 .0
-
-head-same-length-14 : (t : ℕ) → head-lts.Need-same-length-14 (head-cs t) (head-at t) head.Post
-head-same-length-14 t c = c .before .before .before .before .before .before .exec .kept .1 .1 .1 .1 .1 .1 .1 .1 .1 .0
+head-same-length-12 t c = c .before .before .before .before .before .before .many .kept .1 .1 .1 .1 .1 .1 .1 .1 .0
 
 head-returns-5 : (t : ℕ) → head-lts.Need-returns-5 (head-cs t) (head-at t) head.Post
-head-returns-5 t c = c .before .before .before .before .before .before .exec .ensures
+head-returns-5 t c = is-row (c .before .before .before .before .before .before .before .before .before .before .before .before .before .before .before .before .before .before .before .before .before .args .d) (c .before .before .before .before .before .before .before .before .before .before .before .before .before .before .before .before .before .before .before .before .before .args .optional) (c .before .before .before .before .before .before .before .before .before .before .before .before .before .before .before .before .before .before .before .before .before .args .p) (c .before .before .before .before .before .before .before .before .before .before .before .before .before .before .before .before .before .before .before .before .before .pre .1 .2) (sym (c .before .before .before .before .before .before .before .before .before .before .before .q .given .1) ∙ c .before .before .before .before .before .before .before .before .before .before .before .before .before .part-at .ensures) (c .before .before .before .before .before .before .many .ensures)
+
+head-same-length-13 : (t : ℕ) → head-lts.Need-same-length-13 (head-cs t) (head-at t) head.Post
+head-same-length-13 t c = c .before .before .before .before .before .before .exec .kept .1 .1 .1 .1 .1 .1 .1 .0
+
+head-same-length-14 : (t : ℕ) → head-lts.Need-same-length-14 (head-cs t) (head-at t) head.Post
+head-same-length-14 t c = c .before .before .before .before .before .before .exec .kept .1 .1 .1 .1 .1 .1 .1 .1 .0
+
+head-same-length-15 : (t : ℕ) → head-lts.Need-same-length-15 (head-cs t) (head-at t) head.Post
+head-same-length-15 t c = c .before .before .before .before .before .before .exec .kept .1 .1 .1 .1 .1 .1 .1 .1 .1 .0
+
+head-returns-6 : (t : ℕ) → head-lts.Need-returns-6 (head-cs t) (head-at t) head.Post
+head-returns-6 t c = c .before .before .before .before .before .before .exec .ensures
 
 abbrev many-Inv-loop : many-lts.InvT-loop
 many-Inv-loop p s₀ d src ids ends events₀ errors₀ scratch₀ table n₀ s events errors scratch n = Turns (reads d true (prog p)) (source src ids ends) s₀ s n₀ n events₀ errors₀ scratch₀ events errors scratch
@@ -574,63 +612,66 @@ pub +cached+exec+head+many+node-spec : {M : Type 1} → statement M
     exec-μ-loop
     (exec-loop-holds t)
     (exec-part-at-requires t)
-    (exec-enum-known-which t)
-    (exec-step-requires t)
+    (exec-enum-known-set t)
+    (exec-label-requires t)
+    (exec-eat-requires t)
     (exec-same-length t)
     (exec-same-length-2 t)
     (exec-same-length-3 t)
     (exec-returns t)
-    (exec-enum-known-kind t)
-    (exec-node-requires t)
+    (exec-enum-known-which t)
+    (exec-step-requires t)
     (exec-same-length-4 t)
     (exec-same-length-5 t)
     (exec-same-length-6 t)
     (exec-returns-2 t)
-    (exec-enum-known-kind-2 t)
-    (exec-cached-requires t)
+    (exec-enum-known-kind t)
+    (exec-node-requires t)
     (exec-same-length-7 t)
     (exec-same-length-8 t)
     (exec-same-length-9 t)
     (exec-returns-3 t)
-    (exec-enum-known-p t)
-    (exec-many-requires t)
+    (exec-enum-known-kind-2 t)
+    (exec-cached-requires t)
     (exec-same-length-10 t)
     (exec-same-length-11 t)
     (exec-same-length-12 t)
     (exec-returns-4 t)
+    (exec-enum-known-p t)
+    (exec-many-requires t)
+    (exec-same-length-13 t)
+    (exec-same-length-14 t)
+    (exec-same-length-15 t)
+    (exec-returns-5 t)
     (exec-enum-known-p-2 t)
     (exec-head-requires t)
     (exec-loop-less t)
     (exec-loop-again t)
     (exec-enum-known-p-3 t)
-    (exec-same-length-13 t)
-    (exec-same-length-14 t)
-    (exec-same-length-15 t)
-    (exec-returns-5 t)
-    (exec-skip-trivia-requires t)
-    (exec-loop-less-2 t)
-    (exec-loop-again-2 t)
-    (exec-enum-known-set t)
-    (exec-sees-requires t)
-    (exec-step-requires-2 t)
     (exec-same-length-16 t)
     (exec-same-length-17 t)
     (exec-same-length-18 t)
     (exec-returns-6 t)
-    (exec-skip-trivia-requires-2 t)
-    (exec-loop-less-3 t)
-    (exec-loop-again-3 t)
-    (exec-enum-known-how t)
+    (exec-skip-trivia-requires t)
+    (exec-loop-less-2 t)
+    (exec-loop-again-2 t)
+    (exec-enum-known-set-2 t)
+    (exec-sees-requires t)
+    (exec-step-requires-2 t)
     (exec-same-length-19 t)
     (exec-same-length-20 t)
     (exec-same-length-21 t)
     (exec-returns-7 t)
-    (exec-skip-trivia-requires-3 t)
-    (exec-exec-requires t)
+    (exec-skip-trivia-requires-2 t)
+    (exec-loop-less-3 t)
+    (exec-loop-again-3 t)
+    (exec-enum-known-how t)
     (exec-same-length-22 t)
     (exec-same-length-23 t)
     (exec-same-length-24 t)
     (exec-returns-8 t)
+    (exec-skip-trivia-requires-3 t)
+    (exec-exec-requires t)
     (exec-same-length-25 t)
     (exec-same-length-26 t)
     (exec-same-length-27 t)
@@ -639,11 +680,18 @@ pub +cached+exec+head+many+node-spec : {M : Type 1} → statement M
     (exec-same-length-29 t)
     (exec-same-length-30 t)
     (exec-returns-10 t)
+    (exec-same-length-31 t)
+    (exec-same-length-32 t)
+    (exec-same-length-33 t)
+    (exec-returns-11 t)
     (exec-loop-less-4 t)
     (exec-loop-again-4 t))
     (λ t. head-lts.spec (head-cs t) (head-at t)
     head.Post
     (head-part-at-requires t)
+    (head-enum-known-set t)
+    (head-label-requires t)
+    (head-eat-requires t)
     (head-enum-known-which t)
     (head-step-requires t)
     (head-enum-known-kind t)
@@ -654,24 +702,26 @@ pub +cached+exec+head+many+node-spec : {M : Type 1} → statement M
     (head-many-requires t)
     (head-exec-requires t)
     (head-same-length t)
-    (head-same-length-2 t)
     (head-returns t)
+    (head-same-length-2 t)
     (head-same-length-3 t)
+    (head-returns-2 t)
     (head-same-length-4 t)
     (head-same-length-5 t)
-    (head-returns-2 t)
     (head-same-length-6 t)
+    (head-returns-3 t)
     (head-same-length-7 t)
     (head-same-length-8 t)
-    (head-returns-3 t)
     (head-same-length-9 t)
+    (head-returns-4 t)
     (head-same-length-10 t)
     (head-same-length-11 t)
-    (head-returns-4 t)
     (head-same-length-12 t)
+    (head-returns-5 t)
     (head-same-length-13 t)
     (head-same-length-14 t)
-    (head-returns-5 t))
+    (head-same-length-15 t)
+    (head-returns-6 t))
     (λ t. many-lts.spec (many-cs t) (many-at t)
     many.Post
     many-Inv-loop

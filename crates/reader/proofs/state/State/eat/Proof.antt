@@ -8,6 +8,7 @@ use Rattle.reader.specs.Means.{source}
 use Rattle.reader.specs.Did.{namesOf}
 use Rattle.reader.proofs.Sticky.{sticky}
 use Rattle.reader.proofs.Next.{next-hit, next-other, next-end}
+use Rattle.reader.proofs.Core.{put-of}
 use Rattle.reader.proofs.Eating.{not-okE, eat-misses, eat-takes}
 use borrow.Author.Needs.{needs}
 use Rattle.reader.proofs.state.State.eat.Statement.{statement}
@@ -18,8 +19,8 @@ use Rattle.kinds.proofs.matched.Reads as matched-reads
 use Rattle.reader.proofs.rows.peek.Reads as peek-reads
 use Rattle.reader.proofs.rows.start_of.Reads as start-of-reads
 use Rattle.reader.proofs.state.State.miss.Reads as miss-reads
-use Rattle.reader.proofs.state.State.put.Reads as put-reads
-use Rattle.reader.proofs.state.State.trivia.Reads as trivia-reads
+use Rattle.reader.proofs.state.skip_trivia.Reads as skip-trivia-reads
+use Rattle.reader.proofs.state.write.Reads as write-reads
 
 returns : tie.Need-returns
 returns c = λ bytes. not-okE (P.eat-at (setOf (c .before .before .before .before .before .args .set)) (namesOf (c .before .before .before .before .before .args .set) (c .before .before .before .before .before .args .label))) (λ p. sticky p (source bytes (c .before .before .before .before .before .args .ids .now) (c .before .before .before .before .before .args .ends .now)) .at-eat (setOf (c .before .before .before .before .before .args .set)) (namesOf (c .before .before .before .before .before .args .set) (c .before .before .before .before .before .args .label))) (c .before .before .before .before .before .pre .1) (c .before .before .before .before .before .pre .2) (c .if1 .taken)
@@ -54,8 +55,8 @@ miss-requires-2 c κs = (c .before .before .before .before .before .before .befo
 returns-3 : tie.Need-returns-3
 returns-3 c = λ bytes. eat-misses (setOf (c .before .before .before .before .before .before .before .before .before .before .before .before .args .set)) (namesOf (c .before .before .before .before .before .before .before .before .before .before .before .before .args .set) (c .before .before .before .before .before .before .before .before .before .before .before .before .args .label)) (c .before .before .before .before .before .before .before .if1 .left) P.Next.other (next-other (setOf (c .before .before .before .before .before .before .before .before .before .before .before .before .args .set)) (c .before .before .before .before .before .before .peek .ensures) (c .before .before .before .before .before .if2 .left) (sym (c .before .enum-told .given .1) ∙ c .before .before .before .matched .ensures)) (λ a. refl) (c .before .before .before .before .before .before .before .before .before .before .before .before .pre .2) (c .miss2 .ensures (source bytes (c .before .before .before .before .before .before .before .before .before .before .before .before .args .ids .now) (c .before .before .before .before .before .before .before .before .before .before .before .before .args .ends .now)) (c .before .before .before .before .before .before .before .before .before .before .before .before .pre .1) (c .before .before .before .before .before .before .peek .ensures))
 
-trivia-requires : tie.Need-trivia-requires
-trivia-requires c κs = (c .before .before .before .before .before .before .before .before .before .before .before .before .before .pre .0, c .before .before .before .before .before .before .before .before .before .before .before .before .before .pre .1, c .before .before .before .before .before .before .before .before .before .before .before .before .before .pre .2)
+skip-trivia-requires : tie.Need-skip-trivia-requires
+skip-trivia-requires c κs = (c .before .before .before .before .before .before .before .before .before .before .before .before .before .pre .0, c .before .before .before .before .before .before .before .before .before .before .before .before .before .pre .1 .2 .events, c .before .before .before .before .before .before .before .before .before .before .before .before .before .pre .2)
 
 start-of-requires : tie.Need-start-of-requires
 start-of-requires c κs = omega (arith, (c .before .before .before .before .before .before .before .before .before .before .before .before .before .before .before .before .pre .0 .level), c .before .before .before .before .before .before .before .before .before .if2 .left)
@@ -66,8 +67,8 @@ mul-end c = omega (arith, (c .before .before .before .before .before .before .be
 shared-slice-read-end : tie.Need-shared-slice-read-end
 shared-slice-read-end c = omega (arith, (c .before .before .before .before .before .before .before .before .before .before .before .before .before .before .before .before .before .before .pre .0 .level), c .before .before .before .before .before .before .before .before .before .before .before .if2 .left)
 
-put-requires : tie.Need-put-requires
-put-requires c κs = (c .before .before .before .before .before .trivia .ensures [] .ok .2 .events, c .before .before .before .before .before .trivia .ensures [] .fits)
+write-requires : tie.Need-write-requires
+write-requires c κs = ((c .before .before .before .before .before .skip-trivia .ensures [] (c .before .before .before .before .before .before .before .before .before .before .before .before .before .before .before .before .before .before .before .args .self) (c .before .before .before .before .before .before .before .before .before .before .before .before .before .before .if1 .left) (c .before .before .before .before .before .before .before .before .before .before .before .before .before .before .before .before .before .before .before .pre .1)) .ok .2 .events, (c .before .before .before .before .before .skip-trivia .ensures [] (c .before .before .before .before .before .before .before .before .before .before .before .before .before .before .before .before .before .before .before .args .self) (c .before .before .before .before .before .before .before .before .before .before .before .before .before .before .if1 .left) (c .before .before .before .before .before .before .before .before .before .before .before .before .before .before .before .before .before .before .before .pre .1)) .fits)
 
 add-self : tie.Need-add-self
 add-self c = omega (arith, c .before .before .before .before .before .before .before .before .before .before .before .before .before .before .before .before .before .before .before .before .before .before .pre .0 .few, c .before .before .before .before .before .before .before .before .before .before .before .before .before .before .before .if2 .left)
@@ -76,7 +77,7 @@ same-length : tie.Need-same-length
 same-length c = search needs
 
 returns-4 : tie.Need-returns-4
-returns-4 c = λ bytes. eat-takes (setOf (c .before .before .before .before .before .before .before .before .before .before .before .before .before .before .before .before .before .before .before .before .before .before .args .set)) (namesOf (c .before .before .before .before .before .before .before .before .before .before .before .before .before .before .before .before .before .before .before .before .before .before .args .set) (c .before .before .before .before .before .before .before .before .before .before .before .before .before .before .before .before .before .before .before .before .before .before .args .label)) (c .before .before .before .before .before .before .before .before .before .before .before .before .before .before .before .before .before .if1 .left) _ _ (c .before .before .before .before .before .start-of .result) (c .before .before .before .before .before .before .before .before .before .before .before .before .before .before .before .before .before .before .before .before .before .before .pre .0) (c .before .before .before .before .before .before .before .before .before .before .before .before .before .before .before .before .before .before .before .before .before .before .pre .1) (c .before .before .before .before .before .before .before .before .before .before .before .before .before .before .before .before .peek .ensures) (c .before .before .before .before .before .before .before .before .before .before .before .before .before .before .before .if2 .left) (next-hit (setOf (c .before .before .before .before .before .before .before .before .before .before .before .before .before .before .before .before .before .before .before .before .before .before .args .set)) (c .before .before .before .before .before .before .before .before .before .before .before .before .before .before .before .before .peek .ensures) _ (c .before .before .before .before .before .before .before .before .before .before .before .before .before .before .before .if2 .left) (sym (c .before .before .before .before .before .before .before .before .before .before .before .kind .given .1) ∙ c .before .before .before .before .before .before .before .before .before .before .before .before .before .matched .ensures)) (c .before .before .before .before .before .start-of .ensures) (c .before .before .before .before .before .before .before .before .trivia .ensures bytes) (c .before .before .put .ensures)
+returns-4 c = λ bytes. eat-takes (setOf (c .before .before .before .before .before .before .before .before .before .before .before .before .before .before .before .before .before .before .before .before .before .before .args .set)) (namesOf (c .before .before .before .before .before .before .before .before .before .before .before .before .before .before .before .before .before .before .before .before .before .before .args .set) (c .before .before .before .before .before .before .before .before .before .before .before .before .before .before .before .before .before .before .before .before .before .before .args .label)) (c .before .before .before .before .before .before .before .before .before .before .before .before .before .before .before .before .before .if1 .left) _ _ (c .before .before .before .before .before .start-of .result) (c .before .before .before .before .before .before .before .before .before .before .before .before .before .before .before .before .before .before .before .before .before .before .pre .0) (c .before .before .before .before .before .before .before .before .before .before .before .before .before .before .before .before .before .before .before .before .before .before .pre .1) (c .before .before .before .before .before .before .before .before .before .before .before .before .before .before .before .before .peek .ensures) (c .before .before .before .before .before .before .before .before .before .before .before .before .before .before .before .if2 .left) (next-hit (setOf (c .before .before .before .before .before .before .before .before .before .before .before .before .before .before .before .before .before .before .before .before .before .before .args .set)) (c .before .before .before .before .before .before .before .before .before .before .before .before .before .before .before .before .peek .ensures) _ (c .before .before .before .before .before .before .before .before .before .before .before .before .before .before .before .if2 .left) (sym (c .before .before .before .before .before .before .before .before .before .before .before .kind .given .1) ∙ c .before .before .before .before .before .before .before .before .before .before .before .before .before .matched .ensures)) (c .before .before .before .before .before .start-of .ensures) (c .before .before .before .before .before .before .before .before .skip-trivia .ensures bytes (c .before .before .before .before .before .before .before .before .before .before .before .before .before .before .before .before .before .before .before .before .before .before .args .self) (c .before .before .before .before .before .before .before .before .before .before .before .before .before .before .before .before .before .if1 .left) (c .before .before .before .before .before .before .before .before .before .before .before .before .before .before .before .before .before .before .before .before .before .before .pre .1)) (put-of _ (c .before .before .write .ensures))
 
 pub eat-spec : {M : Type 1} → statement M
 eat-spec =
@@ -93,11 +94,11 @@ eat-spec =
     enum-told
     miss-requires-2
     returns-3
-    trivia-requires
+    skip-trivia-requires
     start-of-requires
     mul-end
     shared-slice-read-end
-    put-requires
+    write-requires
     add-self
     same-length
     returns-4)
