@@ -37,8 +37,14 @@ fn work() {
         ["stack", kb, levels, words] => {
             let file = inputs::nested(&format!("{words} "), "1 ", "", levels.parse().expect("levels"));
             let size = kb.parse::<usize>().expect("KB") << 10;
-            let thread = thread::Builder::new().stack_size(size).spawn(move || Ours::new().read(&file).1.len());
-            println!("{} events", thread.unwrap().join().unwrap() / 4);
+            let reading = move || {
+                let mut ours = Ours::new();
+                ours.read(&file);
+                ours.answer
+            };
+            let thread = thread::Builder::new().stack_size(size).spawn(reading).unwrap();
+            let [outcome, _, events, _, left] = thread.join().unwrap();
+            println!("outcome {outcome}, {events} events, {left} fuel left");
         }
         _ => eprintln!("{USAGE}"),
     }

@@ -17,6 +17,8 @@ pub struct Ours {
     events: Vec<u32>,
     errors: Vec<u32>,
     merged: Vec<u32>,
+    /// What was answered last: outcome, rows covered, counts of events and error records, fuel left.
+    pub answer: [u32; 5],
 }
 
 impl Ours {
@@ -27,21 +29,22 @@ impl Ours {
             events: vec![1; events],
             errors: vec![1; error_room(MOST_ROWS)],
             merged: vec![1; events],
+            answer: [0; 5],
         }
     }
 
     /// Timed: the two calls. The merger is lent as much room as its list is long.
     pub fn read(&mut self, q: &Question) -> (Duration, &[u32]) {
         let rows = q.ids.len();
-        let (mut answer, mut count) = ([0; 5], 0);
+        let mut count = 0;
         let start = cpu();
         let lent = Lent {
             scratch: &mut self.scratch[..scratch_words(rows)],
             events: &mut self.events[..event_room(rows)],
             errors: &mut self.errors[..error_room(rows)],
         };
-        let refusal = read_into(q, lent, &mut answer);
-        let raw = &self.events[..4 * answer[2] as usize];
+        let refusal = read_into(q, lent, &mut self.answer);
+        let raw = &self.events[..4 * self.answer[2] as usize];
         let refusal_of_merge = merge_into(raw, &mut self.merged[..raw.len()], &mut count);
         let time = cpu() - start;
         assert_eq!((refusal, refusal_of_merge), (0, 0), "{rows} rows are refused");
