@@ -113,12 +113,16 @@ def row(place):
     return f"(sym ({{{place}}} .given .1) ∙ {{part-at}} .ensures)"
 
 
-def sound(place):
-    return f"row-sound {I} {IN} {row(place)}"
+def sound(place, at=f"{I} {IN}"):
+    return f"row-sound {at} {row(place)}"
+
+
+def is_row(place, did, at=f"{I} {IN}"):
+    return f"is-row {D} {O} {at} {row(place)} ({did})"
 
 
 def read(place, did):
-    return f"{INV} .go (is-row {D} {O} {I} {IN} {row(place)} ({did}))"
+    return f"{INV} .go ({is_row(place, did)})"
 
 
 def below(more, *facts):
@@ -181,35 +185,23 @@ EXEC = {
 }
 for k, (callee, place) in enumerate([("many", "p")]):
     EXEC.update({f"{callee}-requires": below(f"{INV} .wf, omega (arith, {sound(place)}, {IN})", sound(place)), **returns(5 + k, [callee], read(place, f"{{{callee}}} .ensures"))})
-P_, IN_P = "({args} .p)", "({pre} .1 .2)"
-
-
-def here_row(place):
-    return f"{P_} {IN_P} {row(place)}"
-
-
-def here_sound(place):
-    return f"row-sound {here_row(place)}"
-
-
-def here_read(place, callee):
-    return f"is-row {D} {O} {here_row(place)} ({{{callee}}} .ensures)"
-
-
+# a row of the table, at hand
+IN_P = "({pre} .1 .2)"
+AT_P = f"({{args}} .p) {IN_P}"
 HEAD = {
     "part-at-requires": f"({IN_P}, {LENT})",
-    "label-requires": here_sound("set"),
-    "eat-requires": f"asksX {FROM} {ROWS} (proper _ ({here_sound('set')}) ({{label}} .ensures))",
+    "label-requires": sound("set", AT_P),
+    "eat-requires": f"asksX {FROM} {ROWS} (proper _ ({sound('set', AT_P)}) ({{label}} .ensures))",
     **lengths(["eat"], 1),
-    "returns": f"is-eat {D} {O} {here_row('set')} ({{label}} .ensures) (plusE {FROM} ({{eat}} .ensures {S}))",
-    "step-requires": f"asksS {FROM} {ROWS} ({here_sound('which')})",
+    "returns": f"is-eat {D} {O} {AT_P} {row('set')} ({{label}} .ensures) (plusE {FROM} ({{eat}} .ensures {S}))",
+    "step-requires": f"asksS {FROM} {ROWS} ({sound('which', AT_P)})",
     **lengths(["step"], 2),
-    "returns-2": f"is-step {D} {O} {here_row('which')} ({here_sound('which')}) (plusB {FROM} ({{step}} .ensures))",
-    "node-requires": falls(FROM, f"node-line {here_row('kind')}"),
-    "cached-requires": falls(FROM, f"memo-line {here_row('kind2')}, {here_sound('kind2')} .0"),
-    "many-requires": falls(FROM, f"omega (arith, {here_sound('q')}, {IN_P})", here_sound("q")),
+    "returns-2": f"is-step {D} {O} {AT_P} {row('which')} ({sound('which', AT_P)}) (plusB {FROM} ({{step}} .ensures))",
+    "node-requires": falls(FROM, f"node-line {AT_P} {row('kind')}"),
+    "cached-requires": falls(FROM, f"memo-line {AT_P} {row('kind2')}, {sound('kind2', AT_P)} .0"),
+    "many-requires": falls(FROM, f"omega (arith, {sound('q', AT_P)}, {IN_P})", sound("q", AT_P)),
     "exec-requires": falls(FROM, IN_P),
 }
-for k, (callee, answer) in enumerate([("node", here_read("kind", "node")), ("cached", here_read("kind2", "cached")), ("many", here_read("q", "many")), ("exec", "{exec} .ensures")]):
+for k, (callee, answer) in enumerate([("node", is_row("kind", "{node} .ensures", AT_P)), ("cached", is_row("kind2", "{cached} .ensures", AT_P)), ("many", is_row("q", "{many} .ensures", AT_P)), ("exec", "{exec} .ensures")]):
     HEAD |= {**lengths([callee], 3 * k + 4), f"returns-{k + 3}": answer}
 ANSWERS = {"many": MANY, "node": NODE, "cached": CACHED, "exec": EXEC, "head": HEAD}
