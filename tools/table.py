@@ -1,9 +1,10 @@
 #!/usr/bin/env python3
 """table.py [--check]: writes the grammar's table, crates/grammar/src/table.rt and crates/grammar/specs/Rows.antt, from the lines below.
 
-A line is built of the module's combinators. A row of the table is a combinator and its two operands, which are a set and a name, a
-kind and the row of its line, or rows that stand before it: one number, in hexadecimal the combinator's digit and three digits for
-each operand. Parts that are the same share a row."""
+A line is built of the module's combinators. A row of the table is a combinator and up to three operands, which are a set and a name, a
+kind and the row of its line, or rows that stand before it: one number, in octal the combinator's digits and three digits for each
+operand. The third operand of a row, production, repetition, `not` or `recover` is the row of what follows it, 0 where nothing does, so
+row 0 is never read. Parts that are the same, with what follows them, share a row."""
 import re
 import sys
 from pathlib import Path
@@ -14,6 +15,7 @@ KIND = {n: int(v) for n, v in re.findall(r"pub const (\w+): u32 = (\d+);", (ROOT
 NAME = {n: int(v) for n, v in re.findall(r"pub const (\w+): u32 = (\d+);", (ROOT / "crates/kinds/src/name.rt").read_text())}
 OPS = ["Eat", "Unless", "Recover", "Node", "Memo", "Seq", "Then", "When", "Many", "Opt", "Last", "Alt"]
 IDS = 85
+FOLLOWED = ("Eat", "Unless", "Recover", "Node", "Memo", "Many")
 
 
 def eat(s, name=None):
@@ -122,24 +124,29 @@ LINES = [
     ("an item that begins with a rule keyword", seq(node("RULE_DECL"), recover("RULE_OR_IMPORT"))),
 ]
 
-rows, known, sections, lines = [], {}, [], {}
+END = ("Eat", 0, 0, 0)
+rows, known, sections, lines = [END], {}, [], {}
 
 
-def row(part):
-    """The part's row, which may be one that is there."""
+def row(part, then=0):
+    """The row of the part and the row of what follows it, which may be one that is there."""
     op, rest = part[0], part[1:]
+    if op == "Seq" and rest[0][0] in FOLLOWED:
+        return row(rest[0], row(rest[1]))
     if op in ("Node", "Memo"):
-        r = (op, "kind", rest[0])
+        r = (op, "kind", rest[0], then)
     elif op in ("Unless", "Recover"):
-        r = (op, SET[rest[0]], 0)
+        r = (op, SET[rest[0]], 0, then)
     elif op == "Eat":
-        r = (op, SET[rest[0]], NAME[rest[1]] if rest[1] else IDS)
+        r = (op, SET[rest[0]], NAME[rest[1]] if rest[1] else IDS, then)
+    elif op == "Many":
+        r = (op, row(rest[0]), 0, then)
     elif op == "When":
-        r = (op, SET[rest[0]], row(rest[1]))
+        r = (op, SET[rest[0]], row(rest[1]), 0)
     elif op in ("Seq", "Alt"):
-        r = (op, row(rest[0]), row(rest[1]))
+        r = (op, row(rest[0]), row(rest[1]), 0)
     else:
-        r = (op, row(rest[0]), 0)
+        r = (op, row(rest[0]), 0, 0)
     if r not in known:
         known[r] = len(rows)
         rows.append(r)
@@ -154,25 +161,24 @@ def numbered():
         lines[name] = root
         sections.append((comment, begin, len(rows)))
     out = []
-    for op, a, b in rows:
+    for op, a, b, then in rows:
         if a == "kind":
             a, b = KIND[b], lines[b]
-        out.append((OPS.index(op), a, b))
+        out.append((OPS.index(op), a, b, then))
     return out
 
 
-def packed(row):
-    op, first, second = row
-    return op << 24 | first << 12 | second
+def octal(row):
+    return "0o" + "_".join([f"{row[0]:o}"] + [f"{n:03o}" for n in row[1:]])
 
 
 def source(table):
-    out = ["// The grammar's lines as rows, in hexadecimal: a digit for the combinator, three for each of its two operands. Written by tools/table.py.\n"]
+    out = ["// The grammar's lines as rows, in octal: the combinator's number, then three digits for each of its operands. Row 0 is never read: as an operand it says\n// that nothing follows. Written by tools/table.py.\n"]
     out.append(f"// The row of an item that begins with a rule keyword.\npub const ITEM: usize = {lines['ITEM']};\n")
-    out.append(f"pub const ROWS: [u32; {len(table)}] = [")
+    out.append(f"pub const ROWS: [u32; {len(table)}] = [\n    {octal(table[0])},")
     for comment, begin, end in sections:
         out.append(f"    // {comment}")
-        out.extend(f"    0x{packed(row):07x}," for row in table[begin:end])
+        out.extend(f"    {octal(row)}," for row in table[begin:end])
     out.append("];")
     return "\n".join(out) + "\n"
 
@@ -182,7 +188,7 @@ def spec(table):
     head += "use Prim.Native.Nat.{ℕ}\nuse mathlib.Core.List.{List, [], _∷_}\n\n"
     head += f"-- how many there are, and the row of an item that begins with a rule keyword\nabbrev pub size : ℕ\nsize = {len(table)}\n\nabbrev pub item : ℕ\nitem = {lines['ITEM']}\n\n"
     head += "abbrev pub rows : List ℕ\nrows =\n"
-    return head + "\n".join(f"    {'' if i == 0 else '∷ '}{packed(row)}" for i, row in enumerate(table)) + "\n    ∷ []\n"
+    return head + "\n".join(f"    {'' if i == 0 else '∷ '}{octal(row)}" for i, row in enumerate(table)) + "\n    ∷ []\n"
 
 
 def main():

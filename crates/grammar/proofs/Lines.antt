@@ -1,6 +1,6 @@
 -- The table's rows: what the code makes of one, and what it stands for, by tests that antt computes over all rows. Assumes nothing.
-use Prim.Native.Nat.{ℕ, zero, suc, _+_, _/_, _%_, _≤_, _<_}
-use mathlib.Core.Path.{_≡_, refl, sym, ap, subst, _∙_}
+use Prim.Native.Nat.{ℕ, zero, suc, _+_, _-_, _/_, _%_, _≤_, _<_}
+use mathlib.Core.Path.{_≡_, refl, sym, ap, ap₂, subst, _∙_}
 use mathlib.Core.Bool.{Bool, true, false}
 use mathlib.Core.Logic.{_⊎_, inl, inr}
 use mathlib.Core.List.{List, [], _∷_}
@@ -33,7 +33,7 @@ use Rattle.grammar.specs.declared.parts.Part.{Part}
 use Rattle.grammar.specs.declared.parts.Part.the-variants.{Eat, Step, Node, Memo, Seq, Then, When, Many, Try}
 use Rattle.reader.proofs.Branch as branch
 use Rattle.grammar.specs.Rows.{rows, size, item}
-use Rattle.grammar.specs.Table.{Lent, rowOf, split, labelOf, stepOf, stepping, reads, made, partOf, production, progOf, prog, Line, Cached}
+use Rattle.grammar.specs.Table.{Lent, Row, rowOf, split, labelOf, stepOf, stepping, reads, follows, followed, made, partOf, production, progOf, prog, Line, Cached}
 
 -- the code's rows are the definition's
 pub rows-lent : Lent rows
@@ -43,21 +43,24 @@ rows-lent = record { long = refl; row = λ i. refl }
 -- a row by its combinator and operands
 module _ (i : ℕ) {r : ℕ} (e : r ≡ rowOf i) where
   abbrev first : ℕ
-  first = r / 4096 % 4096
+  first = r / 0o1_000_000 % 0o1_000
 
   abbrev second : ℕ
-  second = r % 4096
+  second = r / 0o1_000 % 0o1_000
+
+  abbrev third : ℕ
+  third = r % 0o1_000
 
   whole : split r ≡ partOf i
   unfolding partOf
   whole = ap split e
 
-  pub row-of : (m : ℕ) → r / 16777216 ≡ m → made m first second ≡ partOf i
-  row-of m h = sym (ap (λ (c : ℕ). made c first second) h) ∙ whole
+  pub row-of : (m : ℕ) → r / 0o1_000_000_000 ≡ m → made m first second third ≡ partOf i
+  row-of m h = sym (ap (λ (c : ℕ). made c first second third) h) ∙ whole
 
-  pub row-else : 9 ≤ r / 16777216 → Try (r / 16777216) first second ≡ partOf i
+  pub row-else : 9 ≤ r / 0o1_000_000_000 → Try (r / 0o1_000_000_000) first second ≡ partOf i
   row-else h =
-      sym (List·getD-eq-default (Eat first second ∷ Step 1 first ∷ Step 2 first ∷ Node first second ∷ Memo first second ∷ Seq first second ∷ Then first ∷ When first second ∷ Many first ∷ []) (Try (r / 16777216) first second) h)
+      sym (List·getD-eq-default (Eat first second third ∷ Step 1 first third ∷ Step 2 first third ∷ Node first second third ∷ Memo first second third ∷ Seq first second ∷ Then first ∷ When first second ∷ Many first third ∷ []) (Try (r / 0o1_000_000_000) first second) h)
       ∙ whole
 
 -- a number that is none of those before
@@ -96,35 +99,42 @@ abbrev pub either : Bool → Bool → Bool
 either true b = true
 either false b = b
 
--- the rows that a row names stand before it; a name is one, a production's kind and line belong together
+-- the rows that a row names stand before it, and but for what follows they are read; a name is one, a production's kind and line belong together
 abbrev pub sound : ℕ → Part → Bool
-sound i (Eat s n) = ltb n 86
-sound i (Step n s) = ltb n 3
-sound i (Node a j) = both (eqb (kind (production a)) a) (ltb j size)
-sound i (Memo a j) = both (either (eqb a k.EXPR) (eqb a k.TERM)) (both (eqb (kind (production a)) a) (ltb j size))
-sound i (Seq j h) = both (ltb j i) (ltb h i)
-sound i (Then j) = ltb j i
-sound i (When s j) = ltb j i
-sound i (Many j) = ltb j i
-sound i (Try n j h) = both (ltb j i) (ltb h i)
+sound i (Eat s n j) = both (ltb n 86) (ltb j i)
+sound i (Step n s j) = both (ltb n 3) (ltb j i)
+sound i (Node a l j) = both (eqb (kind (production a)) a) (both (both (ltb 0 l) (ltb l size)) (ltb j i))
+sound i (Memo a l j) = both (either (eqb a k.EXPR) (eqb a k.TERM)) (both (eqb (kind (production a)) a) (both (both (ltb 0 l) (ltb l size)) (ltb j i)))
+sound i (Seq j h) = both (both (ltb 0 j) (ltb j i)) (both (ltb 0 h) (ltb h i))
+sound i (Then j) = both (ltb 0 j) (ltb j i)
+sound i (When s j) = both (ltb 0 j) (ltb j i)
+sound i (Many j h) = both (both (ltb 0 j) (ltb j i)) (ltb h i)
+sound i (Try n j h) = both (both (ltb 0 j) (ltb j i)) (either (eqb n 9) (either (eqb n 10) (both (ltb 0 h) (ltb h i))))
 
-tested : all (λ i. sound i (partOf i)) size ≡ true
+tested : all (λ i. sound (suc i) (partOf (suc i))) (size - 1) ≡ true
 unfolding prog partOf rowOf production productions kind
 tested = refl
 
+-- a row before another
+abbrev pub Before : ℕ → ℕ → Type 0
+Before j i = (0 < j) × (j < i)
+
 abbrev pub Sound : ℕ → Part → Type 0
-Sound i (Eat s n) = n < 86
-Sound i (Step n s) = n < 3
-Sound i (Node a j) = (kind (production a) ≡ a) × (j < size)
-Sound i (Memo a j) = Cached a × (kind (production a) ≡ a) × (j < size)
-Sound i (Seq j h) = (j < i) × (h < i)
-Sound i (Then j) = j < i
-Sound i (When s j) = j < i
-Sound i (Many j) = j < i
-Sound i (Try n j h) = (j < i) × (h < i)
+Sound i (Eat s n j) = (n < 86) × (j < i)
+Sound i (Step n s j) = (n < 3) × (j < i)
+Sound i (Node a l j) = (kind (production a) ≡ a) × Row l × (j < i)
+Sound i (Memo a l j) = Cached a × (kind (production a) ≡ a) × Row l × (j < i)
+Sound i (Seq j h) = Before j i × Before h i
+Sound i (Then j) = Before j i
+Sound i (When s j) = Before j i
+Sound i (Many j h) = Before j i × (h < i)
+Sound i (Try n j h) = Before j i × ((n ≡ 9 → ⊥) → (n ≡ 10 → ⊥) → Before h i)
 
 two-facts : {A B : Type 0} {a b : Bool} → (a ≡ true → A) → (b ≡ true → B) → both a b ≡ true → A × B
 two-facts {A} {B} {a} {b} f g t = (f (both-left a b t), g (both-right a b t))
+
+three-facts : {A B C : Type 0} {a b c : Bool} → (a ≡ true → A) → (b ≡ true → B) → (c ≡ true → C) → both a (both b c) ≡ true → A × B × C
+three-facts {A} {B} {C} {a} {b} {c} f g h t = let q = both-right a (both b c) t in (f (both-left a (both b c) t), g (both-left b c q), h (both-right b c q))
 
 cached : (a : ℕ) → either (eqb a k.EXPR) (eqb a k.TERM) ≡ true → Cached a
 cached a t = go (ℕ-discrete a k.EXPR)
@@ -133,30 +143,37 @@ cached a t = go (ℕ-discrete a k.EXPR)
     go (yes q) = inl q
     go (no q) = inr (eqb-true a k.TERM (sym (ap (λ (c : Bool). either c (eqb a k.TERM)) (ne-eqb a k.EXPR q)) ∙ t))
 
-sound-so : (i : ℕ) (p : Part) → sound i p ≡ true → Sound i p
-sound-so i (Eat s n) t = ltb-true n 86 t
-sound-so i (Step n s) t = ltb-true n 3 t
-sound-so i (Node a j) t = two-facts (eqb-true _ a) (ltb-true j size) t
-sound-so i (Memo a j) t = let q = both-right (either (eqb a k.EXPR) (eqb a k.TERM)) _ t in (cached a (both-left (either (eqb a k.EXPR) (eqb a k.TERM)) _ t), eqb-true _ a (both-left (eqb (kind (production a)) a) _ q), ltb-true j size (both-right (eqb (kind (production a)) a) _ q))
-sound-so i (Seq j h) t = two-facts (ltb-true j i) (ltb-true h i) t
-sound-so i (Then j) t = ltb-true j i t
-sound-so i (When s j) t = ltb-true j i t
-sound-so i (Many j) t = ltb-true j i t
-sound-so i (Try n j h) t = two-facts (ltb-true j i) (ltb-true h i) t
+between : (a j i : ℕ) → both (ltb a j) (ltb j i) ≡ true → (a < j) × (j < i)
+between a j i t = two-facts (ltb-true a j) (ltb-true j i) t
 
-pub row-sound : (i : ℕ) → i < size → {p : Part} → p ≡ partOf i → Sound i p
-row-sound i h {p} e = sound-so i p (ap (sound i) e ∙ all-sound (λ j. sound j (partOf j)) size tested i h)
+others-real : (n h i : ℕ) → either (eqb n 9) (either (eqb n 10) (both (ltb 0 h) (ltb h i))) ≡ true → (n ≡ 9 → ⊥) → (n ≡ 10 → ⊥) → Before h i
+others-real n h i t a b = between 0 h i (sym (ap₂ (λ (c d : Bool). either c (either d (both (ltb 0 h) (ltb h i)))) (ne-eqb n 9 a) (ne-eqb n 10 b)) ∙ t)
+
+sound-so : (i : ℕ) (p : Part) → sound i p ≡ true → Sound i p
+sound-so i (Eat s n j) t = two-facts (ltb-true n 86) (ltb-true j i) t
+sound-so i (Step n s j) t = two-facts (ltb-true n 3) (ltb-true j i) t
+sound-so i (Node a l j) t = three-facts (eqb-true _ a) (between 0 l size) (ltb-true j i) t
+sound-so i (Memo a l j) t = let u = two-facts (cached a) (three-facts (eqb-true (kind (production a)) a) (between 0 l size) (ltb-true j i)) t in (u .0, u .1 .0, u .1 .1, u .1 .2)
+sound-so i (Seq j h) t = two-facts (between 0 j i) (between 0 h i) t
+sound-so i (Then j) t = between 0 j i t
+sound-so i (When s j) t = between 0 j i t
+sound-so i (Many j h) t = two-facts (between 0 j i) (ltb-true h i) t
+sound-so i (Try n j h) t = two-facts (between 0 j i) (others-real n h i) t
+
+pub row-sound : (i : ℕ) → Row i → {p : Part} → p ≡ partOf i → Sound i p
+row-sound zero r e = absurd (omega (arith, r .0))
+row-sound (suc i) r {p} e = sound-so (suc i) p (ap (sound (suc i)) e ∙ all-sound (λ j. sound (suc j) (partOf (suc j))) (size - 1) tested i (omega (arith, r .1)))
 
 -- a function of the kind and the line that a row names
 abbrev called : (ℕ → ℕ → Prog) → Part → Prog
-called f (Eat s n) = prog 0
-called f (Step n s) = prog 0
-called f (Node a j) = f a j
-called f (Memo a j) = f a j
+called f (Eat s n j) = prog 0
+called f (Step n s j) = prog 0
+called f (Node a l j) = f a l
+called f (Memo a l j) = f a l
 called f (Seq j h) = prog 0
 called f (Then j) = prog 0
 called f (When s j) = prog 0
-called f (Many j) = prog 0
+called f (Many j h) = prog 0
 called f (Try n j h) = prog 0
 
 abbrev lineOf : Part → Prog
@@ -177,12 +194,12 @@ module _ (i : ℕ) (h : i < size) {p : Part} (e : p ≡ partOf i) where
   its-line : lineOf p ≡ wanted p
   its-line = ap lineOf e ∙ same-at (λ j. lineOf (partOf j)) (λ j. wanted (partOf j)) size lined i h ∙ sym (ap wanted e)
 
-module _ (i : ℕ) (h : i < size) {a j : ℕ} where
-  pub node-line : Node a j ≡ partOf i → Line a j
-  node-line e = let t = row-sound i h e in record { known = t .0; line = its-line i h e; inside = t .1 }
+module _ (i : ℕ) (r : Row i) {a l j : ℕ} where
+  pub node-line : Node a l j ≡ partOf i → Line a l
+  node-line e = let t = row-sound i r e in record { known = t .0; line = its-line i (r .1) e; inside = t .1 }
 
-  pub memo-line : Memo a j ≡ partOf i → Line a j
-  memo-line e = let t = row-sound i h e in record { known = t .1; line = its-line i h e; inside = t .2 }
+  pub memo-line : Memo a l j ≡ partOf i → Line a l
+  memo-line e = let t = row-sound i r e in record { known = t .1; line = its-line i (r .1) e; inside = t .2 }
 
 module _ (d : ℕ) (o : Bool) {x : Source} {s r : State} {b b′ : Bufs} where
   -- a row reads what it stands for
@@ -192,9 +209,6 @@ module _ (d : ℕ) (o : Bool) {x : Source} {s r : State} {b b′ : Bufs} where
   -- a production's row reads its line
   pub is-line : {a j : ℕ} → Line a j → Did (reads d o (prog j)) x s r b b′ → Did (reads d o (grammar (production a))) x s r b b′
   is-line l y = subst (λ (q : Prog). Did (reads d o q) x s r b b′) (l .line) y
-
-  pub is-eat : (i : ℕ) → i < size → {n m : ℕ} → Eat n m ≡ partOf i → {l : Label} → l ≡ labelOf m → Did (P.eats (setOf n) (namesOf n l)) x s r b b′ → Did (reads d o (prog i)) x s r b b′
-  is-eat i h {n} e {l} f y = is-row i h e (subst (λ (q : Label). Did (P.eats (setOf n) (namesOf n q)) x s r b b′) f y)
 
   -- `not`, `recover` or an `if_next` that is passed over, by which it is
   module _ (n c : ℕ) where
@@ -210,9 +224,8 @@ module _ (d : ℕ) (o : Bool) {x : Source} {s r : State} {b b′ : Bufs} where
     pub is-recover : (n ≡ 1 → ⊥) → n < 3 → Did (P.recovery d o (setOf c)) x s r b b′ → Did (stepping d o n c) x s r b b′
     is-recover f h y = none-passed h (subst (λ (t : Bool). Did (reads d o (ifb t (G.unless (setOf c)) (G.recover (setOf c)))) x s r b b′) (sym (ne-eqb n 1 f)) y)
 
-  pub is-step : (i : ℕ) → i < size → {n c : ℕ} → Step n c ≡ partOf i → n < 3 → Did (stepping d o n c) x s r b b′ → Did (reads d o (prog i)) x s r b b′
-  is-step i h {n} {c} e k y =
-      is-row i h e (subst (λ (t : Bool). Did (ifb t (P.branches (setOf c) (λ a. a)) (reads d o (stepOf n c))) x s r b b′) (ne-eqb n 3 (λ i. omega (arith, k, i))) y)
+    pub is-step : n < 3 → Did (stepping d o n c) x s r b b′ → Did (reads d o (stepOf n c)) x s r b b′
+    is-step k y = subst (λ (t : Bool). Did (ifb t (P.branches (setOf c) (λ a. a)) (reads d o (stepOf n c))) x s r b b′) (ne-eqb n 3 (λ i. omega (arith, k, i))) y
 
 pub proper : (n : ℕ) → n < 86 → {l : Label} → l ≡ labelOf n → Proper l
 proper n h {l} e = subst (λ (q : Label). Proper q) (sym e) (go (ℕ-discrete n 85))
@@ -230,9 +243,29 @@ pub is-item : {x : Source} {s r : State} {b b′ : Bufs} → Did (reads (limits 
 unfolding P.read-rule
 is-item {x} {s} {r} {b} {b′} y = subst (λ (q : Prog). Did (reads (limits .depth) false q) x s r b b′) item-stands y
 
--- a part whose end is read in the loop's next turn: s is where the state i₀ s₀ has come to, and whatever reads row i from there has read row i₀
+-- what is left of a line
+module _ (d : ℕ) (o : Bool) {x : Source} {s z : State} {b b₂ : Bufs} where
+  pub row-follows : (i : ℕ) → 0 < i → Did (reads d o (prog i)) x s z b b₂ → Did (follows d o i) x s z b b₂
+  row-follows i h y = subst (λ (c : Bool). Did (ifb c (λ a. a) (reads d o (prog i))) x s z b b₂) (sym (ne-eqb i 0 (λ e. omega (arith, h, e)))) y
+
+  pub follows-row : (i : ℕ) → 0 < i → Did (follows d o i) x s z b b₂ → Did (reads d o (prog i)) x s z b b₂
+  follows-row i h y = subst (λ (c : Bool). Did (ifb c (λ a. a) (reads d o (prog i))) x s z b b₂) (ne-eqb i 0 (λ e. omega (arith, h, e))) y
+
+  -- a row is read, and what follows it
+  pub row-goes : (i : ℕ) → i < size → {p : Part} → p ≡ partOf i → (k : ℕ) (q : Prog) → progOf prog p ≡ followed prog k q → {r : State} {b′ : Bufs} → Did (reads d o q) x s r b b′ → Did (follows d o k) x r z b′ b₂ → Did (reads d o (prog i)) x s z b b₂
+  row-goes i h e k q f {r} {b′} y w = subst (λ (p : Prog). Did (reads d o p) x s z b b₂) (sym (stands-for i h e ∙ f)) (by (eqb k 0) w)
+    where
+      by : (c : Bool) → Did (ifb c (λ a. a) (reads d o (prog k))) x r z b′ b₂ → Did (reads d o (ifb c q (G._⨟_ q (prog k)))) x s z b b₂
+      by true w = core.then y w
+      by false w = core.then y w
+
+-- row i is read from s on once the rest of the line, from row k on, is read where the part came to
+abbrev pub Left : ℕ → Bool → Source → State → Bufs → ℕ → ℕ → State → Bufs → Type 0
+Left d o x s b₀ i k r b′ = (z : State) (b : Bufs) → Did (follows d o k) x r z b′ b → Did (reads d o (prog i)) x s z b₀ b
+
+-- in the loop: s is where the state i₀ s₀ has come to, and whatever reads the rest of the line from row i on has read row i₀
 pub record Going (d : ℕ) (o : Bool) (x : Source) (i₀ : ℕ) (s₀ : State) (ev₀ er₀ sc₀ : List ℕ) (i : ℕ) (s : State) (ev er sc : List ℕ) : Type 0 where
-  pub go : {z : State} {b : Bufs} → Did (reads d o (prog i)) x s z (bufs ev er sc) b → Did (reads d o (prog i₀)) x s₀ z (bufs ev₀ er₀ sc₀) b
+  pub go : {z : State} {b : Bufs} → Did (follows d o i) x s z (bufs ev er sc) b → Did (reads d o (prog i₀)) x s₀ z (bufs ev₀ er₀ sc₀) b
   pub wf : Wf x (bufs ev er sc) s
   pub inside : i < size
   pub below : i ≤ i₀
@@ -240,13 +273,23 @@ pub record Going (d : ℕ) (o : Bool) (x : Source) (i₀ : ℕ) (s₀ : State) (
   pub errors : length er ≡ length er₀
   pub scratch : length sc ≡ length sc₀
 
-pub going : (d : ℕ) (o : Bool) {x : Source} (i : ℕ) {s : State} (ev er sc : List ℕ) → Wf x (bufs ev er sc) s → i < size → Going d o x i s ev er sc i s ev er sc
-going d o i ev er sc w h = record { go = λ y. y; wf = w; inside = h; below = le-refl i; events = refl; errors = refl; scratch = refl }
+pub going : (d : ℕ) (o : Bool) {x : Source} (i : ℕ) {s : State} (ev er sc : List ℕ) → Wf x (bufs ev er sc) s → Row i → Going d o x i s ev er sc i s ev er sc
+going d o i ev er sc w h = record { go = λ y. follows-row d o i (h .0) y; wf = w; inside = h .1; below = le-refl i; events = refl; errors = refl; scratch = refl }
 
-pub goes-on : {d : ℕ} {o : Bool} {x : Source} {i₀ i j : ℕ} {s₀ s r : State} {ev₀ er₀ sc₀ ev er sc ev′ er′ sc′ : List ℕ} → Going d o x i₀ s₀ ev₀ er₀ sc₀ i s ev er sc → Wf x (bufs ev′ er′ sc′) r → j < i →
-    ((z : State) (b : Bufs) → Did (reads d o (prog j)) x r z (bufs ev′ er′ sc′) b → Did (reads d o (prog i)) x s z (bufs ev er sc) b) → length ev′ ≡ length ev → length er′ ≡ length er → length sc′ ≡ length sc → Going d o x i₀ s₀ ev₀ er₀ sc₀ j r ev′ er′ sc′
-goes-on g w h f k l m =
-    record { go = λ y. g .go (f _ _ y); wf = w; inside = omega (arith, h, g .inside); below = omega (arith, h, g .below); events = k ∙ g .events; errors = l ∙ g .errors; scratch = m ∙ g .scratch }
+module _ {d : ℕ} {o : Bool} {x : Source} {i₀ i : ℕ} {s₀ s : State} {ev₀ er₀ sc₀ ev er sc : List ℕ} (g : Going d o x i₀ s₀ ev₀ er₀ sc₀ i s ev er sc) where
+  -- the line ends early, at row i
+  pub ends-at : 0 < i → {z : State} {b : Bufs} → Did (reads d o (prog i)) x s z (bufs ev er sc) b → Did (reads d o (prog i₀)) x s₀ z (bufs ev₀ er₀ sc₀) b
+  ends-at h y = g .go (row-follows d o i h y)
+
+  -- nothing follows
+  pub ends : i ≤ 0 → Did (reads d o (prog i₀)) x s₀ s (bufs ev₀ er₀ sc₀) (bufs ev er sc)
+  ends h = g .go (subst (λ (c : Bool). Did (ifb c (λ a. a) (reads d o (prog i))) x s s (bufs ev er sc) (bufs ev er sc)) (sym (eq-eqb i 0 (omega (arith, h)))) (from x s ev er sc (g .wf)))
+
+  -- the rest of the line is read from row j on
+  pub goes-on : 0 < i → {j : ℕ} {r : State} {ev′ er′ sc′ : List ℕ} → Wf x (bufs ev′ er′ sc′) r → j < i → ((z : State) (b : Bufs) → Did (follows d o j) x r z (bufs ev′ er′ sc′) b → Did (reads d o (prog i)) x s z (bufs ev er sc) b)
+      → length ev′ ≡ length ev → length er′ ≡ length er → length sc′ ≡ length sc → Going d o x i₀ s₀ ev₀ er₀ sc₀ j r ev′ er′ sc′
+  goes-on a w h f k l m =
+      record { go = λ y. ends-at a (f _ _ y); wf = w; inside = omega (arith, h, g .inside); below = omega (arith, h, g .below); events = k ∙ g .events; errors = l ∙ g .errors; scratch = m ∙ g .scratch }
 
 -- a row that was seen was seen in good order
 pub when-good : (ids : List ℕ) (s : State) (i : ℕ) {S p : ℕ} → When S p ≡ partOf i → {v : Bool} → v ≡ ahead (setOf S) ids s → v ≡ true → s .mode ≡ 0
@@ -256,20 +299,43 @@ module _ (d : ℕ) (o : Bool) (i : ℕ) (h : i < size) {x : Source} {s : State} 
   still : Did (λ a. a) x s s (bufs ev er sc) (bufs ev er sc)
   still = from x s ev er sc w
 
-  pub seq-goes : {p q : ℕ} → Seq p q ≡ partOf i → {r z : State} {b b′ : Bufs} → Did (reads d o (prog p)) x s r (bufs ev er sc) b → Did (reads d o (prog q)) x r z b b′ → Did (reads d o (prog i)) x s z (bufs ev er sc) b′
-  seq-goes e y z = is-row d o i h e (core.then y z)
+  pub eat-idle : {n m k : ℕ} → Eat n m k ≡ partOf i → (s .mode ≡ 0 → ⊥) → Left d o x s (bufs ev er sc) i k s (bufs ev er sc)
+  eat-idle {n} {m} {k} e q z c y = row-goes d o i h e k (G.eat (setOf n) (namesOf n (labelOf m))) refl (stops still d o (G.eat (setOf n) (namesOf n (labelOf m))) tt q) y
+
+  pub eat-goes : {n m k : ℕ} → Eat n m k ≡ partOf i → {r : State} {ev′ : List ℕ} → ((N : List ℕ) → Events (P.eats (setOf n) N) x s r ev ev′) → Left d o x s (bufs ev er sc) i k r (bufs ev′ er sc)
+  eat-goes {n} {m} {k} e f z c y = row-goes d o i h e k (G.eat (setOf n) (namesOf n (labelOf m))) refl (plusE still (f (namesOf n (labelOf m)))) y
+
+  pub eat-fails : {n m k : ℕ} → Eat n m k ≡ partOf i → (l : Label) → l ≡ labelOf m → {r : State} {ev′ : List ℕ} → Events (P.eats (setOf n) (namesOf n l)) x s r ev ev′ → Left d o x s (bufs ev er sc) i k r (bufs ev′ er sc)
+  eat-fails {n} {m} {k} e l f {r} {ev′} v z c y =
+      row-goes d o i h e k (G.eat (setOf n) (namesOf n (labelOf m))) refl (plusE still (subst (λ (q : Label). Events (P.eats (setOf n) (namesOf n q)) x s r ev ev′) f v)) y
+
+  module _ {r : State} {b′ : Bufs} where
+    pub step-goes : {n c k : ℕ} → Step n c k ≡ partOf i → n < 3 → Did (stepping d o n c) x s r (bufs ev er sc) b′ → Left d o x s (bufs ev er sc) i k r b′
+    step-goes {n} {c} {k} e q v z u y = row-goes d o i h e k (stepOf n c) refl (is-step d o n c q v) y
+
+    pub node-goes : {a l k : ℕ} → Node a l k ≡ partOf i → Did (P.run d o (production a)) x s r (bufs ev er sc) b′ → Left d o x s (bufs ev er sc) i k r b′
+    node-goes {a} {l} {k} e v z c y = row-goes d o i h e k (G.node (production a)) refl v y
+
+    pub memo-goes : {a l k : ℕ} → Memo a l k ≡ partOf i → Did (P.memos (kind (production a)) (P.run d o (production a))) x s r (bufs ev er sc) b′ → Left d o x s (bufs ev er sc) i k r b′
+    memo-goes {a} {l} {k} e v z c y = row-goes d o i h e k (G.memo (production a)) refl v y
+
+    pub many-goes : {p k : ℕ} → Many p k ≡ partOf i → Did (reads d true (G.many (prog p))) x s r (bufs ev er sc) b′ → Left d o x s (bufs ev er sc) i k r b′
+    many-goes {p} {k} e v z c y = row-goes d o i h e k (G.many (prog p)) refl v y
+
+    pub seq-goes : {p q : ℕ} → Seq p q ≡ partOf i → 0 < q → Did (reads d o (prog p)) x s r (bufs ev er sc) b′ → Left d o x s (bufs ev er sc) i q r b′
+    seq-goes {p} {q} e f v z c y = is-row d o i h e (core.then v (follows-row d o q f y))
 
   pub then-stops : {p : ℕ} → Then p ≡ partOf i → (s .mode ≡ 0 → ⊥) → Did (reads d o (prog i)) x s s (bufs ev er sc) (bufs ev er sc)
   then-stops {p} e n = is-row d o i h e (stops still d o (G.then (prog p)) tt n)
 
-  pub then-goes : {p : ℕ} → Then p ≡ partOf i → s .mode ≡ 0 → {r z : State} {ev′ : List ℕ} {b : Bufs} → Events P.trivia x s r ev ev′ → Did (reads d o (prog p)) x r z (bufs ev′ er sc) b → Did (reads d o (prog i)) x s z (bufs ev er sc) b
-  then-goes {p} e good t y = is-row d o i h e (thence still d o (prog p) good (plus (plusE still t) y))
+  pub then-goes : {p : ℕ} → Then p ≡ partOf i → 0 < p → s .mode ≡ 0 → {r : State} {ev′ : List ℕ} → Events P.trivia x s r ev ev′ → Left d o x s (bufs ev er sc) i p r (bufs ev′ er sc)
+  then-goes {p} e f good t z c y = is-row d o i h e (thence still d o (prog p) good (plus (plusE still t) (follows-row d o p f y)))
 
   pub when-passes : {S p : ℕ} → When S p ≡ partOf i → {v : Bool} → v ≡ ahead (setOf S) (x .ids) s → v ≡ false → {q : State} {b : Bufs} → Did (P.branches (setOf S) (λ a. a)) x s q (bufs ev er sc) b → Did (reads d o (prog i)) x s q (bufs ev er sc) b
   when-passes {S} {p} e sees n y = is-row d o i h e (passes still d o (setOf S) (prog p) sees n y)
 
-  pub when-goes : {S p : ℕ} → When S p ≡ partOf i → {v : Bool} → v ≡ ahead (setOf S) (x .ids) s → v ≡ true → {r z : State} {ev′ : List ℕ} {b : Bufs} → Events P.trivia x s r ev ev′ → Did (reads d o (prog p)) x r z (bufs ev′ er sc) b → Did (reads d o (prog i)) x s z (bufs ev er sc) b
-  when-goes {S} {p} e sees n t y = is-row d o i h e (enters still d o (setOf S) (prog p) sees n (plus (plusE still t) y))
+  pub when-goes : {S p : ℕ} → When S p ≡ partOf i → 0 < p → {v : Bool} → v ≡ ahead (setOf S) (x .ids) s → v ≡ true → {r : State} {ev′ : List ℕ} → Events P.trivia x s r ev ev′ → Left d o x s (bufs ev er sc) i p r (bufs ev′ er sc)
+  when-goes {S} {p} e f sees n t z c y = is-row d o i h e (enters still d o (setOf S) (prog p) sees n (plus (plusE still t) (follows-row d o p f y)))
 
   -- alternatives: by how they go on where the first fails
   module _ {n p q : ℕ} (e : Try n p q ≡ partOf i) where
@@ -313,5 +379,5 @@ module _ (d : ℕ) (o : Bool) (i : ℕ) (h : i < size) {x : Source} {s : State} 
       pub others : r .mode ≡ 1 → {z : State} → z ≡ withMode 0 (gone m r) → Tries (λ a. reads d o (G._/_ (prog p) (prog q)) a) d o (prog q) x s z m (bufs ev er sc) b
       others k f = again (tries d o (G._/_ (prog p) (prog q)) still good mark) y k f
 
-      pub try-others : (n ≡ 9 → ⊥) → (n ≡ 10 → ⊥) → (k : r .mode ≡ 1) → {z z′ : State} {b′ : Bufs} → z ≡ withMode 0 (gone m r) → Did (reads d o (prog q)) x z z′ b b′ → Did (reads d o (prog i)) x s z′ (bufs ev er sc) b′
-      try-others j l k f w = as-alt j l (others k f .go w)
+      pub try-others : (n ≡ 9 → ⊥) → (n ≡ 10 → ⊥) → 0 < q → (k : r .mode ≡ 1) → {z : State} → z ≡ withMode 0 (gone m r) → Left d o x s (bufs ev er sc) i q z b
+      try-others j l g k f z c w = as-alt j l (others k f .go (follows-row d o q g w))

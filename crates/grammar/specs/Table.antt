@@ -21,10 +21,10 @@ use Rattle.grammar.specs.declared.parts.Part.{Part}
 use Rattle.grammar.specs.declared.parts.Part.the-variants.{Eat, Step, Node, Memo, Seq, Then, When, Many, Try}
 use Rattle.grammar.specs.Rows.{rows, size}
 
--- the combinator's number and its two operands
-abbrev pub made : ℕ → ℕ → ℕ → Part
-made n a b =
-    getD (Eat a b ∷ Step 1 a ∷ Step 2 a ∷ Node a b ∷ Memo a b ∷ Seq a b ∷ Then a ∷ When a b ∷ Many a ∷ []) n (Try n a b)
+-- the combinator's number and its operands
+abbrev pub made : ℕ → ℕ → ℕ → ℕ → Part
+made n a b c =
+    getD (Eat a b c ∷ Step 1 a c ∷ Step 2 a c ∷ Node a b c ∷ Memo a b c ∷ Seq a b ∷ Then a ∷ When a b ∷ Many a c ∷ []) n (Try n a b)
 
 unfoldable pub rowOf : ℕ → ℕ
 rowOf i = getD rows i 0
@@ -34,9 +34,9 @@ pub record Lent (t : List ℕ) : Type 0 where
   pub long : length t ≡ size
   pub row : (i : ℕ) → getD t i 0 ≡ rowOf i
 
--- a row in hexadecimal: a digit for the combinator, three for each operand
+-- a row in octal: the combinator's number, then three digits for each operand
 abbrev pub split : ℕ → Part
-split r = made (r / 16777216) (r / 4096 % 4096) (r % 4096)
+split r = made (r / 0o1_000_000_000) (r / 0o1_000_000 % 0o1_000) (r / 0o1_000 % 0o1_000) (r % 0o1_000)
 
 unfoldable pub partOf : ℕ → Part
 partOf i = split (rowOf i)
@@ -53,16 +53,20 @@ production n = getD productions (n - k.RULE-DECL) RULE-DECL
 abbrev pub stepOf : ℕ → ℕ → Prog
 stepOf n s = ifb (eqb n 1) (unless (setOf s)) (recover (setOf s))
 
+-- a part and what follows it, 0 where nothing does
+abbrev pub followed : (ℕ → Prog) → ℕ → Prog → Prog
+followed g k p = ifb (eqb k 0) p (p ⨟ g k)
+
 -- a part, given what the rows before it stand for
 abbrev pub progOf : (ℕ → Prog) → Part → Prog
-progOf g (Eat s n) = eat (setOf s) (namesOf s (labelOf n))
-progOf g (Step n s) = stepOf n s
-progOf g (Node a i) = node (production a)
-progOf g (Memo a i) = memo (production a)
+progOf g (Eat s n k) = followed g k (eat (setOf s) (namesOf s (labelOf n)))
+progOf g (Step n s k) = followed g k (stepOf n s)
+progOf g (Node a i k) = followed g k (node (production a))
+progOf g (Memo a i k) = followed g k (memo (production a))
 progOf g (Seq i j) = g i ⨟ g j
 progOf g (Then i) = then (g i)
 progOf g (When s i) = ifnext (setOf s) (g i)
-progOf g (Many i) = many (g i)
+progOf g (Many i k) = followed g k (many (g i))
 progOf g (Try n i j) = ifb (eqb n 9) (opt (g i)) (ifb (eqb n 10) (last (g i)) (G._/_ (g i) (g j)))
 
 -- no part holds others more than 40 deep
@@ -77,6 +81,14 @@ prog i = decode 40 i
 abbrev pub reads : ℕ → Bool → Prog → P.Reader
 reads d o p a = P.exec d (λ o b u. P.run d o b u) p o a
 
+-- what is left of a line: a row and what follows it, or nothing
+abbrev pub follows : ℕ → Bool → ℕ → P.Reader
+follows d o i = ifb (eqb i 0) (λ a. a) (reads d o (prog i))
+
+-- a row that is read
+abbrev pub Row : ℕ → Type 0
+Row i = (0 < i) × (i < size)
+
 -- or the names of an `if_next` whose row is not there
 abbrev pub stepping : ℕ → Bool → ℕ → ℕ → P.Reader
 stepping d o n s = ifb (eqb n 3) (P.branches (setOf s) (λ a. a)) (reads d o (stepOf n s))
@@ -85,7 +97,7 @@ stepping d o n s = ifb (eqb n 3) (P.branches (setOf s) (λ a. a)) (reads d o (st
 pub record Line (a i : ℕ) : Type 0 where
   pub known : kind (production a) ≡ a
   pub line : prog i ≡ grammar (production a)
-  pub inside : i < size
+  pub inside : Row i
 
 -- "`cached` (EXPR, TERM)", and the bit of a row
 abbrev pub Cached : ℕ → Type 0

@@ -7,6 +7,8 @@ use reader::cache::seen;
 use reader::names::Label;
 use reader::state::State;
 use reader::state::skip_trivia;
+use reader::steps::Eaten;
+use reader::steps::eat_at;
 ghost use mathlib.Core.Path.{_≡_};
 ghost use mathlib.Core.Bool.{true, false};
 ghost use mathlib.Core.Logic.{_⊎_};
@@ -20,7 +22,7 @@ ghost use Rattle.peg.specs.Run as P;
 ghost use Rattle.reader.specs.Means.{limits, source, bufs, Rows};
 ghost use Rattle.reader.specs.Did.{Ok, Wf, Did, Both, ahead};
 ghost use Rattle.grammar.specs.Rows.{size};
-ghost use Rattle.grammar.specs.Table.{Lent, partOf, labelOf, stepping, prog, production, reads, Line, Cached, Bit};
+ghost use Rattle.grammar.specs.Table.{Lent, Row, partOf, labelOf, stepping, prog, production, reads, Line, Cached, Bit};
 
 // `not`, beside `recover`.
 const UNLESS: u32 = 1;
@@ -34,17 +36,17 @@ const OPTIONAL: u32 = 9;
 const LAST: u32 = 10;
 
 // A combinator of the module with its operands: sets and names by number, a production by its kind and the row of its line, parts by
-// their rows.
+// their rows. Where the last operand is what follows, 0 stands for nothing.
 pub enum Part {
-    Eat(usize, u32),
+    Eat(usize, u32, usize),
     // `not` or `recover`, by which it is.
-    Step(u32, usize),
-    Node(u32, usize),
-    Memo(u32, usize),
+    Step(u32, usize, usize),
+    Node(u32, usize, usize),
+    Memo(u32, usize, usize),
     Seq(usize, usize),
     Then(usize),
     When(usize, usize),
-    Many(usize),
+    Many(usize, usize),
     // Alternatives by how they go on where the first fails: not at all, by failing, or with others.
     Try(u32, usize, usize),
 }
@@ -55,21 +57,23 @@ fn part_at(i: usize, table: &[u32]) -> Part
     ensures { λ r. ⌜ r ≡ partOf i ⌝ }
 {
     let row = table[i];
-    let n = row / 16777216;
-    let a = row / 4096 % 4096;
-    let b = row % 4096;
+    let n = row / 0o1_000_000_000;
+    let a = row / 0o1_000_000 % 0o1_000;
+    let b = row / 0o1_000 % 0o1_000;
+    let c = row % 0o1_000;
     let first = a as usize;
     let second = b as usize;
+    let third = c as usize;
     match n {
-        0 => Part::Eat(first, b),
-        1 => Part::Step(1, first),
-        2 => Part::Step(2, first),
-        3 => Part::Node(a, second),
-        4 => Part::Memo(a, second),
+        0 => Part::Eat(first, b, third),
+        1 => Part::Step(1, first, third),
+        2 => Part::Step(2, first, third),
+        3 => Part::Node(a, second, third),
+        4 => Part::Memo(a, second, third),
         5 => Part::Seq(first, second),
         6 => Part::Then(first),
         7 => Part::When(first, second),
-        8 => Part::Many(first),
+        8 => Part::Many(first, third),
         _ => Part::Try(n, first, second),
     }
 }
@@ -122,8 +126,8 @@ fn step(
     s.recover(d, optional, set, src, ids, ends, events, errors)
 }
 
-// A part of a line, where d more nodes may be opened; optional says whether a part around it may be left out. What a part ends with is read in the next
-// turn of the loop and not by a call, and what a call gives is laid into `s`, so that an open node takes little of the stack.
+// A part of a line and what follows it, where d more nodes may be opened; optional says whether a part around it may be left out. What follows is read
+// in the next turn of the loop and not by a call, and the state is changed in place, so that an open node takes little of the stack.
 fn exec(
     mut i: usize,
     mut s: State,
@@ -137,20 +141,36 @@ fn exec(
     scratch: &mut [u64],
     table: &[u32],
 ) -> State
-    requires { ⌜ Rows (source (now src) (now ids) (now ends)) × Wf (source (now src) (now ids) (now ends)) (bufs (now events) (now errors) (now scratch)) s × (i < size) × Lent (now table) ⌝ }
+    requires { ⌜ Rows (source (now src) (now ids) (now ends)) × Wf (source (now src) (now ids) (now ends)) (bufs (now events) (now errors) (now scratch)) s × Row i × Lent (now table) ⌝ }
     ensures { λ r. ⌜ Did (reads d optional (prog i)) (source (now (src .entry)) (now (ids .entry)) (now (ends .entry))) s r (bufs (now (events .entry)) (now (errors .entry)) (now (scratch .entry))) (bufs (now (events .exit)) (now (errors .exit)) (now (scratch .exit))) ⌝ }
 {
-    loop {
+    while i > 0 {
         match part_at(i, table) {
-            Part::Eat(set, name) => {
-                s = s.eat(set, label(name), ids, ends, events);
-                return s;
+            Part::Eat(set, name, next) => {
+                i = next;
+                if s.mode == 0 {
+                    match eat_at(s.pos, s.ev, s.evcap, s.full, set, ids, ends, events) {
+                        Eaten::Row(past) => {
+                            s.pos = past.pos;
+                            s.ev = past.ev;
+                            s.full = past.full;
+                        }
+                        // Names are entered at the furthest row only.
+                        Eaten::Miss(at) => {
+                            if at + 1 < s.want {
+                                s.mode = 1;
+                            } else {
+                                s = s.miss(set, label(name), at);
+                            }
+                        }
+                    }
+                }
             }
-            Part::Step(which, set) => {
+            Part::Step(which, set, next) => {
                 s = step(which, set, s, d, optional, src, ids, ends, events, errors);
-                return s;
+                i = next;
             }
-            Part::Node(kind, line) => {
+            Part::Node(kind, line, next) => {
                 s = node(
                     kind,
                     line,
@@ -165,9 +185,9 @@ fn exec(
                     scratch,
                     table,
                 );
-                return s;
+                i = next;
             }
-            Part::Memo(kind, line) => {
+            Part::Memo(kind, line, next) => {
                 s = cached(
                     kind,
                     line,
@@ -182,14 +202,14 @@ fn exec(
                     scratch,
                     table,
                 );
-                return s;
+                i = next;
             }
-            Part::Many(p) => {
+            Part::Many(p, next) => {
                 s = many(p, s, d, src, ids, ends, events, errors, scratch, table);
-                return s;
+                i = next;
             }
             Part::Seq(p, q) => {
-                s = head(
+                s = exec(
                     p,
                     s,
                     d,
@@ -264,71 +284,7 @@ fn exec(
             }
         }
     }
-}
-
-// A part that another part begins with. Rows and productions are read without a turn of `exec`, which takes more of the stack and copies the state.
-fn head(
-    p: usize,
-    s: State,
-    d: usize,
-    optional: bool,
-    src: &[u8],
-    ids: &[u32],
-    ends: &[u32],
-    events: &mut [u32],
-    errors: &mut [u32],
-    scratch: &mut [u64],
-    table: &[u32],
-) -> State
-    requires { ⌜ Rows (source (now src) (now ids) (now ends)) × Wf (source (now src) (now ids) (now ends)) (bufs (now events) (now errors) (now scratch)) s × (p < size) × Lent (now table) ⌝ }
-    ensures { λ r. ⌜ Did (reads d optional (prog p)) (source (now (src .entry)) (now (ids .entry)) (now (ends .entry))) s r (bufs (now (events .entry)) (now (errors .entry)) (now (scratch .entry))) (bufs (now (events .exit)) (now (errors .exit)) (now (scratch .exit))) ⌝ }
-{
-    match part_at(p, table) {
-        Part::Eat(set, name) => s.eat(set, label(name), ids, ends, events),
-        Part::Step(which, set) => step(which, set, s, d, optional, src, ids, ends, events, errors),
-        Part::Node(kind, line) => node(
-            kind,
-            line,
-            s,
-            d,
-            optional,
-            src,
-            ids,
-            ends,
-            events,
-            errors,
-            scratch,
-            table,
-        ),
-        Part::Memo(kind, line) => cached(
-            kind,
-            line,
-            s,
-            d,
-            optional,
-            src,
-            ids,
-            ends,
-            events,
-            errors,
-            scratch,
-            table,
-        ),
-        Part::Many(q) => many(q, s, d, src, ids, ends, events, errors, scratch, table),
-        _ => exec(
-            p,
-            s,
-            d,
-            optional,
-            src,
-            ids,
-            ends,
-            events,
-            errors,
-            scratch,
-            table,
-        ),
-    }
+    s
 }
 
 // A production: a node around what its line reads.
@@ -430,7 +386,7 @@ fn many(
     scratch: &mut [u64],
     table: &[u32],
 ) -> State
-    requires { ⌜ Rows (source (now src) (now ids) (now ends)) × Wf (source (now src) (now ids) (now ends)) (bufs (now events) (now errors) (now scratch)) s × (p < size) × Lent (now table) ⌝ }
+    requires { ⌜ Rows (source (now src) (now ids) (now ends)) × Wf (source (now src) (now ids) (now ends)) (bufs (now events) (now errors) (now scratch)) s × Row p × Lent (now table) ⌝ }
     ensures { λ r. ⌜ Did (reads d true (G.many (prog p))) (source (now (src .entry)) (now (ids .entry)) (now (ends .entry))) s r (bufs (now (events .entry)) (now (errors .entry)) (now (scratch .entry))) (bufs (now (events .exit)) (now (errors .exit)) (now (scratch .exit))) ⌝ }
 {
     if s.mode != 0 {

@@ -14,9 +14,12 @@ use Rattle.peg.specs.Buffer.{four}
 use Rattle.peg.specs.Render.{Source}
 use Rattle.reader.specs.declared.state.State.{State}
 use Rattle.reader.specs.declared.state.Mark.{Mark}
-use Rattle.reader.specs.Change.{withPos, withMode, markOf, gone}
-use Rattle.reader.specs.Means.{Bufs, bufs, Past, Means, Stands, Lines, modeOf}
-use Rattle.reader.specs.Did.{Ok, Wf, Did, Events, Plain, Put, Peeked, hits, ahead}
+use Rattle.reader.specs.declared.state.Place.{Place}
+use Rattle.reader.specs.declared.steps.Eaten.{Eaten}
+use Rattle.reader.specs.declared.steps.Eaten.the-variants.{Row, Miss}
+use Rattle.reader.specs.Change.{withPos, withMode, standing, markOf, gone}
+use Rattle.reader.specs.Means.{Bufs, bufs, Past, source, Means, Stands, Lines, modeOf}
+use Rattle.reader.specs.Did.{Ok, Wf, Ate, Did, Events, Plain, Put, Peeked, hits, ahead}
 use Rattle.reader.proofs.Core.{Like, like-same, like-at, alike, idle, then, ok-put, wf-put, caps-put}
 use Rattle.reader.proofs.Sticky.{Sticks, sticky, sticky-trans, sticky-trivia, sticky-take, sticky-fail, sticky-returned, sticky-refused}
 use Rattle.reader.proofs.Taken.{took, ok-took}
@@ -27,6 +30,39 @@ use Rattle.reader.proofs.Parts.{retold, not-ok, turned, gone-ok, return
 -- steps on events alone, from laws on any step
 pub not-okE : (f : P.Reader) {x : Source} {s : State} {ev : List ℕ} → ((p : Past) → Sticks p x (P.if-ok f)) → Ok (length (x .ids)) s → s .evcap ≤ length ev → (s .mode ≡ 0 → ⊥) → Events (P.if-ok f) x s s ev ev
 not-okE f F w h n = record { did = λ er sc v. not-ok f F v n; ok = w; fits = h; first = refl; grows = le-refl _ }
+
+-- what was eaten, by what is told of it
+abbrev rowsIn : Eaten → ℕ
+rowsIn (Row p) = 1
+rowsIn (Miss at) = 0
+
+abbrev placeOf : Place → Eaten → Place
+placeOf d (Row p) = p
+placeOf d (Miss at) = d
+
+abbrev missOf : Eaten → ℕ
+missOf (Row p) = 0
+missOf (Miss at) = at
+
+module _ {S : List ℕ} {pos ev cap full : ℕ} {ids ends l l′ : List ℕ} where
+  pub ate-row : (p : Place) → ((N bytes : List ℕ) (s : State) → s .mode ≡ 0 → Ok (length ids) (standing pos ev cap full s) → Events (P.eats S N) (source bytes ids ends) (standing pos ev cap full s) (standing (p .pos) (p .ev) cap (p .full) s) l l′) → Ate S pos ev cap full ids ends (Row p) l l′
+  ate-row p f =
+      record {
+        row = λ q e N bytes s m w. subst (λ (c : Place). Events (P.eats S N) (source bytes ids ends) (standing pos ev cap full s) (standing (c .pos) (c .ev) cap (c .full) s) l l′) (ap (placeOf p) e) (f N bytes s m w);
+        none = λ at e. let c = ap rowsIn e in absurd (omega (arith, c));
+      }
+
+  pub ate-none : (at : ℕ) → l′ ≡ l → Peeked ids pos at → hits (P.next S (drop pos ids)) ≡ false → Ate S pos ev cap full ids ends (Miss at) l l′
+  ate-none at q k h =
+      record {
+        row = λ p e. let c = ap rowsIn e in absurd (omega (arith, c));
+        none = λ n e. (q, subst (λ (c : ℕ). Peeked ids pos c) (ap missOf e) k, h);
+      }
+
+miss-row : (N : List ℕ) (z : Next) → hits z ≡ false → (a : P.State) → P.eat-row N z a ≡ P.turn failed (P.expected N a)
+miss-row N end h a = refl
+miss-row N other h a = refl
+miss-row N (hit k is) h a = let c : _≡_ {A = ℕ} 0 1 = cc in absurd (omega arith)
 
 module _ (S N : List ℕ) {x : Source} {s : State} (good : s .mode ≡ 0) where
   eats-is : (z : Next) → P.next S (drop (s .pos) (x .ids)) ≡ z → {p : Past} {b : Bufs} (a : P.State) → Means p x s b a → P.eats S N a ≡ P.eat-row N z a
@@ -44,6 +80,9 @@ module _ (S N : List ℕ) {x : Source} {s : State} (good : s .mode ≡ 0) where
         first = y .first;
         grows = omega (arith, y .still);
       }
+
+  pub eat-missed : {r : State} {at : ℕ} {ev ev′ : List ℕ} → (ev′ ≡ ev) × Peeked (x .ids) (s .pos) at × (hits (P.next S (drop (s .pos) (x .ids))) ≡ false) → s .evcap ≤ length ev → Plain (λ a. P.turn failed (P.expected N a)) x s r → Events (P.eats S N) x s r ev ev′
+  eat-missed {r} {at} {ev} y h z = subst (λ (l : List ℕ). Events (P.eats S N) x s r ev l) (sym (y .0)) (eat-misses (P.next S (drop (s .pos) (x .ids))) refl (miss-row N (P.next S (drop (s .pos) (x .ids))) (y .2)) h z)
 
   -- such a row
   pub eat-takes : (k at st : ℕ) {s₁ r : State} {ev ev₁ ev₂ : List ℕ} → Lines (x .ids) (x .ends) → Ok (length (x .ids)) s → Peeked (x .ids) (s .pos) at → at < length (x .ids) → P.next S (drop (s .pos) (x .ids)) ≡ hit k (drop (suc at) (x .ids)) → st ≡ getD (0 ∷ x .ends) at 0

@@ -7,7 +7,7 @@ use native.Mathlib.Nat.{le-refl, le-trans, le-of-eq}
 use native.Mathlib.Omega.{arith}
 use native.Mathlib.Numerals.{add-one, sub-one}
 use lib.Dec.{eqb}
-use lib.ListN.{length, getD, take, drop, set, length-set, length-append, length-drop, drop-of-length-le}
+use lib.ListN.{length, getD, take, drop, set, replicate, length-set, length-append, length-drop, drop-of-length-le}
 use lib.Seq.{take-take, drop-cons, length-take-le}
 use Rattle.kinds.specs.Sets.{trivial}
 use Rattle.peg.specs.Run as P
@@ -227,3 +227,11 @@ skipping pos ev cap full ev₀ l h k = record { of = λ bytes s m w. taking P.tr
 pub skips : {ids ends : List ℕ} {pos ev cap full at to over : ℕ} {ev₀ ev₁ : List ℕ} → Skipping ids ends pos ev cap full at to over ev₀ ev₁ → (st : ℕ) {e f : ℕ} {ev₂ : List ℕ} → at < length ids → trivial (getD ids at 0) ≡ true → st ≡ getD (0 ∷ ends) at 0
     → Penned (four 2 (getD ids at 0) st (getD ends at 0)) to cap over e f ev₁ ev₂ → Skipping ids ends pos ev cap full (at + 1) e f ev₀ ev₂
 skips k st h y q u = record { of = λ bytes s m w. trivia-on (k .of bytes s m w) m st h y q (put-of _ u); lines = k .lines; fits = u .fits; room = omega (arith, k .room, u .long); long = u .long ∙ k .long }
+
+-- a state that may stand anywhere, for steps that take numbers: what they promise of every such state holds of this one
+abbrev pub at-rest : State
+at-rest = record { pos = 0; fuel = 0; mode = 0; ev = 0; evcap = 0; er = 0; ercap = 0; item = 0; first = 0; far = 0; want = 0; unwant = 0; full = 0; count = 0; names = replicate 96 0 }
+
+pub rest-ok : (n pos ev cap full : ℕ) → pos ≤ n → ev ≤ cap → Ok n (standing pos ev cap full at-rest)
+rest-ok n pos ev cap full h e =
+    (record { here = h; since = omega arith; far-in = omega arith; want-in = omega arith; want-since = λ z. absurd (z refl); unwant-in = omega arith; unwant-since = λ z. absurd (z refl) }, record { few = omega arith; long = refl; below = tt; distinct = tt }, record { events = e; since = le-refl 0; errors = le-refl 0 })

@@ -10,11 +10,14 @@ use Rattle.peg.specs.Run as P
 use Rattle.peg.specs.Buffer.{Open}
 use Rattle.peg.specs.Render.{Source}
 use Rattle.reader.specs.declared.state.State.{State}
+use Rattle.reader.specs.declared.state.Place.{Place}
 use Rattle.reader.specs.declared.names.Label.{Label}
 use Rattle.reader.specs.declared.names.Label.the-variants.{Ids, As}
-use Rattle.reader.specs.Change.{withEv, withFull, withNames}
+use Rattle.reader.specs.declared.steps.Eaten.{Eaten}
+use Rattle.reader.specs.declared.steps.Eaten.the-variants.{Row, Miss}
+use Rattle.reader.specs.Change.{withEv, withFull, withNames, standing}
 use Rattle.reader.specs.Bits.{ifb}
-use Rattle.reader.specs.Means.{Bufs, bufs, Past, Stands}
+use Rattle.reader.specs.Means.{Bufs, bufs, Past, Stands, source}
 
 -- places, all of rows: the item's first, the position, and the furthest ones
 pub record Placed (n pos first far want unwant : ℕ) : Type 0 where
@@ -168,11 +171,17 @@ pub record Peeked (ids : List ℕ) (p r : ℕ) : Type 0 where
   pub within : r ≤ length ids
   pub rest : drop r ids ≡ P.skip (drop p ids)
 
--- in good order a row of the set stands next past trivia
+-- whether the next row is one of the set
 abbrev pub hits : P.Next → Bool
 hits P.end = false
 hits P.other = false
 hits (P.hit a is) = true
 
+-- in good order a row of the set stands next past trivia
 abbrev pub ahead : List ℕ → List ℕ → State → Bool
 ahead S ids s = ifb (eqb (s .mode) 0) (hits (P.next S (drop (s .pos) ids))) false
+
+-- a row of the set was taken up, in any state of good order that stood there; or none stands there, and nothing was written
+pub record Ate (S : List ℕ) (pos ev cap full : ℕ) (ids ends : List ℕ) (r : Eaten) (l l′ : List ℕ) : Type 0 where
+  pub row : (p : Place) → r ≡ Row p → (N bytes : List ℕ) (s : State) → s .mode ≡ 0 → Ok (length ids) (standing pos ev cap full s) → Events (P.eats S N) (source bytes ids ends) (standing pos ev cap full s) (standing (p .pos) (p .ev) cap (p .full) s) l l′
+  pub none : (at : ℕ) → r ≡ Miss at → (l′ ≡ l) × Peeked ids pos at × (hits (P.next S (drop pos ids)) ≡ false)

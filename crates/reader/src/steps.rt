@@ -2,6 +2,7 @@
 use crate::names::Label;
 use crate::rows::peek;
 use crate::rows::start_of;
+use crate::state::Place;
 use crate::state::State;
 use crate::state::skip_trivia;
 use crate::state::write;
@@ -20,7 +21,46 @@ ghost use Rattle.peg.specs.Render.{Source};
 ghost use Rattle.peg.specs.Run as P;
 ghost use mathlib.Core.List.{_∷_, []};
 ghost use Rattle.reader.specs.Means.{source, bufs, Lines, Rows};
-ghost use Rattle.reader.specs.Did.{Ok, Wf, Named, Events, Plain, Both, Shuts, Peeked, Proper, namesOf, ahead};
+ghost use Rattle.reader.specs.Did.{Ok, Wf, Ate, Named, Events, Plain, Both, Shuts, Peeked, Proper, namesOf, ahead};
+
+// Where a row of the set was taken up, the place behind it; where none stands next past trivia, the row that does.
+pub enum Eaten {
+    Row(Place),
+    Miss(usize),
+}
+
+// Takes up a row of the set, with the trivia before it, from a place on, with room up to cap. It takes and gives numbers, as `write` does.
+pub fn eat_at(
+    pos: usize,
+    ev: usize,
+    cap: usize,
+    full: u8,
+    set: usize,
+    ids: &[u32],
+    ends: &[u32],
+    events: &mut [u32],
+) -> Eaten
+    requires { ⌜ Lines (now ids) (now ends) × (pos ≤ length (now ids)) × (ev ≤ cap) × (cap ≤ length (now events)) ⌝ }
+    ensures { λ r. ⌜ Ate (setOf set) pos ev cap full (now (ids .entry)) (now (ends .entry)) r (now (events .entry)) (now (events .exit)) ⌝ }
+{
+    let at = peek(pos, ids);
+    if at >= ids.len() {
+        return Eaten::Miss(at);
+    }
+    let id = ids[at];
+    let Matched::Kind(kind) = matched(set, id) else {
+        return Eaten::Miss(at);
+    };
+    let past = skip_trivia(pos, ev, cap, full, ids, ends, events);
+    let start = start_of(at, ends);
+    let end = ends[at];
+    let pen = write(past.ev, cap, past.full, 2, kind, start, end, events);
+    Eaten::Row(Place {
+        pos: at + 1,
+        ev: pen.ev,
+        full: pen.full,
+    })
+}
 
 impl State {
     // No row of the set stands at hand: its names are entered, and the state fails.
@@ -48,22 +88,15 @@ impl State {
         if self.mode != 0 {
             return self;
         }
-        let at = peek(self.pos, ids);
-        if at >= ids.len() {
-            return self.miss(set, label, at);
+        match eat_at(self.pos, self.ev, self.evcap, self.full, set, ids, ends, events) {
+            Eaten::Row(past) => {
+                self.pos = past.pos;
+                self.ev = past.ev;
+                self.full = past.full;
+                self
+            }
+            Eaten::Miss(at) => self.miss(set, label, at),
         }
-        let id = ids[at];
-        let Matched::Kind(kind) = matched(set, id) else {
-            return self.miss(set, label, at);
-        };
-        let past = skip_trivia(self.pos, self.ev, self.evcap, self.full, ids, ends, events);
-        let start = start_of(at, ends);
-        let end = ends[at];
-        let pen = write(past.ev, self.evcap, past.full, 2, kind, start, end, events);
-        self.pos = at + 1;
-        self.ev = pen.ev;
-        self.full = pen.full;
-        self
     }
 
     pub fn expect(mut self, set: usize, ids: &[u32], ends: &[u32], events: &mut [u32]) -> Self

@@ -4,26 +4,29 @@ use borrow.Author.Needs.{needs}
 use native.Mathlib.Omega.{arith}
 use mathlib.Core.Path.{_≡_, refl, sym, _∙_}
 use mathlib.Core.Bool.{true}
+use mathlib.Core.List.{[]}
 use Prim.Native.Nat.{_+_, _*_, _-_}
 use Rattle.peg.specs.Prog as G
 use Rattle.reader.specs.Means.{source}
 use Rattle.reader.proofs.Lists.{not-yes, not-no}
 use Rattle.reader.proofs.Sticky.{sticky-exec}
+use Rattle.reader.proofs.Eating.{eat-missed, fails-after}
+use Rattle.reader.proofs.Furthest.{expected-nearer}
 use Rattle.grammar.specs.Table.{prog, production, reads}
 use Rattle.grammar.proofs.Cycle.{from, here, plus, plusE, plusB, asksE, asksX, asksS, asksL, stops, Turns, turns, turns-more, turns-undone, turns-over, begun, closing, made, none-made}
 use Rattle.grammar.proofs.Known.{bit-in, bit-in-still, found-bit, known-idle, known-hit, known-through, known-failed}
-use Rattle.grammar.proofs.Lines.{is-row, is-eat, is-step, is-line, proper, node-line, memo-line, row-sound, Going, going, goes-on, seq-goes, then-stops, then-goes, when-passes, when-good, when-goes, try-stops, try-on, try-opt, try-last, others, try-others}
+use Rattle.grammar.proofs.Lines.{is-line, proper, node-line, memo-line, row-sound, Going, going, ends-at, ends, goes-on, eat-idle, eat-goes, eat-fails, step-goes, node-goes, memo-goes, many-goes, seq-goes, then-stops, then-goes, when-passes, when-good, when-goes, try-stops, try-on, try-opt, try-last, others, try-others}
 '''
 S, D, O = "({args} .src .now)", "({args} .d)", "({args} .optional)"
 ROWS, WF, LENT = "({pre} .1 .0)", "({pre} .1 .1)", "{pre} .1 .3"
 FROM = f"(from (source ({{args}} .src .now) ({{args}} .ids .now) ({{args}} .ends .now)) ({{args}} .s) ({{args}} .events .now) ({{args}} .errors .now) ({{args}} .scratch .now) {WF})"
 PART = "(prog ({args} .p))"
 # where a callee has the events among its parameters; errors and scratch follow, where it has them
-EVENTS = {"trivia": 3, "skip-trivia": 6, "eat": 5, "step": 8, "begin": 4, "end": 8, "exec": 7, "head": 7, "node": 8, "cached": 8, "many": 6}
-LISTS = {"trivia": 1, "skip-trivia": 1, "eat": 1, "step": 2, "begin": 1, "end": 2}
+EVENTS = {"trivia": 3, "skip-trivia": 6, "eat-at": 7, "step": 8, "begin": 4, "end": 8, "exec": 7, "node": 8, "cached": 8, "many": 6}
+LISTS = {"trivia": 1, "skip-trivia": 1, "eat-at": 1, "step": 2, "begin": 1, "end": 2}
 # what each function's measure adds to 4,096 times the depth that is left
-DEPTH = {"exec": 2, "head": 2, "many": 2, "node": 3, "cached": 3}
-LEVEL = {"exec": "8 * a .0 + 2", "head": "8 * a .0 + 3", "many": "8 * a .0 + 4", "node": "0", "cached": "1"}
+DEPTH = {"exec": 2, "many": 2, "node": 3, "cached": 3}
+LEVEL = {"exec": "8 * a .0 + 2", "many": "8 * a .0 + 4", "node": "0", "cached": "1"}
 MEASURES = {f"μ-{f}": f"4096 * a{' .1' * DEPTH[f]} .0 + {LEVEL[f]}" for f in DEPTH}
 LOOPS = {
     "exec-Inv-loop": "Going d optional (source src ids ends) i₀ s₀ events₀ errors₀ scratch₀ i s events errors scratch",
@@ -78,7 +81,7 @@ NODE = {
     **lengths(["end", "begin"]),
     "returns": f"none-made {OPENS} ({{if1}} .taken) ({{end}} .ensures _)",
     "sub-exec": "omega (arith, {if1} .left)",
-    "exec-requires": falls(f"(begun {OPENS})", "{pre} .1 .2 .inside", "{if1} .left", "{pre} .1 .2 .inside"),
+    "exec-requires": falls(f"(begun {OPENS})", "{pre} .1 .2 .inside", "{if1} .left", "{pre} .1 .2 .inside .1"),
     "end-requires-2": f"closing {OPENS} ({{exec}} .ensures) {ROWS}",
     **lengths(["end2", "exec", "begin"], 3),
     "returns-2": f"made {OPENS} ({{if1}} .left) {LINE} ({{end2}} .ensures _)",
@@ -103,7 +106,8 @@ CACHED = {
 
 # a row of the table, in the loop
 X = "(source ({args} .src .now) ({args} .ids .now) ({args} .ends .now))"
-I, IN = "({loop} .i)", "({loop} .inv .inside)"
+I, IN, SOME = "({loop} .i)", "({loop} .inv .inside)", "({loop-test} .taken)"
+REAL = f"({SOME}, {IN})"
 LISTS_NOW = "({loop} .events) ({loop} .errors) ({loop} .scratch)"
 HERE = f"(from {X} ({{loop}} .s) {LISTS_NOW} ({{loop}} .inv .wf))"
 AT = f"{D} {O} {I} {IN} {LISTS_NOW} ({{loop}} .inv .wf)"
@@ -113,29 +117,27 @@ def row(place):
     return f"(sym ({{{place}}} .given .1) ∙ {{part-at}} .ensures)"
 
 
-def sound(place, at=f"{I} {IN}"):
-    return f"row-sound {at} {row(place)}"
-
-
-def is_row(place, did, at=f"{I} {IN}"):
-    return f"is-row {D} {O} {at} {row(place)} ({did})"
-
-
-def read(place, did):
-    return f"{INV} .go ({is_row(place, did)})"
+def sound(place):
+    return f"row-sound {I} {REAL} {row(place)}"
 
 
 def below(more, *facts):
     return f"(omega (arith, {{pre}} .0, {INV} .below{''.join(', ' + f for f in facts)}), ({ROWS}, {more}, {LENT}))"
 
 
-def on(wf, fact, goes, calls):
+def again(k, wf, less, goes, calls):
+    """The loop's next turn: what was read goes on with the rest of the line."""
     kept = [" ∙ ".join(f"{{{c}}} .kept{' .1' * (EVENTS[c.rstrip('0123456789')] + b)} .0" for c in calls if b < LISTS.get(c.rstrip("0123456789"), 3)) or "refl" for b in range(3)]
-    return f"goes-on {INV} ({wf} .wf) ({fact}) (λ z b y. {goes}) ({kept[0]}) ({kept[1]}) ({kept[2]})"
+    k = "" if k == 1 else f"-{k}"
+    return {f"loop-less{k}": less, f"loop-again{k}": f"goes-on {INV} {SOME} ({wf} .wf) ({less}) ({goes}) ({kept[0]}) ({kept[1]}) ({kept[2]})"}
 
 
 def returns(k, calls, answer):
     return {**lengths(calls, 3 * k - 2, BEFORE), ("returns" if k == 1 else f"returns-{k}"): answer}
+
+
+def leaves(k, calls, answer):
+    return returns(k, calls, f"ends-at {INV} {SOME} ({answer})")
 
 
 def trivia(k, good):
@@ -143,65 +145,59 @@ def trivia(k, good):
 
 
 SKIPS = f"({ROWS} .lines, {HERE} .wf .0 .2 .events, {HERE} .wf .1 .events)"
-GOOD = ["({if1} .left)", f"(when-good ({{args}} .ids .now) ({{loop}} .s) {I} {row('set2')} ({{sees}} .ensures) (not-no _ ({{if2}} .left)))", "({if3} .left)"]
+GOOD = ["({if3} .left)", f"(when-good ({{args}} .ids .now) ({{loop}} .s) {I} {row('set2')} ({{sees}} .ensures) (not-no _ ({{if4}} .left)))", "({if5} .left)"]
 THEN, WHEN, TRIES = trivia("", GOOD[0]), trivia(2, GOOD[1]), trivia(3, GOOD[2])
-FIRST = f"(plus {HERE} ({{head}} .ensures))"
-TRIED = f"(plus (plusE {HERE} {TRIES}) ({{exec}} .ensures))"
+EATEN = f"({{eat-at}} .ensures .row _ ({{past}} .given .1) N {S} ({{loop}} .s) ({{if1}} .taken) ({HERE} .wf .0))"
+NONE = "({eat-at} .ensures .none _ ({at} .given .1))"
+NEARER = f"(eat-missed _ N ({{if1}} .taken) {NONE} ({HERE} .wf .1 .events) (fails-after _ (expected-nearer ({HERE} .wf .0) ({NONE} .1) N ({{if2}} .taken))))"
+MISSED = f"(eat-missed _ _ ({{if1}} .taken) {NONE} ({HERE} .wf .1 .events) ({{miss}} .ensures {X} ({HERE} .wf .0) ({NONE} .1)))"
+
+
+def none(fact):
+    """A fact of any names N, of none."""
+    return fact.replace(" N ", " [] ")
+
+
+TRIED = f"(plus (plusE {HERE} {TRIES}) ({{exec2}} .ensures))"
 TRY = f"{AT} {row('how')}"
-CAME = f"{TRY} ({{if3}} .left) refl {TRIED}"
+CAME = f"{TRY} ({{if5}} .left) refl {TRIED}"
+OTHERS = f"({sound('how')} .1 ({{if8}} .left) ({{if7}} .left))"
 EXEC = {
     "loop-holds": f"going {D} {O} ({{args}} .i) ({{args}} .events .now) ({{args}} .errors .now) ({{args}} .scratch .now) {WF} ({{pre}} .1 .2)",
     "part-at-requires": f"({IN}, {LENT})",
-    "label-requires": sound("set"),
-    "eat-requires": f"asksX {HERE} {ROWS} (proper _ ({sound('set')}) ({{label}} .ensures))",
-    **returns(1, ["eat"], f"{INV} .go (is-eat {D} {O} {I} {IN} {row('set')} ({{label}} .ensures) (plusE {HERE} ({{eat}} .ensures {S})))"),
-    "step-requires": f"asksS {HERE} {ROWS} ({sound('which')})",
-    **returns(2, ["step"], f"{INV} .go (is-step {D} {O} {I} {IN} {row('which')} ({sound('which')}) (plusB {HERE} ({{step}} .ensures)))"),
-    "node-requires": below(f"{INV} .wf, node-line {I} {IN} {row('kind')}"),
-    **returns(3, ["node"], read("kind", "{node} .ensures")),
-    "cached-requires": below(f"{INV} .wf, memo-line {I} {IN} {row('kind2')}, {sound('kind2')} .0"),
-    **returns(4, ["cached"], read("kind2", "{cached} .ensures")),
-    "head-requires": below(f"{INV} .wf, omega (arith, {sound('p2')} .0, {IN})", f"{sound('p2')} .0"),
-    "loop-less": f"{sound('p2')} .1",
-    "loop-again": on(FIRST, f"{sound('p2')} .1", f"seq-goes {AT} {row('p2')} ({{head}} .ensures) y", ["head"]),
-    **returns(6, [], f"{INV} .go (then-stops {AT} {row('p3')} ({{if1}} .taken))"),
+    "eat-at-requires": f"({ROWS} .lines, {HERE} .wf .0 .0 .here, {HERE} .wf .0 .2 .events, {HERE} .wf .1 .events)",
+    **again(1, f"(plusE {HERE} {none(EATEN)})", f"{sound('set')} .1", f"eat-goes {AT} {row('set')} (λ N. {EATEN})", ["eat-at"]),
+    **again(2, f"(plusE {HERE} {none(NEARER)})", f"{sound('set')} .1", f"eat-goes {AT} {row('set')} (λ N. {NEARER})", ["eat-at"]),
+    "add-if2": f"omega (arith, {NONE} .1 .within, {ROWS} .lines .few)",
+    "label-requires": f"{sound('set')} .0",
+    "miss-requires": f"({HERE} .wf .0 .1, proper _ ({sound('set')} .0) ({{label}} .ensures), omega (arith, {NONE} .1 .within, {ROWS} .lines .few))",
+    **again(3, f"(plusE {HERE} {MISSED})", f"{sound('set')} .1", f"eat-fails {AT} {row('set')} _ ({{label}} .ensures) {MISSED}", ["eat-at"]),
+    **again(4, HERE, f"{sound('set')} .1", f"eat-idle {AT} {row('set')} ({{if1}} .left)", []),
+    "step-requires": f"asksS {HERE} {ROWS} ({sound('which')} .0)",
+    **again(5, f"(plusB {HERE} ({{step}} .ensures))", f"{sound('which')} .1", f"step-goes {AT} {row('which')} ({sound('which')} .0) (plusB {HERE} ({{step}} .ensures))", ["step"]),
+    "node-requires": below(f"{INV} .wf, node-line {I} {REAL} {row('kind')}"),
+    **again(6, "{node} .ensures", f"{sound('kind')} .2", f"node-goes {AT} {row('kind')} ({{node}} .ensures)", ["node"]),
+    "cached-requires": below(f"{INV} .wf, memo-line {I} {REAL} {row('kind2')}, {sound('kind2')} .0"),
+    **again(7, "{cached} .ensures", f"{sound('kind2')} .3", f"memo-goes {AT} {row('kind2')} ({{cached}} .ensures)", ["cached"]),
+    "many-requires": below(f"{INV} .wf, ({sound('p')} .0 .0, omega (arith, {sound('p')} .0 .1, {IN}))", f"{sound('p')} .0 .1"),
+    **again(8, "{many} .ensures", f"{sound('p')} .1", f"many-goes {AT} {row('p')} ({{many}} .ensures)", ["many"]),
+    "exec-requires": below(f"{INV} .wf, ({sound('p2')} .0 .0, omega (arith, {sound('p2')} .0 .1, {IN}))", f"{sound('p2')} .0 .1"),
+    **again(9, "{exec} .ensures", f"{sound('p2')} .1 .1", f"seq-goes {AT} {row('p2')} ({sound('p2')} .1 .0) ({{exec}} .ensures)", ["exec"]),
+    **leaves(1, [], f"then-stops {AT} {row('p3')} ({{if3}} .taken)"),
     "skip-trivia-requires": SKIPS,
-    "loop-less-2": sound("p3"),
-    "loop-again-2": on(f"(plusE {HERE} {THEN})", sound("p3"), f"then-goes {AT} {row('p3')} ({{if1}} .left) {THEN} y", ["skip-trivia"]),
+    **again(10, f"(plusE {HERE} {THEN})", f"{sound('p3')} .1", f"then-goes {AT} {row('p3')} ({sound('p3')} .0) ({{if3}} .left) {THEN}", ["skip-trivia"]),
     "sees-requires": f"{HERE} .wf .0",
-    "step-requires-2": f"asksL {HERE} {ROWS} (λ e. sym ({{sees}} .ensures) ∙ not-yes _ ({{if2}} .taken))",
-    **returns(7, ["step2"], f"{INV} .go (when-passes {AT} {row('set2')} ({{sees}} .ensures) (not-yes _ ({{if2}} .taken)) (plusB {HERE} ({{step2}} .ensures)))"),
+    "step-requires-2": f"asksL {HERE} {ROWS} (λ e. sym ({{sees}} .ensures) ∙ not-yes _ ({{if4}} .taken))",
+    **leaves(2, ["step2"], f"when-passes {AT} {row('set2')} ({{sees}} .ensures) (not-yes _ ({{if4}} .taken)) (plusB {HERE} ({{step2}} .ensures))"),
     "skip-trivia-requires-2": SKIPS,
-    "loop-less-3": sound("set2"),
-    "loop-again-3": on(f"(plusE {HERE} {WHEN})", sound("set2"), f"when-goes {AT} {row('set2')} ({{sees}} .ensures) (not-no _ ({{if2}} .left)) {WHEN} y", ["skip-trivia2"]),
-    **returns(8, [], f"{INV} .go (try-stops {TRY} ({{if3}} .taken))"),
+    **again(11, f"(plusE {HERE} {WHEN})", f"{sound('set2')} .1", f"when-goes {AT} {row('set2')} ({sound('set2')} .0) ({{sees}} .ensures) (not-no _ ({{if4}} .left)) {WHEN}", ["skip-trivia2"]),
+    **leaves(3, [], f"try-stops {TRY} ({{if5}} .taken)"),
     "skip-trivia-requires-3": SKIPS,
-    "exec-requires": below(f"(plusE {HERE} {TRIES}) .wf, omega (arith, {sound('how')} .0, {IN})", f"{sound('how')} .0"),
-    **returns(9, ["exec", "skip-trivia3"], f"{INV} .go (try-on {CAME} ({{if4}} .taken))"),
-    **returns(10, ["exec", "skip-trivia3"], f"{INV} .go (try-last {CAME} ({{if4}} .left) (λ e. omega (arith, e, {{if5}} .taken)) ({{if5}} .taken) refl)"),
-    **returns(11, ["exec", "skip-trivia3"], f"{INV} .go (try-opt {CAME} ({{if4}} .left) ({{if6}} .taken) refl)"),
-    "loop-less-4": f"{sound('how')} .1",
-    "loop-again-4": on(f"(others {CAME} ({{if4}} .left) refl .here)", f"{sound('how')} .1", f"try-others {CAME} ({{if6}} .left) ({{if5}} .left) ({{if4}} .left) refl y", ["exec", "skip-trivia3"]),
+    "exec-requires-2": below(f"(plusE {HERE} {TRIES}) .wf, ({sound('how')} .0 .0, omega (arith, {sound('how')} .0 .1, {IN}))", f"{sound('how')} .0 .1"),
+    **leaves(4, ["exec2", "skip-trivia3"], f"try-on {CAME} ({{if6}} .taken)"),
+    **leaves(5, ["exec2", "skip-trivia3"], f"try-last {CAME} ({{if6}} .left) (λ e. omega (arith, e, {{if7}} .taken)) ({{if7}} .taken) refl"),
+    **leaves(6, ["exec2", "skip-trivia3"], f"try-opt {CAME} ({{if6}} .left) ({{if8}} .taken) refl"),
+    **again(12, f"(others {CAME} ({{if6}} .left) refl .here)", f"{OTHERS} .1", f"try-others {CAME} ({{if8}} .left) ({{if7}} .left) ({OTHERS} .0) ({{if6}} .left) refl", ["exec2", "skip-trivia3"]),
+    **returns(7, [], f"ends {INV} ({{loop-test}} .left)"),
 }
-for k, (callee, place) in enumerate([("many", "p")]):
-    EXEC.update({f"{callee}-requires": below(f"{INV} .wf, omega (arith, {sound(place)}, {IN})", sound(place)), **returns(5 + k, [callee], read(place, f"{{{callee}}} .ensures"))})
-# a row of the table, at hand
-IN_P = "({pre} .1 .2)"
-AT_P = f"({{args}} .p) {IN_P}"
-HEAD = {
-    "part-at-requires": f"({IN_P}, {LENT})",
-    "label-requires": sound("set", AT_P),
-    "eat-requires": f"asksX {FROM} {ROWS} (proper _ ({sound('set', AT_P)}) ({{label}} .ensures))",
-    **lengths(["eat"], 1),
-    "returns": f"is-eat {D} {O} {AT_P} {row('set')} ({{label}} .ensures) (plusE {FROM} ({{eat}} .ensures {S}))",
-    "step-requires": f"asksS {FROM} {ROWS} ({sound('which', AT_P)})",
-    **lengths(["step"], 2),
-    "returns-2": f"is-step {D} {O} {AT_P} {row('which')} ({sound('which', AT_P)}) (plusB {FROM} ({{step}} .ensures))",
-    "node-requires": falls(FROM, f"node-line {AT_P} {row('kind')}"),
-    "cached-requires": falls(FROM, f"memo-line {AT_P} {row('kind2')}, {sound('kind2', AT_P)} .0"),
-    "many-requires": falls(FROM, f"omega (arith, {sound('q', AT_P)}, {IN_P})", sound("q", AT_P)),
-    "exec-requires": falls(FROM, IN_P),
-}
-for k, (callee, answer) in enumerate([("node", is_row("kind", "{node} .ensures", AT_P)), ("cached", is_row("kind2", "{cached} .ensures", AT_P)), ("many", is_row("q", "{many} .ensures", AT_P)), ("exec", "{exec} .ensures")]):
-    HEAD |= {**lengths([callee], 3 * k + 4), f"returns-{k + 3}": answer}
-ANSWERS = {"many": MANY, "node": NODE, "cached": CACHED, "exec": EXEC, "head": HEAD}
+ANSWERS = {"many": MANY, "node": NODE, "cached": CACHED, "exec": EXEC}

@@ -3,4 +3,4 @@ USES = """-- An item that begins with a rule keyword is the table's last row.
 use native.Mathlib.Omega.{arith}
 use Rattle.grammar.proofs.Lines.{is-item, rows-lent}
 """
-ANS = {"exec-requires": "({pre} .0, {pre} .1, omega arith, rows-lent)", "returns": "is-item ({exec} .ensures)"}
+ANS = {"exec-requires": "({pre} .0, {pre} .1, (omega arith, omega arith), rows-lent)", "returns": "is-item ({exec} .ensures)"}

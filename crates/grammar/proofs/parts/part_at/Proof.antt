@@ -19,6 +19,9 @@ cast-first c = search needs
 cast-second : tie.Need-cast-second
 cast-second c = search needs
 
+cast-third : tie.Need-cast-third
+cast-third c = search needs
+
 returns : tie.Need-returns
 returns c = row-of _ (c .before .before .pre .1 .row _) 0 (c .match .keys1)
 
@@ -57,6 +60,7 @@ part-at-spec =
     shared-slice-read-row
     cast-first
     cast-second
+    cast-third
     returns
     returns-2
     returns-3
