@@ -88,7 +88,16 @@ impl State {
         if self.mode != 0 {
             return self;
         }
-        match eat_at(self.pos, self.ev, self.evcap, self.full, set, ids, ends, events) {
+        match eat_at(
+            self.pos,
+            self.ev,
+            self.evcap,
+            self.full,
+            set,
+            ids,
+            ends,
+            events,
+        ) {
             Eaten::Row(past) => {
                 self.pos = past.pos;
                 self.ev = past.ev;
