@@ -137,7 +137,7 @@ module _ (at cap full : ℕ) (ev : List ℕ) where
 pub put-of : (s : State) {q : List ℕ} {e f : ℕ} {ev ev′ : List ℕ} → Penned q (s .ev) (s .evcap) (s .full) e f ev ev′ → Put q s (withEv e (withFull f s)) ev ev′
 put-of s u = record { is = refl; stuck = u .stuck; filled = u .filled; room = u .room; wrote = u .wrote; more = u .more; fits = u .fits; grows = u .grows; long = u .long; kept = u .kept }
 
--- A state that stands at a place: what holds of every one is known of this one, where the code has none at hand.
+-- a state for any place: what holds of all that stand there is known of this one, where the code has none at hand
 abbrev pub blank : State
 blank = record { pos = 0; fuel = 0; mode = 0; ev = 0; evcap = 0; er = 0; ercap = 0; item = 0; first = 0; far = 0; want = 0; unwant = 0; full = 0; count = 0; names = replicate 96 0 }
 
