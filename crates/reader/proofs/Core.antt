@@ -8,7 +8,7 @@ use native.Mathlib.Omega.{arith}
 use native.Mathlib.Decide.{ℕ-discrete}
 use borrow.Author.Tests.{le-ltb, lt-ltb, ltb-true, ltb-false}
 use lib.Dec.{ltb}
-use lib.ListN.{length, take, drop}
+use lib.ListN.{length, take, drop, replicate}
 use lib.Seq.{take-take}
 use Rattle.peg.specs.Run as P
 use Rattle.peg.specs.Run.{Event, opened, leaf, closed, bad}
@@ -16,7 +16,7 @@ use Rattle.peg.specs.Buffer.{four, buffer}
 use Rattle.peg.specs.Render.{Source, Rec, records, said, held, used, exceeds, moments-of, over}
 use Rattle.reader.specs.declared.state.State.{State}
 use Rattle.reader.specs.Bits.{ifb}
-use Rattle.reader.specs.Change.{withPos, withEv, withFull}
+use Rattle.reader.specs.Change.{withPos, withEv, withFull, standing}
 use Rattle.reader.specs.Means.{limits, Bufs, bufs, Past, Means, Stands, Lines, overOf}
 use Rattle.reader.specs.Did.{Ok, Wf, Roomy, Did, Events, Errors, Plain, Penned, Put}
 use Rattle.reader.proofs.Lists.{stored, take-four, keep-four, length-four}
@@ -136,6 +136,17 @@ module _ (at cap full : ℕ) (ev : List ℕ) where
 -- and what that is in a state
 pub put-of : (s : State) {q : List ℕ} {e f : ℕ} {ev ev′ : List ℕ} → Penned q (s .ev) (s .evcap) (s .full) e f ev ev′ → Put q s (withEv e (withFull f s)) ev ev′
 put-of s u = record { is = refl; stuck = u .stuck; filled = u .filled; room = u .room; wrote = u .wrote; more = u .more; fits = u .fits; grows = u .grows; long = u .long; kept = u .kept }
+
+-- a state for any place: what holds of all that stand there is known of this one, where the code has none at hand
+abbrev pub blank : State
+blank = record { pos = 0; fuel = 0; mode = 0; ev = 0; evcap = 0; er = 0; ercap = 0; item = 0; first = 0; far = 0; want = 0; unwant = 0; full = 0; count = 0; names = replicate 96 0 }
+
+pub ok-blank : (n pos ev cap full : ℕ) → pos ≤ n → ev ≤ cap → Ok n (standing pos ev cap full blank)
+ok-blank n pos ev cap full h k = (
+  record { here = h; since = omega arith; far-in = omega arith; want-in = omega arith; want-since = λ z. absurd (z refl); unwant-in = omega arith; unwant-since = λ z. absurd (z refl) },
+  record { few = omega arith; long = refl; below = tt; distinct = tt },
+  record { events = k; since = le-refl _; errors = le-refl _ },
+)
 
 module _ {q : List ℕ} {s r : State} {ev ev′ : List ℕ} (u : Put q s r ev ev′) where
   pub ok-put : {n : ℕ} → Ok n s → Ok n r

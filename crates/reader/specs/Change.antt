@@ -37,6 +37,10 @@ withNames n l s = record { pos = s .pos; fuel = s .fuel; mode = s .mode; ev = s 
 abbrev pub standing : ℕ → ℕ → ℕ → ℕ → State → State
 standing p e cap f s = record { pos = p; fuel = s .fuel; mode = s .mode; ev = e; evcap = cap; er = s .er; ercap = s .ercap; item = s .item; first = s .first; far = s .far; want = s .want; unwant = s .unwant; full = f; count = s .count; names = s .names }
 
+-- the same, with fuel and mode too
+abbrev pub running : ℕ → ℕ → ℕ → ℕ → ℕ → ℕ → State → State
+running p fu m e cap f s = standing p e cap f (withFuel fu (withMode m s))
+
 abbrev pub markOf : State → Mark
 markOf s = record { pos = s .pos; ev = s .ev }
 

@@ -8,7 +8,7 @@ ghost use lib.ListN.{length};
 ghost use Rattle.peg.specs.Buffer.{four};
 ghost use Rattle.peg.specs.Render.{Source};
 ghost use Rattle.peg.specs.Run as P;
-ghost use Rattle.reader.specs.Change.{markOf, gone, undoneTo, withMode, standing};
+ghost use Rattle.reader.specs.Change.{markOf, gone, undoneTo, withFuel, withMode, standing, running};
 ghost use Rattle.reader.specs.Means.{source, bufs, Lines};
 ghost use Rattle.reader.specs.Did.{Ok, Wf, Penned, Put, Events, Plain, Began, Shuts, shutA};
 
@@ -120,6 +120,119 @@ pub fn skip_trivia(
     }
 }
 
+// The same in any order of the state: where it failed or stopped, trivia stay.
+pub fn skip_gap(
+    mode: u8,
+    pos: usize,
+    ev: usize,
+    cap: usize,
+    full: u8,
+    ids: &[u32],
+    ends: &[u32],
+    events: &mut [u32],
+) -> Place
+    requires { ⌜ Lines (now ids) (now ends) × (ev ≤ cap) × (cap ≤ length (now events)) ⌝ }
+    ensures { λ r. ⌜ ((bytes : List ℕ) (s : State) → Ok (length (now (ids .entry))) (standing pos ev cap full s) → Events P.trivia (source bytes (now (ids .entry)) (now (ends .entry))) (standing pos ev cap full (withMode mode s)) (standing (r .pos) (r .ev) cap (r .full) (withMode mode s)) (now (events .entry)) (now (events .exit))) ⌝ }
+{
+    if mode != 0 {
+        return Place { pos, ev, full };
+    }
+    skip_trivia(pos, ev, cap, full, ids, ends, events)
+}
+
+// The fuel and the order that are left.
+pub struct Paid {
+    pub fuel: u32,
+    pub mode: u8,
+}
+
+// Takes one fuel for a node, where d more may be open. The first stop stands.
+pub fn charged(fuel: u32, mode: u8, d: usize) -> Paid
+    ensures { λ r. ⌜ ((x : Source) (s : State) → Ok (length (x .ids)) s → Plain (λ a. P.charge d (a .fuel) a) x (withFuel fuel (withMode mode s)) (withFuel (r .fuel) (withMode (r .mode) s))) ⌝ }
+{
+    if fuel == 0 {
+        if mode < 2 {
+            return Paid { fuel, mode: 2 };
+        }
+        return Paid { fuel, mode };
+    }
+    let left = fuel - 1;
+    if d == 0 {
+        if mode < 2 {
+            return Paid {
+                fuel: left,
+                mode: 3,
+            };
+        }
+        return Paid { fuel: left, mode };
+    }
+    Paid { fuel: left, mode }
+}
+
+// Where a node began: how many rows are covered, the fuel and order that are left, how many numbers stand written, and whether a room was
+// exceeded.
+pub struct Start {
+    pub pos: usize,
+    pub fuel: u32,
+    pub mode: u8,
+    pub ev: usize,
+    pub full: u8,
+}
+
+// Begins a node: its event is written, fuel or not. Like `write` it takes and gives numbers, so that a caller changes its state in place.
+pub fn begun(
+    pos: usize,
+    fuel: u32,
+    mode: u8,
+    ev: usize,
+    cap: usize,
+    full: u8,
+    d: usize,
+    ids: &[u32],
+    ends: &[u32],
+    events: &mut [u32],
+) -> Start
+    requires { ⌜ Lines (now ids) (now ends) × (pos ≤ length (now ids)) × (ev ≤ cap) × (cap ≤ length (now events)) ⌝ }
+    ensures { λ r. ⌜ ((bytes : List ℕ) (s : State) → Ok (length (now (ids .entry))) (running pos fuel mode ev cap full s) → Began d (source bytes (now (ids .entry)) (now (ends .entry))) (running pos fuel mode ev cap full s) (running (r .pos) (r .fuel) (r .mode) (r .ev) cap (r .full) s) (now (events .entry)) (now (events .exit))) ⌝ }
+{
+    let to = skip_gap(mode, pos, ev, cap, full, ids, ends, events);
+    let paid = charged(fuel, mode, d);
+    let start = start_of(to.pos, ends);
+    let pen = write(to.ev, cap, to.full, 1, 0, start, start, events);
+    Start {
+        pos: to.pos,
+        fuel: paid.fuel,
+        mode: paid.mode,
+        ev: pen.ev,
+        full: pen.full,
+    }
+}
+
+// Closes a node that began at row `from`, its event before `at`: that event gets kind and end, and the end event is written.
+pub fn closed(
+    kind: u32,
+    from: usize,
+    pos: usize,
+    at: usize,
+    ev: usize,
+    cap: usize,
+    full: u8,
+    ends: &[u32],
+    events: &mut [u32],
+) -> Pen
+    requires { ⌜ (pos ≤ length (now ends)) × (from ≤ pos) × (ev ≤ cap) × (cap ≤ length (now events)) × (full ≡ 0 → (4 ≤ at) × (at ≤ ev)) ⌝ }
+    ensures { λ r. ⌜ ((s : State) (bytes ids er sc : List ℕ) → Lines ids (now (ends .entry)) → Wf (source bytes ids (now (ends .entry))) (bufs (now (events .entry)) er sc) (standing pos ev cap full s) → Shuts (shutA kind (length ids - from)) at (source bytes ids (now (ends .entry))) (standing pos ev cap full s) (standing pos (r .ev) cap (r .full) s) (bufs (now (events .entry)) er sc) (bufs (now (events .exit)) er sc)) ⌝ }
+{
+    if full != 0 {
+        return Pen { ev, full };
+    }
+    let start = start_of(from, ends);
+    let end = start_of(pos, ends);
+    events[at - 3] = kind;
+    events[at - 1] = end;
+    write(ev, cap, full, 3, kind, start, end, events)
+}
+
 impl State {
     // Writes an event; where there is no room, says so.
     pub fn put(mut self, sort: u32, kind: u32, start: u32, end: u32, events: &mut [u32]) -> Self
@@ -146,50 +259,55 @@ impl State {
         requires { ⌜ Lines (now ids) (now ends) × Ok (length (now ids)) self × (self .evcap ≤ length (now events)) ⌝ }
         ensures { λ r. ⌜ ((bytes : List ℕ) → Events P.trivia (source bytes (now (ids .entry)) (now (ends .entry))) self r (now (events .entry)) (now (events .exit))) ⌝ }
     {
-        if self.mode != 0 {
-            return self;
-        }
-        let at = skip_trivia(self.pos, self.ev, self.evcap, self.full, ids, ends, events);
+        let at = skip_gap(
+            self.mode,
+            self.pos,
+            self.ev,
+            self.evcap,
+            self.full,
+            ids,
+            ends,
+            events,
+        );
         self.pos = at.pos;
         self.ev = at.ev;
         self.full = at.full;
         self
     }
 
-    // Takes one fuel for a node, where d more may be open. The first stop stands.
     pub fn charge(mut self, d: usize) -> Self
         ensures { λ r. ⌜ ((x : Source) → Ok (length (x .ids)) self → Plain (λ a. P.charge d (a .fuel) a) x self r) ⌝ }
     {
-        if self.fuel == 0 {
-            if self.mode < 2 {
-                self.mode = 2;
-                return self;
-            }
-            return self;
-        }
-        self.fuel = self.fuel - 1;
-        if d == 0 {
-            if self.mode < 2 {
-                self.mode = 3;
-                return self;
-            }
-            return self;
-        }
+        let paid = charged(self.fuel, self.mode, d);
+        self.fuel = paid.fuel;
+        self.mode = paid.mode;
         self
     }
 
-    // Begins a node: its event is written, fuel or not.
     pub fn begin(mut self, d: usize, ids: &[u32], ends: &[u32], events: &mut [u32]) -> Self
         requires { ⌜ Lines (now ids) (now ends) × Ok (length (now ids)) self × (self .evcap ≤ length (now events)) ⌝ }
         ensures { λ r. ⌜ ((bytes : List ℕ) → Began d (source bytes (now (ids .entry)) (now (ends .entry))) self r (now (events .entry)) (now (events .exit))) ⌝ }
     {
-        self = self.trivia(ids, ends, events);
-        self = self.charge(d);
-        let start = start_of(self.pos, ends);
-        self.put(1, 0, start, start, events)
+        let start = begun(
+            self.pos,
+            self.fuel,
+            self.mode,
+            self.ev,
+            self.evcap,
+            self.full,
+            d,
+            ids,
+            ends,
+            events,
+        );
+        self.pos = start.pos;
+        self.fuel = start.fuel;
+        self.mode = start.mode;
+        self.ev = start.ev;
+        self.full = start.full;
+        self
     }
 
-    // Closes a node that began at row `from`, its event before `at`: that event gets kind and end, and the end event is written.
     pub fn shut(
         mut self,
         kind: u32,
@@ -201,14 +319,20 @@ impl State {
         requires { ⌜ (self .pos ≤ length (now ends)) × (from ≤ self .pos) × (self .ev ≤ self .evcap) × (self .evcap ≤ length (now events)) × (self .full ≡ 0 → (4 ≤ at) × (at ≤ self .ev)) ⌝ }
         ensures { λ r. ⌜ ((bytes ids er sc : List ℕ) → Lines ids (now (ends .entry)) → Wf (source bytes ids (now (ends .entry))) (bufs (now (events .entry)) er sc) self → Shuts (shutA kind (length ids - from)) at (source bytes ids (now (ends .entry))) self r (bufs (now (events .entry)) er sc) (bufs (now (events .exit)) er sc)) ⌝ }
     {
-        if self.full != 0 {
-            return self;
-        }
-        let start = start_of(from, ends);
-        let end = start_of(self.pos, ends);
-        events[at - 3] = kind;
-        events[at - 1] = end;
-        self.put(3, kind, start, end, events)
+        let pen = closed(
+            kind,
+            from,
+            self.pos,
+            at,
+            self.ev,
+            self.evcap,
+            self.full,
+            ends,
+            events,
+        );
+        self.ev = pen.ev;
+        self.full = pen.full;
+        self
     }
 
     pub fn mark(self) -> Mark
