@@ -1,6 +1,6 @@
 -- The kinds of a set in the order list: the first that has an id, and their names. Assumes nothing.
 use Prim.Native.Nat.{ℕ, zero, suc, _+_, _-_, _≤_, _<_}
-use mathlib.Core.Path.{_≡_, refl, sym, ap, subst⁻¹, _∙_}
+use mathlib.Core.Path.{_≡_, refl, sym, ap, _∙_}
 use mathlib.Core.List.{List, [], _∷_, map}
 use mathlib.Core.Bool.{Bool, true, false}
 use mathlib.Core.Option.{none, some}
@@ -23,7 +23,7 @@ place-none s h = record { forward = omega arith; within = omega arith; is = sym 
 
 -- where a set stands, by the numbers that its beginning and the next are
 pub placed : {s from to : ℕ} → s < 55 → from ≡ getD (starts 0 sets) s 0 → to ≡ getD (starts 0 sets) (s + 1) 0 → PartOf order (setOf s) from to
-placed {s} {from} {to} h e f = subst⁻¹ (λ (a : ℕ). PartOf order (setOf s) a to) e (subst⁻¹ (λ (b : ℕ). PartOf order (setOf s) (getD (starts 0 sets) s 0) b) f (parts sets s h))
+placed {s} h e f = rw (e, f) (parts sets s h)
 
 -- looking for the id i in the list l, which stands in the whole up to to, with the kinds before the place p passed
 pub record Looked (whole l : List ℕ) (i to p : ℕ) : Type 0 where
@@ -55,12 +55,12 @@ module _ {whole l : List ℕ} {i to p : ℕ} (g : Looked whole l i to p) where
   looked-none h = let no-more : to - p ≡ 0 = omega arith in sym (g .rest) ∙ ap (λ (n : ℕ). pick (take n (drop p whole)) i) no-more
 
 -- an element of the list of ids
-pub id-at : (l : List ℕ) (k : ℕ) → k < length l → getElem? (map idOf l) k ≡ some (idOf (getD l k 0))
+id-at : (l : List ℕ) (k : ℕ) → k < length l → getElem? (map idOf l) k ≡ some (idOf (getD l k 0))
 id-at [] k h = absurd (omega arith)
 id-at (a ∷ l) zero h = refl
 id-at (a ∷ l) (suc k) h = id-at l k (omega arith)
 
-pub id-past : (l : List ℕ) (k : ℕ) → length l ≤ k → getElem? (map idOf l) k ≡ none
+id-past : (l : List ℕ) (k : ℕ) → length l ≤ k → getElem? (map idOf l) k ≡ none
 id-past [] k h = refl
 id-past (a ∷ l) zero h = absurd (omega arith)
 id-past (a ∷ l) (suc k) h = id-past l k (omega arith)
