@@ -7,12 +7,7 @@ use native.Mathlib.Numerals.{add-one}
 use native.Mathlib.Omega.{arith}
 use lib.ListN.{length, getD, take, drop, length-append}
 use lib.Seq.{take-append-seam, drop-at}
-use Rattle.kinds.specs.Answers.{joined, PartOf}
-
--- where each list begins when the first begins at n, and where the last ends
-abbrev pub starts : ℕ → List (List ℕ) → List ℕ
-starts n [] = n ∷ []
-starts n (L ∷ Ls) = n ∷ starts (n + length L) Ls
+use Rattle.kinds.specs.Answers.{joined, starts, PartOf}
 
 starts-head : (n : ℕ) (Ls : List (List ℕ)) → getD (starts n Ls) 0 0 ≡ n
 starts-head n [] = refl

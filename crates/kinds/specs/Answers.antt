@@ -1,5 +1,5 @@
 -- What the answers of this crate stand for.
-use Prim.Native.Nat.{ℕ, _-_, _/_, _%_, _^_, _≤_}
+use Prim.Native.Nat.{ℕ, zero, suc, _+_, _-_, _/_, _%_, _^_, _≤_}
 use mathlib.Core.Path.{_≡_}
 use mathlib.Core.List.{List, [], _∷_, _++_}
 use mathlib.Core.Bool.{Bool, true, false}
@@ -36,6 +36,16 @@ joined (S ∷ Ss) = S ++ joined Ss
 -- the kinds of all sets
 abbrev pub order : List ℕ
 order = joined sets
+
+-- where each list begins when the first begins at n, and where the last ends
+abbrev pub starts : ℕ → List (List ℕ) → List ℕ
+starts n [] = n ∷ []
+starts n (L ∷ Ls) = n ∷ starts (n + length L) Ls
+
+-- the number i is none of those below n, as the last arm of a `match` on each of them knows it
+abbrev pub NoneBelow : ℕ → ℕ → Type 0
+NoneBelow zero i = Unit
+NoneBelow (suc n) i = NoneBelow n i × (i ≡ n → ⊥)
 
 -- the list l stands in the whole at from up to to
 pub record PartOf (whole l : List ℕ) (from to : ℕ) : Type 0 where

@@ -14,9 +14,9 @@ mod text;
 
 pub use answer::Matched;
 pub use answer::Name;
-use table::BEGINS;
-use table::ORDER;
 pub use table::SETS;
+use table::begins;
+use table::ordered;
 pub use text::spell_kind;
 pub use text::spell_name;
 
@@ -79,22 +79,7 @@ pub fn contains(set: usize, id: u32) -> bool
     false
 }
 
-// The first of the kinds that has the id.
-fn first(kinds: &[u8], id: u32) -> Matched
-    ensures { λ r. ⌜ r ≡ matchedOf (pick (now (kinds .entry)) id) ⌝ }
-{
-    let mut i = 0;
-    while i < kinds.len() {
-        let kind = kinds[i] as u32;
-        if id_of(kind) == id {
-            return Matched::Kind(kind);
-        }
-        i += 1;
-    }
-    Matched::Nothing
-}
-
-// Where a set stands in `ORDER`.
+// Where a set stands in the order of all kinds.
 struct Part {
     from: usize,
     to: usize,
@@ -105,8 +90,8 @@ fn place(set: usize) -> Part
 {
     if set < 55 {
         return Part {
-            from: BEGINS[set] as usize,
-            to: BEGINS[set + 1] as usize,
+            from: begins(set),
+            to: begins(set + 1),
         };
     }
     Part { from: 0, to: 0 }
@@ -117,20 +102,16 @@ pub fn matched(set: usize, id: u32) -> Matched
     ensures { λ r. ⌜ r ≡ matchedOf (pick (setOf set) id) ⌝ }
 {
     let p = place(set);
-    let from = p.from;
     let to = p.to;
-    let order = ORDER;
-    first(&order[from..to], id)
-}
-
-// The id of the k-th of the kinds, from 0.
-fn nth(kinds: &[u8], k: usize) -> Name
-    ensures { λ r. ⌜ r ≡ nameOf (getElem? (idsOf (now (kinds .entry))) k) ⌝ }
-{
-    if k < kinds.len() {
-        return Name::Is(id_of(kinds[k] as u32));
+    let mut i = p.from;
+    while i < to {
+        let kind = ordered(i);
+        if id_of(kind) == id {
+            return Matched::Kind(kind);
+        }
+        i += 1;
     }
-    Name::Nothing
+    Matched::Nothing
 }
 
 // The k-th, from 0, of the names that the set enters.
@@ -139,7 +120,8 @@ pub fn name_at(set: usize, k: usize) -> Name
 {
     let p = place(set);
     let from = p.from;
-    let to = p.to;
-    let order = ORDER;
-    nth(&order[from..to], k)
+    if k < p.to - from {
+        return Name::Is(id_of(ordered(from + k)));
+    }
+    Name::Nothing
 }

@@ -1,33 +1,35 @@
--- `kinds::name_at` meets its contract: the part of the order list that is read is the set.
-use Prim.Native.Nat.{ℕ}
-use mathlib.Core.Path.{ap, _∙_}
-use mathlib.Core.List.{List}
-use lib.ListN.{getElem?}
+-- `kinds::name_at` meets its contract: the part of the order that is read is the set.
+use mathlib.Core.Path.{sym, ap, _∙_}
 use borrow.Author.Needs.{needs}
-use Rattle.kinds.specs.Sets.{idsOf}
+use Rattle.kinds.specs.Sets.{idOf}
 use Rattle.kinds.specs.Answers.{nameOf}
+use Rattle.kinds.specs.declared.answer.Name.the-variants as n
+use Rattle.kinds.proofs.Order.{part-id, part-past}
 use Rattle.kinds.proofs.name_at.Statement.{statement}
 use Rattle.kinds.proofs.name_at.Tie as tie
 
 place-requires : tie.Need-place-requires
 place-requires c κs = search needs
 
-sub-nth : tie.Need-sub-nth
-sub-nth c = search needs
+sub-if1 : tie.Need-sub-if1
+sub-if1 c = search needs
 
-part-nth-start : tie.Need-part-nth-start
-part-nth-start c = search needs
+add-ordered : tie.Need-add-ordered
+add-ordered c = search needs
 
-part-nth-end : tie.Need-part-nth-end
-part-nth-end c = search needs
+ordered-requires : tie.Need-ordered-requires
+ordered-requires c κs = search needs
 
-nth-requires : tie.Need-nth-requires
-nth-requires c κs = search needs
+id-of-requires : tie.Need-id-of-requires
+id-of-requires c κs = search needs
 
 returns : tie.Need-returns
-returns c = c .nth .ensures ∙ ap (λ (S : List ℕ). nameOf (getElem? (idsOf S) (c .before .before .before .before .args .k))) (c .before .before .before .place .ensures .is)
+returns c = ap n.Is (c .id-of .ensures ∙ ap idOf (c .before .ordered .ensures)) ∙ sym (ap nameOf (part-id (c .before .before .before .before .place .ensures) _ (c .before .before .if1 .taken)))
+
+returns-2 : tie.Need-returns-2
+returns-2 c = sym (ap nameOf (part-past (c .before .before .place .ensures) _ (c .if1 .left)))
 
 pub name-at-spec : {M : Type 1} → statement M
 name-at-spec =
     tie.close
-    (tie.spec place-requires sub-nth part-nth-start part-nth-end nth-requires returns)
+    (tie.spec place-requires sub-if1 add-ordered ordered-requires id-of-requires returns returns-2)
