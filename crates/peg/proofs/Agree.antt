@@ -13,7 +13,8 @@ use Rattle.kinds.specs.Sets.{idOf, pick}
 use Rattle.peg.specs.Prog.{Production, Prog, eat, unless, ifnext, opt, many, then, _⨟_, _/_, last, recover, node, memo}
 use Rattle.peg.specs.Grammar.{grammar, kind}
 use Rattle.peg.specs.Run.{State, Reader, Mode, ok, failed, stopped, Stop, spent, deep, Choice, wanted, unwanted, Next, end, other, hit, next, sought, skip, gap, trivia, turn, take, back, expected, unexpected, further, furthest, join, choose, decide, halted, charge, begin, finish, if-ok, fails, eat-row, eat-at, refuse-row, refuse-at, branch, branch-at, then-at, or-else, alt-at, go-on, loop, loop-at, known, remember, memo-row, memo-at, nodes, first-names, swallow, recovered, recovery, exec, run}
-use Rattle.peg.specs.Peg.{strip, Res, Miss, Peg, eat-yes, eat-no, unless-yes, unless-no, ifnext-hit, ifnext-miss, opt-yes, opt-no, many-yes, many-no, then-is, seq-yes, seq-no, alt-yes, alt-no, last-is, recover-is, node-is, memo-is}
+use Rattle.peg.specs.Ford.{strip, Res}
+use Rattle.peg.proofs.Peg.{Miss, Peg, eat-yes, eat-no, unless-yes, unless-no, ifnext-hit, ifnext-miss, opt-yes, opt-no, many-yes, many-no, then-is, seq-yes, seq-no, alt-yes, alt-no, last-is, recover-is, node-is, memo-is}
 use Rattle.peg.proofs.Order.{Running, steps, loop-up, swallow-up}
 use Rattle.peg.proofs.Grows.{End, Front, Grown, grown, grows, sought-hit, take-end, gap-end, end-trans, running-before, run-zero}
 use Rattle.peg.proofs.Every.{and-left, and-right, productions, each, each-if, kind-inj, never}

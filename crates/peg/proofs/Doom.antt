@@ -13,7 +13,8 @@ use Rattle.kinds.specs.Sets.{idOf, pick}
 use Rattle.peg.specs.Prog.{Production, CONDITION-BLK, FOR-EXPR, WITH-EXPR, Prog, eat, unless, ifnext, opt, many, then, _⨟_, _/_, last, recover, node, memo}
 use Rattle.peg.specs.Grammar.{grammar, kind}
 use Rattle.peg.specs.Run.{State, Reader, Mode, ok, failed, stopped, Next, end, other, hit, next, sought, skip, trivia, turn, back, begin, finish, if-ok, fails, eat-row, eat-at, refuse-row, refuse-at, branch, branch-at, then-at, or-else, alt-at, go-on, loop, loop-at, known, remember, memo-row, memo-at, nodes, recovered, recovery, exec, run}
-use Rattle.peg.specs.Peg.{strip, Res, Miss, Peg, eat-yes, ifnext-hit, then-is, seq-yes, seq-no, alt-no, recover-is, node-is}
+use Rattle.peg.specs.Ford.{strip, Res}
+use Rattle.peg.proofs.Peg.{Miss, Peg, eat-yes, ifnext-hit, then-is, seq-yes, seq-no, alt-no, recover-is, node-is}
 use Rattle.peg.proofs.Order.{Running, finish-up}
 use Rattle.peg.proofs.Grows.{Grown, grown, grows, sought-hit, running-before, run-zero}
 use Rattle.peg.proofs.Every.{and-left, and-right, or-cases, productions, each, each-if, is, kind-inj, clash, never}

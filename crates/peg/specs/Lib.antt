@@ -1,7 +1,6 @@
 pub mod Prog
 pub mod Grammar
 pub mod Run
-pub mod Peg
 pub mod Ford
 pub mod Render
 pub mod Buffer
