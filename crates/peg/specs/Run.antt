@@ -285,11 +285,8 @@ eat-row N end s = turn failed (expected N s)
 eat-row N other s = turn failed (expected N s)
 eat-row N (hit a is) s = take a is (trivia s)
 
-abbrev pub eat-at : List ℕ → List ℕ → Reader
-eat-at S N s = eat-row N (next S (s .rest)) s
-
 abbrev pub eats : List ℕ → List ℕ → Reader
-eats S N = if-ok (eat-at S N)
+eats S N = if-ok (λ s. eat-row N (next S (s .rest)) s)
 
 -- `not`: "a miss enters nothing"; it goes back always, and what was written until then took its room
 abbrev pub refuse-row : Next → Reader
@@ -297,22 +294,16 @@ refuse-row end s = back s (trivia s)
 refuse-row other s = back s (trivia s)
 refuse-row (hit a is) s = turn failed (unexpected (back s (take a is (trivia s))))
 
-abbrev pub refuse-at : List ℕ → Reader
-refuse-at S s = refuse-row (next S (s .rest)) s
-
 abbrev pub refuses : List ℕ → Reader
-refuses S = if-ok (refuse-at S)
+refuses S = if-ok (λ s. refuse-row (next S (s .rest)) s)
 
 -- behind the last alternative
 abbrev pub fails : Reader
 fails = if-ok (turn failed)
 
 -- `then`
-abbrev pub then-at : Reader → Reader
-then-at f s = f (trivia s)
-
 abbrev pub thens : Reader → Reader
-thens f = if-ok (then-at f)
+thens f = if-ok (λ s. f (trivia s))
 
 -- "`if_next` without its token enters names but does not fail; at the end of rows it does nothing."
 abbrev pub branch : List ℕ → Reader → Next → Reader
@@ -320,21 +311,15 @@ branch N f end s = s
 branch N f other s = expected N s
 branch N f (hit a is) s = f (trivia s)
 
-abbrev pub branch-at : List ℕ → Reader → Reader
-branch-at S f s = branch (map idOf S) f (next S (s .rest)) s
-
 abbrev pub branches : List ℕ → Reader → Reader
-branches S f = if-ok (branch-at S f)
+branches S f = if-ok (λ s. branch (map idOf S) f (next S (s .rest)) s)
 
 -- "A failed `alt` goes back to the bookmark; a stopped one does not.": f, where what came to t from the bookmark s failed
 abbrev pub or-else : Reader → State → State → State
 or-else f s t = elim (t .mode) [ ok ↦ t | failed ↦ f (turn ok (back s t)) | stopped w ↦ t ]
 
-abbrev pub alt-at : Reader → Reader → Reader
-alt-at f g s = or-else g s (f (trivia s))
-
 abbrev pub alts : Reader → Reader → Reader
-alts f g = if-ok (alt-at f g)
+alts f g = if-ok (λ s. or-else g s (f (trivia s)))
 
 -- "`opt` goes back on Failure only"
 abbrev pub opts : Reader → Reader
@@ -349,11 +334,8 @@ abbrev pub loop : Reader → ℕ → Reader
 loop f zero s = s
 loop f (suc n) s = go-on (λ t. loop f n t) s (f (trivia s))
 
-abbrev pub loop-at : Reader → Reader
-loop-at f s = loop f (suc (length (s .rest))) s
-
 abbrev pub loops : Reader → Reader
-loops f = if-ok (loop-at f)
+loops f = if-ok (λ s. loop f (suc (length (s .rest))) s)
 
 -- "`cached` (EXPR, TERM) remembers only failures, by row index at entry. It is exact: nothing is dropped before the item ends. Hits spend no fuel
 -- and enter no names."
@@ -368,11 +350,8 @@ abbrev pub memo-row : ℕ → Reader → Bool → Reader
 memo-row a f true s = turn failed s
 memo-row a f false s = remember (length (s .rest)) a (f s)
 
-abbrev pub memo-at : ℕ → Reader → Reader
-memo-at a f s = memo-row a f (known (s .cache) (length (s .rest)) a) s
-
 abbrev pub memos : ℕ → Reader → Reader
-memos a f = if-ok (memo-at a f)
+memos a f = if-ok (λ s. memo-row a f (known (s .cache) (length (s .rest)) a) s)
 
 -- `begin`, a body, `end`: "`begin` is not so guarded"
 abbrev pub nodes : ℕ → Bool → ℕ → Reader → Reader

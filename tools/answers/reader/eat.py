@@ -18,7 +18,7 @@ L='({pre} .0 .level)'
 def past(bytes):
     return f'({{skip-trivia}} .ensures {bytes} ({{args}} .self) ({{if1}} .left) ({{pre}} .1))'
 
-ANS={'returns':f'λ bytes. not-okE (P.eat-at {S} {N}) (λ p. sticky p {X} .at-eat {S} {N}) ({{pre}} .1) ({{pre}} .2) ({{if1}} .taken)',
+ANS={'returns':f'λ bytes. not-okE _ (λ p. sticky p {X} .at-eat {S} {N}) ({{pre}} .1) ({{pre}} .2) ({{if1}} .taken)',
 'peek-requires':'{pre} .1 .0 .here',
 'miss-requires':'({pre} .1 .1, {pre} .3, omega (arith, {peek} .ensures .within, {pre} .0 .few))',
 'returns-2':f'λ bytes. eat-misses {S} {N} ({{if1}} .left) P.Next.end (next-end {S} ({{peek}} .ensures) ({{if2}} .taken)) (λ a. refl) ({{pre}} .2) ({{miss}} .ensures {X} ({{pre}} .1) ({{peek}} .ensures))',

@@ -23,7 +23,7 @@ use Rattle.reader.proofs.state.skip_trivia.Reads as skip-trivia-reads
 use Rattle.reader.proofs.state.write.Reads as write-reads
 
 returns : tie.Need-returns
-returns c = λ bytes. not-okE (P.eat-at (setOf (c .before .before .before .before .before .args .set)) (namesOf (c .before .before .before .before .before .args .set) (c .before .before .before .before .before .args .label))) (λ p. sticky p (source bytes (c .before .before .before .before .before .args .ids .now) (c .before .before .before .before .before .args .ends .now)) .at-eat (setOf (c .before .before .before .before .before .args .set)) (namesOf (c .before .before .before .before .before .args .set) (c .before .before .before .before .before .args .label))) (c .before .before .before .before .before .pre .1) (c .before .before .before .before .before .pre .2) (c .if1 .taken)
+returns c = λ bytes. not-okE _ (λ p. sticky p (source bytes (c .before .before .before .before .before .args .ids .now) (c .before .before .before .before .before .args .ends .now)) .at-eat (setOf (c .before .before .before .before .before .args .set)) (namesOf (c .before .before .before .before .before .args .set) (c .before .before .before .before .before .args .label))) (c .before .before .before .before .before .pre .1) (c .before .before .before .before .before .pre .2) (c .if1 .taken)
 
 peek-requires : tie.Need-peek-requires
 peek-requires c κs = c .before .before .before .before .before .pre .1 .0 .here
