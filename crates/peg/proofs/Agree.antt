@@ -12,8 +12,9 @@ use Rattle.kinds.specs.Kinds as kinds
 use Rattle.kinds.specs.Sets.{idOf, pick}
 use Rattle.peg.specs.Prog.{Production, Prog, eat, unless, ifnext, opt, many, then, _⨟_, _/_, last, recover, node, memo}
 use Rattle.peg.specs.Grammar.{grammar, kind}
-use Rattle.peg.specs.Run.{State, Reader, Mode, ok, failed, stopped, Stop, spent, deep, Choice, wanted, unwanted, Next, end, other, hit, next, sought, skip, gap, trivia, turn, take, back, expected, unexpected, further, furthest, join, choose, decide, halted, charge, begin, finish, if-ok, fails, eat-row, refuse-row, branch, or-else, go-on, loop, known, remember, memo-row, nodes, first-names, swallow, recovered, recovery, exec, run}
+use Rattle.peg.specs.Run.{State, Reader, Mode, ok, failed, stopped, Stop, spent, deep, Choice, wanted, unwanted, Next, end, other, hit, next, sought, skip, trivia, turn, take, back, expected, unexpected, further, furthest, join, choose, decide, halted, charge, begin, finish, if-ok, fails, eat-row, refuse-row, branch, or-else, go-on, loop, known, remember, memo-row, nodes, first-names, swallow, recovered, recovery, exec, run}
 use Rattle.peg.specs.Ford.{strip, Res}
+use Rattle.peg.proofs.Gap.{gap}
 use Rattle.peg.proofs.Peg.{Miss, Peg, eat-yes, eat-no, unless-yes, unless-no, ifnext-hit, ifnext-miss, opt-yes, opt-no, many-yes, many-no, then-is, seq-yes, seq-no, alt-yes, alt-no, last-is, recover-is, node-is, memo-is}
 use Rattle.peg.proofs.Order.{Running, steps, loop-up, swallow-up}
 use Rattle.peg.proofs.Grows.{End, Front, Grown, grown, grows, sought-hit, take-end, gap-end, end-trans, running-before, run-zero}

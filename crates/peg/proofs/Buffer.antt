@@ -10,9 +10,11 @@ use Rattle.kinds.specs.Kinds as kinds
 use Rattle.kinds.specs.Sets.{kindOf, trivial}
 use Rattle.peg.specs.Prog.{Prog, Production}
 use Rattle.peg.specs.Grammar.{rule-decl}
-use Rattle.peg.specs.Run.{State, Reader, Limits, Event, opened, leaf, closed, bad, Mode, ok, failed, stopped, next, past, gap-out, trivia-out, trivia, seek-out, take, turn, charge, begin, finish, nodes, exec, run, read, Choice, stray, Next, end, other, hit, sought, seek, errors, rule-keywords, read-rule, stray-item, item-at, flush, again, item}
+use Rattle.peg.specs.Run.{State, Reader, Limits, Event, opened, leaf, closed, bad, Mode, ok, failed, stopped, next, past, trivia-out, trivia, seek-out, take, turn, charge, begin, finish, nodes, exec, run, read, Choice, stray, Next, end, other, hit, sought, seek, errors, rule-keywords, read-rule, stray-item, item-at, flush, again, item}
 use Rattle.peg.specs.Render.{Source, starts-at, ends-at, span-end, bads, Quad, flat, render, inside}
-use Rattle.peg.specs.Buffer.{four, patch, buffered, buffer, Nest, Adds, Open}
+use Rattle.peg.specs.Buffer.{four, patch, buffered, buffer}
+use Rattle.peg.specs.Open.{Nest, Adds, Open}
+use Rattle.peg.proofs.Gap.{gap-out}
 use Rattle.peg.proofs.Induct.{exec-kept, run-kept}
 use Rattle.peg.proofs.Order.{Steps, stepped}
 use Rattle.peg.proofs.Tidy.{nest-trans, read-tidy}

@@ -11,8 +11,9 @@ use native.Mathlib.Omega.{arith}
 use Rattle.kinds.specs.Sets.{idOf, pick}
 use Rattle.peg.specs.Prog.{RULE-DECL, node}
 use Rattle.peg.specs.Grammar.{grammar, rule-decl}
-use Rattle.peg.specs.Run.{State, Mode, ok, failed, stopped, Event, Choice, stray, Next, end, other, hit, sought, skip, gap, trivia, turn, put, run, Limits, rule-keywords, read-rule, stray-item, item-at, errors, flush, again, item, items, start, read}
+use Rattle.peg.specs.Run.{State, Mode, ok, failed, stopped, Event, Choice, stray, Next, end, other, hit, sought, skip, trivia, turn, put, run, Limits, rule-keywords, read-rule, stray-item, item-at, errors, flush, again, item, items, start, read}
 use Rattle.peg.specs.Ford.{strip, Res, Rules, no-more, one-rule}
+use Rattle.peg.proofs.Gap.{gap}
 use Rattle.peg.proofs.Peg.{Peg}
 use Rattle.peg.proofs.Every.{never}
 use Rattle.peg.proofs.Induct.{exec-kept, run-kept}

@@ -12,7 +12,7 @@ use Rattle.kinds.specs.Kinds as k
 use Rattle.peg.specs.Run.{State, Limits, Event, opened, leaf, closed, bad, Choice, items, start, read}
 use Rattle.peg.specs.Render.{Source, ends-at, starts-at, id-at, text-at, span-end, Quad, Rec, Page, bads, write, render, form-of, names-of, record-of, records, inside}
 use Rattle.peg.specs.Remaining.{shifts, shift-records}
-use Rattle.peg.specs.Buffer.{Nest}
+use Rattle.peg.specs.Open.{Nest}
 use Rattle.peg.proofs.Every.{never}
 use Rattle.peg.proofs.Order.{Running}
 use Rattle.peg.proofs.Frame.{h}

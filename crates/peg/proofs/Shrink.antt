@@ -10,8 +10,9 @@ use native.Mathlib.Omega.{arith}
 use Rattle.kinds.specs.Sets.{trivial}
 use Rattle.peg.specs.Prog.{Production, Prog, eat, unless, ifnext, opt, many, then, _⨟_, _/_, last, recover, node, memo}
 use Rattle.peg.specs.Grammar.{grammar, kind}
-use Rattle.peg.specs.Run.{State, Reader, Mode, ok, failed, stopped, Stop, spent, deep, Next, end, other, hit, next, skip, gap, trivia, turn, back, halted, charge, begin, finish, if-ok, eat-row, or-else, fails, known, remember, memo-row, exec, run}
+use Rattle.peg.specs.Run.{State, Reader, Mode, ok, failed, stopped, Stop, spent, deep, Next, end, other, hit, next, skip, trivia, turn, back, halted, charge, begin, finish, if-ok, eat-row, or-else, fails, known, remember, memo-row, exec, run}
 use Rattle.peg.specs.Ford.{strip}
+use Rattle.peg.proofs.Gap.{gap}
 use Rattle.peg.proofs.Every.{and-left, and-right, or-cases, productions, each, never}
 use Rattle.peg.proofs.Induct.{exec-kept}
 use Rattle.peg.proofs.Order.{ordered, Running}

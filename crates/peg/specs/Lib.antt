@@ -4,6 +4,7 @@ pub mod Run
 pub mod Ford
 pub mod Render
 pub mod Buffer
+pub mod Open
 pub mod Answer
 pub mod Remaining
 pub mod Merge

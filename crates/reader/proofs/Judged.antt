@@ -14,7 +14,7 @@ use Rattle.peg.proofs.Every.{and-left, and-right}
 use Rattle.peg.proofs.Cut.{rows-of}
 use Rattle.reader.specs.Means.{source, Rows}
 
-neither : (a b : Bool) → (a || b) ≡ false → (a ≡ false) × (b ≡ false)
+neither : (a b : Bool) → elim a [ true ↦ true | false ↦ b ] ≡ false → (a ≡ false) × (b ≡ false)
 neither true b e = absurd (subst (λ (b : Bool). T b) e tt)
 neither false b e = (refl, e)
 

@@ -12,7 +12,7 @@ use lib.ListN.{length, take, drop, length-drop}
 use lib.Seq.{take-take}
 use Rattle.peg.specs.Run as P
 use Rattle.peg.specs.Run.{Mode, ok, failed, stopped, Stop, spent, deep}
-use Rattle.peg.specs.Buffer.{Adds, Open}
+use Rattle.peg.specs.Open.{Adds, Open}
 use Rattle.peg.specs.Render.{Source}
 use Rattle.peg.proofs.Buffer.{begun-open}
 use Rattle.reader.specs.declared.state.State.{State}

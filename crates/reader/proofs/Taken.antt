@@ -15,6 +15,7 @@ use Rattle.peg.specs.Run.{Event, opened, leaf, closed, bad, Mode, ok, failed, s
 use Rattle.peg.specs.Render.{Source, starts-at, ends-at, span-end, said, held, used}
 use Rattle.peg.specs.Buffer.{four, buffer}
 use Rattle.peg.proofs.Buffer.{buffer-leaf, buffer-opened}
+use Rattle.peg.proofs.Gap.{gap, gap-out}
 use Rattle.reader.specs.declared.state.State.{State}
 use Rattle.reader.specs.Change.{withPos, withMode, withFuel, withEv, withFull, standing}
 use Rattle.reader.specs.Means.{limits, Bufs, bufs, Past, source, Means, Stands, Lines, modeOf, overOf}
@@ -81,7 +82,7 @@ out-more (i ∷ is) o = go (trivial i) (out-more is (leaf i (suc (length is)) �
 
 -- what is written when trivia are skipped in good order
 trivia-ok : (a : P.State) (r : List ℕ) → a .mode ≡ ok → a .rest ≡ r → P.trivia a ≡ P.mark (P.put (P.skip r) (P.trivia-out r (a .out)) a)
-trivia-ok a r e f = λ i. P.mark (P.put (P.gap (e i) (f i)) (P.gap-out (e i) (f i) (a .out)) a)
+trivia-ok a r e f = λ i. P.mark (P.put (gap (e i) (f i)) (gap-out (e i) (f i) (a .out)) a)
 
 -- the same with the first row taken up before
 pub trivia-step : {p : Past} {x : Source} {s : State} {b : Bufs} {a : P.State} (i : ℕ) (is : List ℕ) → Wf x b s → Stands p x s b a → (s .full ≡ 0 → (a .mode ≡ ok) × (a .rest ≡ i ∷ is)) → trivial i ≡ true → Like p x (P.trivia (P.take i is a)) (P.trivia a)
@@ -114,9 +115,9 @@ trivia-end a m r = trivia-ok a [] m r ∙ (λ k. P.mark (P.put (sym r k) (a .out
 
 pub trivia-not : (n : ℕ) (a : P.State) → (n ≡ 0 → ⊥) → a .mode ≡ modeOf n → P.trivia a ≡ P.mark a
 trivia-not zero a h m = absurd (h refl)
-trivia-not (suc zero) a h m = λ i. P.mark (P.put (P.gap (m i) (a .rest)) (P.gap-out (m i) (a .rest) (a .out)) a)
-trivia-not (suc (suc zero)) a h m = λ i. P.mark (P.put (P.gap (m i) (a .rest)) (P.gap-out (m i) (a .rest) (a .out)) a)
-trivia-not (suc (suc (suc n))) a h m = λ i. P.mark (P.put (P.gap (m i) (a .rest)) (P.gap-out (m i) (a .rest) (a .out)) a)
+trivia-not (suc zero) a h m = λ i. P.mark (P.put (gap (m i) (a .rest)) (gap-out (m i) (a .rest) (a .out)) a)
+trivia-not (suc (suc zero)) a h m = λ i. P.mark (P.put (gap (m i) (a .rest)) (gap-out (m i) (a .rest) (a .out)) a)
+trivia-not (suc (suc (suc n))) a h m = λ i. P.mark (P.put (gap (m i) (a .rest)) (gap-out (m i) (a .rest) (a .out)) a)
 
 -- a loop that takes up rows, from s₀ to s; g is the whole of it in the definition, and from any place on the rest of it
 pub record Taking (g : P.Reader) (x : Source) (s₀ s : State) (ev₀ ev : List ℕ) : Type 0 where
