@@ -8,7 +8,7 @@ use lib.ListN.{length}
 use native.Mathlib.Omega.{arith}
 use Rattle.peg.specs.Prog.{Production, Prog, eat, unless, ifnext, opt, many, then, _⨟_, _/_, last, recover, node, memo}
 use Rattle.peg.specs.Grammar.{grammar, kind}
-use Rattle.peg.specs.Run.{State, Reader, Mode, ok, failed, stopped, Stop, spent, deep, trivia, turn, halted, charge, begin, finish, nodes, if-ok, fails, go-on, loop, recovery, exec, run}
+use Rattle.peg.specs.Run.{State, Reader, Mode, ok, failed, stopped, Stop, spent, deep, trivia, turn, halted, charge, begin, finish, nodes, if-ok, go-on, loop, recovery, exec, run}
 use Rattle.peg.proofs.Every.{and-left, and-right, productions, each, never}
 use Rattle.peg.proofs.Grows.{grows}
 use Rattle.peg.proofs.Shrink.{taking, size, strip-gap, strip-le, run-ok, shrinks}

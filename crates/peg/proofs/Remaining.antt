@@ -141,7 +141,8 @@ module _ (L : Limits) (d : Desk) (n : ℕ) where
           let v : State = item L s in
           let h = rule-stands L s x r (fresh m) e q (from-ford (node RULE-DECL) g) (followed (next rule-keywords r) refl p) k in
           let A = item-adds L s in
-          (h .1, ap (λ (o : List Event). records L (source-of d) o []) (sym (A .joins)) ∙ unrecorded (source-of d) L (A .new) (s .out) [] (ap bads (A .joins) ∙ h .2), (_, ap (inside (source-of d)) (sym (A .joins)) ∙ inside-append (source-of d) (A .new) (s .out) (A .nest 0)))
+          let B = inside-append (source-of d) (A .new) (s .out) (A .nest 0) in
+          (h .1, ap (λ (o : List Event). records L (source-of d) o []) (sym (A .joins)) ∙ unrecorded (source-of d) L (A .new) (s .out) [] (ap bads (A .joins) ∙ h .2), (B .0, ap (inside (source-of d)) (sym (A .joins)) ∙ B .1))
 
       at : ((i : ℕ) × (is : List ℕ) × (x ++ r ≡ i ∷ is)) → Running ((standing L d (n + 1)) .mode) → Stood (standing L d (n + 1))
       at f k = let z = one-item m (f .0) (f .1) (e ∙ f .2) in subst Stood (sym z) (stood (subst (λ (u : State). Running (u .mode)) z k))

@@ -5,7 +5,7 @@ use Rattle.kinds.specs.Kinds as k
 use Rattle.kinds.specs.Sets.{idOf}
 use Rattle.peg.specs.Prog.{Production, RULE-DECL, RULE-MODS, RULE-TAGS, META-BLK, META-DEF, PATTERNS-BLK, PATTERN-DEF, PATTERN-MODS, PATTERN-MOD, HEX-PATTERN, HEX-SUB-PATTERN, HEX-ALTERNATIVE, HEX-JUMP, CONDITION-BLK, BOOLEAN-EXPR, BOOLEAN-TERM, EXPR, FUNC-CALL, RANGE, TERM, PRIMARY-EXPR, FOR-EXPR, OF-EXPR, WITH-EXPR, WITH-DECLS, WITH-DECL, QUANTIFIER, ITERABLE, BOOLEAN-EXPR-TUPLE, EXPR-TUPLE, PATTERN-IDENT-TUPLE, Prog, eat, unless, ifnext, opt, many, then, _⨟_, _/_, last, recover, node, memo}
 
--- the forms that the module writes: `expect` of a set, and of one kind; `expect_d`; one_or_more; `cond`
+-- the forms that the module writes: `expect` of a set, and of one kind; `expect_d`; one_or_more; `cond`. Its `alt` is written p / q / last r
 abbrev pub set : List ℕ → Prog
 set S = eat S (map idOf S)
 
@@ -30,8 +30,9 @@ them = one k.THEM-KW / last (node PATTERN-IDENT-TUPLE)
 abbrev pub hex-unit : Prog
 hex-unit = one k.HEX-BYTE / last (node HEX-ALTERNATIVE)
 
-abbrev pub tuple : Prog → Prog
-tuple p = one k.L-PAREN ⨟ then p ⨟ many (one k.COMMA ⨟ then p) ⨟ one k.R-PAREN
+-- one or more p between parentheses, a row of kind a between each two
+abbrev pub tuple : ℕ → Prog → Prog
+tuple a p = one k.L-PAREN ⨟ then p ⨟ many (one a ⨟ then p) ⨟ one k.R-PAREN
 
 -- an item that begins with a rule keyword
 abbrev pub rule-decl : Prog
@@ -62,8 +63,7 @@ grammar PATTERN-MOD =
     ⨟ cond k.L-PAREN (one k.INTEGER-LIT ⨟ cond k.HYPHEN (one k.INTEGER-LIT) ⨟ one k.R-PAREN))
 grammar HEX-PATTERN = one k.L-BRACE ⨟ then (node HEX-SUB-PATTERN) ⨟ one k.R-BRACE
 grammar HEX-SUB-PATTERN = hex-unit ⨟ many (many (node HEX-JUMP) ⨟ hex-unit)
-grammar HEX-ALTERNATIVE =
-    one k.L-PAREN ⨟ then (node HEX-SUB-PATTERN) ⨟ many (one k.PIPE ⨟ then (node HEX-SUB-PATTERN)) ⨟ one k.R-PAREN
+grammar HEX-ALTERNATIVE = tuple k.PIPE (node HEX-SUB-PATTERN)
 grammar HEX-JUMP =
     one k.L-BRACKET
     ⨟ ((opt (one k.INTEGER-LIT) ⨟ one k.HYPHEN ⨟ opt (one k.INTEGER-LIT)) / last (one k.INTEGER-LIT)) ⨟ one k.R-BRACKET
@@ -110,8 +110,8 @@ grammar WITH-DECL = one k.IDENT ⨟ one k.EQUAL ⨟ then (memo EXPR)
 grammar QUANTIFIER =
     named k.EXPRESSION (k.ALL-KW ∷ k.NONE-KW ∷ k.ANY-KW ∷ []) / (memo TERM ⨟ one k.PERCENT) / last (memo EXPR ⨟ unless (k.PERCENT ∷ []))
 grammar ITERABLE = node RANGE / node EXPR-TUPLE / last (memo EXPR)
-grammar BOOLEAN-EXPR-TUPLE = tuple (node BOOLEAN-EXPR)
-grammar EXPR-TUPLE = tuple (memo EXPR)
+grammar BOOLEAN-EXPR-TUPLE = tuple k.COMMA (node BOOLEAN-EXPR)
+grammar EXPR-TUPLE = tuple k.COMMA (memo EXPR)
 grammar PATTERN-IDENT-TUPLE =
     one k.L-PAREN ⨟ one k.PATTERN-IDENT ⨟ opt (one k.ASTERISK)
     ⨟ many (one k.COMMA ⨟ one k.PATTERN-IDENT ⨟ opt (one k.ASTERISK)) ⨟ one k.R-PAREN

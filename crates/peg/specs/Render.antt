@@ -99,23 +99,14 @@ abbrev pub bads : List Event → ℕ
 bads es = length (faults es)
 
 -- written from the last event to the first: the stack holds kind and end of the nodes whose closing was met, so that a begin has them "at both
--- events"; b is how many records are before
-abbrev pub Page : Type 0
-Page = List (ℕ × ℕ) × List Quad
-
-abbrev pub shut : Source → ℕ → List (ℕ × ℕ) → List Quad → Page
-shut x n [] l = ([], l)
-shut x n (t ∷ st) l = (st, (1, t .0, starts-at x n, t .1) ∷ l)
-
-abbrev pub write : Source → ℕ → Event → Page → Page
-write x b (opened n) z = shut x n (z .0) (z .1)
-write x b (leaf a n) z = (z .0, (2, a, starts-at x n, ends-at x n) ∷ z .1)
-write x b (closed a n m) z = ((a, span-end x n m) ∷ z .0, (3, a, starts-at x n, span-end x n m) ∷ z .1)
-write x b (bad n c) z = (z .0, (4, b, starts-at x n, ends-at x n) ∷ z .1)
-
-abbrev pub render : Source → ℕ → List Event → Page → Page
-render x b [] z = z
-render x b (e ∷ es) z = render x b es (write x (bads es + b) e z)
+-- events"; l is what stands behind. An error's index is how many records are before
+abbrev pub render : Source → List (ℕ × ℕ) → List Event → List Quad → List Quad
+render x st [] l = l
+render x [] (opened n ∷ es) l = render x [] es l
+render x (t ∷ st) (opened n ∷ es) l = render x st es ((1, t .0, starts-at x n, t .1) ∷ l)
+render x st (leaf a n ∷ es) l = render x st es ((2, a, starts-at x n, ends-at x n) ∷ l)
+render x st (closed a n m ∷ es) l = render x ((a, span-end x n m) ∷ st) es ((3, a, starts-at x n, span-end x n m) ∷ l)
+render x st (bad n c ∷ es) l = render x st es ((4, bads es, starts-at x n, ends-at x n) ∷ l)
 
 abbrev pub record-of : Limits → Source → ℕ → Choice → Rec
 record-of L x n c = let f = form-of L (id-at x n) (text-at x n) c in (starts-at x n, ends-at x n, f, names-of f c)
@@ -125,7 +116,7 @@ records L x es l = foldl (λ l e. record-of L x (e .0) (e .1) ∷ l) l (faults e
 
 -- what is written inside SOURCE_FILE
 abbrev pub inside : Source → List Event → List Quad
-inside x o = (render x 0 o ([], [])) .1
+inside x o = render x [] o []
 
 -- "outcome, rows covered, counts of events and error records, fuel left", with the lists themselves
 pub record Reading : Type 0 where
