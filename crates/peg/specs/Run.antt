@@ -62,6 +62,7 @@ pub record State : Type 0 where
 
 -- SETS AND ROWS
 
+-- one of them is so
 abbrev pub any : {A : Type 0} → (A → Bool) → List A → Bool
 any p [] = false
 any p (x ∷ xs) = elim (p x) [ true ↦ true | false ↦ any p xs ]
@@ -128,13 +129,13 @@ halted w (stopped v) = stopped v
 abbrev pub halt : Stop → State → State
 halt w s = turn (halted w (s .mode)) s
 
--- a step of the reader. "In Failure or stopped, `expect_d`, `opt`, `not`, `if_next`, `n_or_more`, `then`, `cached`, `alt`, `trivia` do nothing."
-abbrev pub Reader : Type 0
-Reader = State → State
-
 -- x in state OK, y in any other
 abbrev pub when-ok : {A : Type 0} → A → A → Mode → A
 when-ok x y m = elim m [ ok ↦ x | failed ↦ y | stopped w ↦ y ]
+
+-- a step of the reader. "In Failure or stopped, `expect_d`, `opt`, `not`, `if_next`, `n_or_more`, `then`, `cached`, `alt`, `trivia` do nothing."
+abbrev pub Reader : Type 0
+Reader = State → State
 
 abbrev pub if-ok : Reader → Reader
 if-ok f s = when-ok (f s) s (s .mode)
@@ -257,7 +258,7 @@ first-names [] S s = expected (map idOf S) s
 first-names (e ∷ es) S s = s
 
 -- "`recover` chooses anywhere, if the state was Failure or the next row past trivia is not in its set"; "with no rows left but trivia it sets OK and
--- returns"; m is what the state was
+-- returns"; m is what the state was, OK or Failure
 abbrev pub recovered : ℕ → Bool → List ℕ → Next → Mode → State → State
 recovered d o S end m s = s
 recovered d o S (hit a is) m s = when-ok s (choose s) m
