@@ -1,7 +1,7 @@
 -- The public definition, case by case: a refusal as lent, a room too small for anything, a room exceeded, an answer. Assumes nothing.
 use Prim.Native.Nat.{ℕ, zero, suc, _+_, _-_, _*_, _/_, _≤_, _<_}
 use mathlib.Core.Path.{_≡_, refl, sym, ap, ap₂, subst, _∙_}
-use mathlib.Core.List.{List, [], _∷_, _++_}
+use mathlib.Core.List.{List, [], _∷_, _++_, map}
 use mathlib.Core.Bool.{Bool, true, false}
 use mathlib.Core.Logic.{_⊎_, inl, inr}
 use native.Mathlib.Omega.{arith}
@@ -11,7 +11,7 @@ use lib.Dec.{ltb}
 use lib.ListN.{length, take, replicate}
 use lib.Seq.{length-take-le}
 use Rattle.peg.specs.Run as P
-use Rattle.peg.specs.Render.{Source, Reading, rendered, used, moments, moments-of, exceeds, over, flat, flat-records}
+use Rattle.peg.specs.Render.{Source, Reading, rendered, used, moments, exceeds, over, flat, flat-records}
 use Rattle.peg.specs.Answer.{Desk, After, Answer, refused, given, first-of, grounds, refusal, exceeded, answer, as-lent, refusing, blank, left-by, after, source-of}
 use Rattle.reader.specs.Means.{limits}
 use Rattle.reader.proofs.Rooms.{exceeds-events}
@@ -81,12 +81,12 @@ module _ (d : Desk) where
     seven-first v m (inl z) k = ap (λ (w : ℕ). rooms.first-of w (exceeds E R m)) z ∙ exceeds-events E R m (omega (arith, h, k))
     seven-first v m (inr z) k = ap (λ (w : ℕ). rooms.first-of w (exceeds E R m)) z
 
-    seven : (x : Source) (ds : List P.Draft) → (over E R (moments-of limits x ds) ≡ 0) ⊎ (over E R (moments-of limits x ds) ≡ 7)
+    seven : (x : Source) (ds : List P.Draft) → (over E R (map (used limits x) ds) ≡ 0) ⊎ (over E R (map (used limits x) ds) ≡ 7)
     seven x [] = inl refl
-    seven x (c ∷ ds) = inr (seven-first (over E R (moments-of limits x ds)) (used limits x c) (seven x ds) (omega arith))
+    seven x (c ∷ ds) = inr (seven-first (over E R (map (used limits x) ds)) (used limits x c) (seven x ds) (omega arith))
 
     pub too-small : 0 ≡ refusal d → zeros 7 ≡ after limits d
-    too-small e = exceeded-so e 7 (sym (seven-first (over E R (moments-of limits (source-of d) (reading (source-of d) (d .fuel) .drafts))) _ (seven (source-of d) (reading (source-of d) (d .fuel) .drafts)) (omega arith))) (omega arith)
+    too-small e = exceeded-so e 7 (sym (seven-first (over E R (map (used limits (source-of d)) (reading (source-of d) (d .fuel) .drafts))) _ (seven (source-of d) (reading (source-of d) (d .fuel) .drafts)) (omega arith))) (omega arith)
 
   abbrev worst : Bool → Bool → ℕ
   worst b c = elim b [ true ↦ 7 | false ↦ elim c [ true ↦ 8 | false ↦ 0 ] ]

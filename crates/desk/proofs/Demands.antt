@@ -7,8 +7,7 @@ use mathlib.Core.Logic.{_↔_}
 use native.Mathlib.Omega.{arith}
 use lib.ListN.{length}
 use Rattle.peg.specs.Prog.{RULE-DECL}
-use Rattle.peg.specs.Peg.{Res, Accepts, strip}
-use Rattle.peg.specs.Ford.{Ford, rules, star, nt}
+use Rattle.peg.specs.Ford.{Res, Ford, rules, star, nt, strip, Accepts}
 use Rattle.peg.specs.Run as P
 use Rattle.peg.specs.Render.{Reading, flat, flat-records}
 use Rattle.peg.specs.Answer.{Desk, After, Answer, given, refusal, exceeded, answer, words, refusing, blank, filled, left-by, after}
@@ -73,7 +72,7 @@ module _ (d : Desk) {o c e k f : ℕ} {ev er sc : List ℕ} (p : Promised d (Ans
       let q : k ≡ (after limits d) .error-count = ap (λ (a : After). a .error-count) p in
       ((λ h. i .0 (sym q ∙ h)), λ h. q ∙ i .1 h)
 
-  -- and in the words of Ford
+  -- and as one parsing expression of Ford's
   pub read-accepts-ford : o ≡ 0 → (k ≡ 0) ↔ ((n : ℕ) × Ford rules (star (nt RULE-DECL)) (strip (d .ids)) n (Res.yes []))
   read-accepts-ford z =
       let i = peg.demand-2-ford limits d zero-number (sym (ap (λ (a : After). a .outcome) p) ∙ z) in

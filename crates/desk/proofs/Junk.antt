@@ -9,7 +9,8 @@ use lib.Seq.{take-take}
 use Rattle.kinds.specs.Kinds as k
 use Rattle.peg.specs.Run as P
 use Rattle.peg.specs.Run.{opened}
-use Rattle.peg.specs.Buffer.{four, buffer, Open}
+use Rattle.peg.specs.Buffer.{four, buffer}
+use Rattle.peg.specs.Open.{Open}
 use Rattle.peg.specs.Render.{Source, starts-at}
 use Rattle.peg.proofs.Buffer.{buffer-opened, adding}
 use Rattle.reader.specs.declared.state.State.{State}

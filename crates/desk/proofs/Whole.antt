@@ -1,7 +1,7 @@
 -- SOURCE_FILE around the items: which room is exceeded first, and the finished lists. Assumes nothing.
 use Prim.Native.Nat.{ℕ, zero, suc, _+_, _-_, _*_, _/_, _%_, _^_, _≤_, _<_}
 use mathlib.Core.Path.{_≡_, refl, sym, ap, ap₂, subst, _∙_}
-use mathlib.Core.List.{List, [], _∷_, _++_, append-nil, append-assoc}
+use mathlib.Core.List.{List, [], _∷_, _++_, append-nil, append-assoc, map}
 use mathlib.Core.Bool.{Bool, true, false}
 use native.Mathlib.Omega.{arith}
 use native.Mathlib.Nat.{zero-div, le-refl, add-comm}
@@ -15,7 +15,7 @@ use Rattle.kinds.specs.Kinds as k
 use Rattle.peg.specs.Run as P
 use Rattle.peg.specs.Run.{Mode, ok, failed, stopped}
 use Rattle.peg.specs.Buffer.{four, buffer}
-use Rattle.peg.specs.Render.{Source, Quad, Rec, inside, rendered, outcome-of, said, held, records, used, moments, moments-of, exceeds, over, flat, flat-records}
+use Rattle.peg.specs.Render.{Source, Quad, Rec, inside, rendered, outcome-of, said, held, records, used, moments, exceeds, over, flat, flat-records}
 use Rattle.peg.proofs.Buffer.{buffer-length, buffer-read}
 use Rattle.reader.specs.declared.state.State.{State}
 use Rattle.reader.specs.Bits.{ifb, bitAt}
@@ -93,7 +93,7 @@ module _ (x : Source) (fuel evcap R : ℕ) {d : Desk} {t : State} {ev₁ ev₂ e
   unfolding overOf
   exceeded = go (ℕ-discrete (d .state .full) 0)
     where
-      past : d .state .full ≡ over (evcap + 4) R (moments-of limits x (reading x fuel .drafts))
+      past : d .state .full ≡ over (evcap + 4) R (map (used limits x) (reading x fuel .drafts))
       past = B .stands .over
 
       last : ℕ × ℕ
@@ -102,7 +102,7 @@ module _ (x : Source) (fuel evcap R : ℕ) {d : Desk} {t : State} {ev₁ ev₂ e
       goal : ℕ → Type 0
       goal v = t .full ≡ first-of v (exceeds (evcap + 4) R last)
 
-      go : Dec (d .state .full ≡ 0) → goal (over (evcap + 4) R (moments-of limits x (reading x fuel .drafts)))
+      go : Dec (d .state .full ≡ 0) → goal (over (evcap + 4) R (map (used limits x) (reading x fuel .drafts)))
       go (no n) = put .stuck n ∙ past ∙ sym (full-first _ _ (λ z. n (past ∙ z)))
       go (yes z) = subst goal (sym z ∙ past) (fits (decLt (d .state .evcap) (d .state .ev + 4)))
         where

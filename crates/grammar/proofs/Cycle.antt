@@ -96,7 +96,7 @@ module _ {f : P.Reader} {x : Source} {s r : State} {b : Bufs} {ev er sc : List �
 
 -- in good order nothing more is tried
 fails-now : (x : Source) (s : State) (b : Bufs) → Wf x b (withMode 0 s) → Did P.fails x (withMode 0 s) (withMode 1 s) b b
-fails-now x s b w = likened (turned-failed w) (λ p a u. like-at u (sticky-turn p x failed a) (sticky p x .at-fail a) (λ z. like-same (sym (if-ok-yes (P.turn failed) a (u .means z .mode)))))
+fails-now x s b w = likened (turned-failed w) (λ p a u. like-at u (sticky-turn p x failed a) (sticky p x .at-fail a) (λ z. like-same (sym (if-ok-yes _ a (u .means z .mode)))))
 
 -- alternatives: what f did came to s, in good order, the mark's place, and q is tried there; with it F is done
 pub record Tries (F : P.Reader) (d : ℕ) (o : Bool) (q : Prog) (x : Source) (s₀ s : State) (m : Mark) (b₀ b : Bufs) : Type 0 where

@@ -73,23 +73,23 @@ guarded (memo a) = true
 
 module _ (d : ℕ) (call : Bool → Production → P.Reader) where
   pub guarded-idle : (q : Prog) (o : Bool) → T (guarded q) → (n : ℕ) (a : P.State) → (n ≡ 0 → ⊥) → a .mode ≡ modeOf n → P.exec d call q o a ≡ a
-  guarded-idle (eat S N) o t n a h e = if-ok-no (P.eat-at S N) n a h e
-  guarded-idle (unless S) o t n a h e = if-ok-no (P.refuse-at S) n a h e
-  guarded-idle (ifnext S p) o t n a h e = if-ok-no (P.branch-at S (λ t. P.exec d call p o t)) n a h e
-  guarded-idle (opt p) o t n a h e = if-ok-no (P.alt-at (λ t. P.exec d call p true t) (λ t. t)) n a h e
-  guarded-idle (many p) o t n a h e = if-ok-no (P.loop-at (λ t. P.exec d call p true t)) n a h e
-  guarded-idle (then p) o t n a h e = if-ok-no (P.then-at (λ t. P.exec d call p o t)) n a h e
+  guarded-idle (eat S N) o t n a h e = if-ok-no _ n a h e
+  guarded-idle (unless S) o t n a h e = if-ok-no _ n a h e
+  guarded-idle (ifnext S p) o t n a h e = if-ok-no _ n a h e
+  guarded-idle (opt p) o t n a h e = if-ok-no _ n a h e
+  guarded-idle (many p) o t n a h e = if-ok-no _ n a h e
+  guarded-idle (then p) o t n a h e = if-ok-no _ n a h e
   guarded-idle (p ⨟ q) o t n a h e = go (guarded p) (guarded q) t (λ u. guarded-idle p o u n a h e) (λ u. guarded-idle q o u n a h e)
     where
       go : (u v : Bool) → T (u && v) → (T u → P.exec d call p o a ≡ a) → (T v → P.exec d call q o a ≡ a) → P.exec d call q o (P.exec d call p o a) ≡ a
       go true true t i j = ap (P.exec d call q o) (i tt) ∙ j tt
       go true false t i j = absurd t
       go false v t i j = absurd t
-  guarded-idle (p / q) o t n a h e = if-ok-no (P.alt-at (λ t. P.exec d call p true t) (λ t. P.exec d call q o t)) n a h e
-  guarded-idle (last p) o t n a h e = if-ok-no (P.alt-at (λ t. P.exec d call p true t) P.fails) n a h e
+  guarded-idle (p / q) o t n a h e = if-ok-no _ n a h e
+  guarded-idle (last p) o t n a h e = if-ok-no _ n a h e
   guarded-idle (recover S) o t n a h e = absurd t
   guarded-idle (node b) o t n a h e = absurd t
-  guarded-idle (memo b) o t n a h e = if-ok-no (P.memo-at (kind b) (λ t. call o b t)) n a h e
+  guarded-idle (memo b) o t n a h e = if-ok-no _ n a h e
 
 pub undone-mode : (n : ℕ) → (n ≡ 0 → ⊥) → ((n ≡ 1) × (ifb (eqb n 1) 0 n ≡ 0)) ⊎ ((2 ≤ n) × (ifb (eqb n 1) 0 n ≡ n))
 undone-mode n h = go (ℕ-discrete n 1)

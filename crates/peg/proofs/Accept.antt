@@ -12,7 +12,8 @@ use Rattle.kinds.specs.Sets.{idOf}
 use Rattle.peg.specs.Prog.{Production, RULE-DECL, recover, node}
 use Rattle.peg.specs.Grammar.{grammar, kind}
 use Rattle.peg.specs.Run.{State, Reader, Mode, ok, failed, stopped, turn, choose, known, sought, begin, finish, exec, run, Limits, read-rule}
-use Rattle.peg.specs.Peg.{strip, Res, Peg, recover-is, Rules, no-more, one-rule}
+use Rattle.peg.specs.Ford.{strip, Res, Rules, no-more, one-rule}
+use Rattle.peg.proofs.Peg.{Peg, recover-is}
 use Rattle.peg.proofs.Every.{never}
 use Rattle.peg.proofs.Order.{Running, recovery-up}
 use Rattle.peg.proofs.Grows.{Grown, grown, grows, end-refl, running-before, run-zero}
@@ -20,6 +21,7 @@ use Rattle.peg.proofs.Shrink.{strip-end, size, run-ok, exec-grown, not-
 use Rattle.peg.proofs.Agree.{Fine, Inv, Sim, Won, fine-before, front-nil, not-ok, noted-failed, chose, recover-sim, exec-sim, run-sim, sound-productions, ended, nil-cons, grown-refl}
 use Rattle.peg.proofs.Det.{det, yes-no}
 use Rattle.peg.proofs.First.{dies, dies-no}
+use Rattle.peg.proofs.Published.{from-ford}
 use Rattle.peg.proofs.Doom.{Off, off-miss, begin-inv}
 use Rattle.peg.proofs.Rule.{rule-ends, rule-calm}
 
@@ -122,8 +124,8 @@ unblamed L s f h i is e rs = go (strip (s .rest)) refl e rs
   where
     next-rule : (r : List ℕ) → Rules r → Off (sought rule-ends r) → ⊥
     next-rule r no-more o = o
-    next-rule r (one-rule {r′ = r′} g rs) o = yes-no r′ (det g Res.no (dies-no rule-ends r (node RULE-DECL) rule-dies (off-miss (sought rule-ends r) o)))
+    next-rule r (one-rule {r′ = r′} g rs) o = yes-no r′ (det (from-ford (node RULE-DECL) g) Res.no (dies-no rule-ends r (node RULE-DECL) rule-dies (off-miss (sought rule-ends r) o)))
 
     go : (r : List ℕ) → strip (s .rest) ≡ r → r ≡ i ∷ is → Rules r → (read-rule L s) .chosen ≡ []
     go r z e no-more = nil-cons (sym e)
-    go r z e (one-rule {r′ = r′} g rs) = rule-calm L s r′ (f .is-ok) (fresh-inv s f) h (subst (λ (l : List ℕ). Peg (node RULE-DECL) l (Res.yes r′)) (sym z) g) (next-rule r′ rs) .0
+    go r z e (one-rule {r′ = r′} g rs) = rule-calm L s r′ (f .is-ok) (fresh-inv s f) h (subst (λ (l : List ℕ). Peg (node RULE-DECL) l (Res.yes r′)) (sym z) (from-ford (node RULE-DECL) g)) (next-rule r′ rs) .0

@@ -12,8 +12,10 @@ use Rattle.kinds.specs.Kinds as kinds
 use Rattle.kinds.specs.Sets.{idOf, pick}
 use Rattle.peg.specs.Prog.{Production, Prog, eat, unless, ifnext, opt, many, then, _⨟_, _/_, last, recover, node, memo}
 use Rattle.peg.specs.Grammar.{grammar, kind}
-use Rattle.peg.specs.Run.{State, Reader, Mode, ok, failed, stopped, Stop, spent, deep, Choice, wanted, unwanted, Next, end, other, hit, next, sought, skip, gap, trivia, turn, take, back, expected, unexpected, further, furthest, join, choose, decide, halted, charge, begin, finish, if-ok, fails, eat-row, eat-at, refuse-row, refuse-at, branch, branch-at, then-at, or-else, alt-at, go-on, loop, loop-at, known, remember, memo-row, memo-at, nodes, first-names, swallow, recovered, recovery, exec, run}
-use Rattle.peg.specs.Peg.{strip, Res, Miss, Peg, eat-yes, eat-no, unless-yes, unless-no, ifnext-hit, ifnext-miss, opt-yes, opt-no, many-yes, many-no, then-is, seq-yes, seq-no, alt-yes, alt-no, last-is, recover-is, node-is, memo-is}
+use Rattle.peg.specs.Run.{State, Reader, Mode, ok, failed, stopped, Stop, spent, deep, Choice, wanted, unwanted, Next, end, other, hit, next, sought, skip, trivia, turn, take, back, expected, unexpected, further, furthest, join, choose, decide, halted, charge, begin, finish, if-ok, fails, eat-row, refuse-row, branch, or-else, go-on, loop, known, remember, memo-row, nodes, first-names, swallow, recovered, recovery, exec, run}
+use Rattle.peg.specs.Ford.{strip, Res}
+use Rattle.peg.proofs.Gap.{gap}
+use Rattle.peg.proofs.Peg.{Miss, Peg, eat-yes, eat-no, unless-yes, unless-no, ifnext-hit, ifnext-miss, opt-yes, opt-no, many-yes, many-no, then-is, seq-yes, seq-no, alt-yes, alt-no, last-is, recover-is, node-is, memo-is}
 use Rattle.peg.proofs.Order.{Running, steps, loop-up, swallow-up}
 use Rattle.peg.proofs.Grows.{End, Front, Grown, grown, grows, sought-hit, take-end, gap-end, end-trans, running-before, run-zero}
 use Rattle.peg.proofs.Every.{and-left, and-right, productions, each, each-if, kind-inj, never}
@@ -509,31 +511,31 @@ module _ (R : List ℕ) where
       (ct : (o : Bool) (a : Production) (s : State) → (call o a s) .mode ≡ ok → size (call o a s) < size s)
       (cm : (o : Bool) (a : Production) → Good (node a) (call o a)) where
     pub exec-sim : (p : Prog) → T (sound p) → (o : Bool) → Good p (exec d call p o)
-    exec-sim (eat S N) t o = guarded (eat S N) (eat-at S N) (λ s m i h. eat-sim S N s m i (next S (s .rest)) refl)
-    exec-sim (unless S) t o = guarded (unless S) (refuse-at S) (λ s m i h. unless-sim S s m i (next S (s .rest)) refl)
-    exec-sim (ifnext S p) t o = guarded (ifnext S p) (branch-at S (exec d call p o)) (λ s m i h. branch-sim S p (exec d call p o) (exec-sim p t o) s m i (next S (s .rest)) refl h)
+    exec-sim (eat S N) t o = guarded (eat S N) _ (λ s m i h. eat-sim S N s m i (next S (s .rest)) refl)
+    exec-sim (unless S) t o = guarded (unless S) _ (λ s m i h. unless-sim S s m i (next S (s .rest)) refl)
+    exec-sim (ifnext S p) t o = guarded (ifnext S p) _ (λ s m i h. branch-sim S p (exec d call p o) (exec-sim p t o) s m i (next S (s .rest)) refl h)
     exec-sim (opt p) t o =
         let f : Reader = exec d call p true in
-        guarded (opt p) (alt-at f (λ u. u)) (λ s m i h. opt-sim p (and-left (not (loose p)) (sound p) t) s i (f (trivia s)) (after p f (exec-sim p (and-right (not (loose p)) (sound p) t) true) s m i) h)
+        guarded (opt p) _ (λ s m i h. opt-sim p (and-left (not (loose p)) (sound p) t) s i (f (trivia s)) (after p f (exec-sim p (and-right (not (loose p)) (sound p) t) true) s m i) h)
     exec-sim (many p) t o =
         let f : Reader = exec d call p true in
         let t₁ = and-left (not (loose p) && taking p) (sound p) t in
-        guarded (many p) (loop-at f) (λ s m i h. loop-sim p f (and-left (not (loose p)) (taking p) t₁) (exec-sim p (and-right (not (loose p) && taking p) (sound p) t) true) (exec-grown d call cg cs ct p true) (shrinks d call cg cs ct p (and-right (not (loose p)) (taking p) t₁) true) (suc (length (s .rest))) s m i (omega (arith, strip-le (s .rest))) h)
+        guarded (many p) _ (λ s m i h. loop-sim p f (and-left (not (loose p)) (taking p) t₁) (exec-sim p (and-right (not (loose p) && taking p) (sound p) t) true) (exec-grown d call cg cs ct p true) (shrinks d call cg cs ct p (and-right (not (loose p)) (taking p) t₁) true) (suc (length (s .rest))) s m i (omega (arith, strip-le (s .rest))) h)
     exec-sim (then p) t o =
         let f : Reader = exec d call p o in
-        guarded (then p) (then-at f) (λ s m i h. carried p (then p) s (f (trivia s)) (λ l. l) (λ _ e. then-is e) (after p f (exec-sim p t o) s m i h))
+        guarded (then p) _ (λ s m i h. carried p (then p) s (f (trivia s)) (λ l. l) (λ _ e. then-is e) (after p f (exec-sim p t o) s m i h))
     exec-sim (p ⨟ q) t o = seq-sim p q (exec d call p o) (exec d call q o) (exec-sim p (and-left (sound p) (sound q) t) o) (exec-sim q (and-right (sound p) (sound q) t) o) (exec-grown d call cg cs ct q o) (λ s e k. shrinks d call cg cs ct q k o s e)
     exec-sim (p / q) t o =
         let f : Reader = exec d call p true in
         let t₁ = and-left (not (loose p) && not (loose q)) (sound p && sound q) t in
         let t₂ = and-right (not (loose p) && not (loose q)) (sound p && sound q) t in
-        guarded (p / q) (alt-at f (exec d call q o)) (λ s m i h. alt-sim p q (exec d call q o) (and-left (not (loose p)) (not (loose q)) t₁) (and-right (not (loose p)) (not (loose q)) t₁) (exec-sim q (and-right (sound p) (sound q) t₂) o) (exec-grown d call cg cs ct q o) s i (f (trivia s)) (after p f (exec-sim p (and-left (sound p) (sound q) t₂) true) s m i) h)
+        guarded (p / q) _ (λ s m i h. alt-sim p q (exec d call q o) (and-left (not (loose p)) (not (loose q)) t₁) (and-right (not (loose p)) (not (loose q)) t₁) (exec-sim q (and-right (sound p) (sound q) t₂) o) (exec-grown d call cg cs ct q o) s i (f (trivia s)) (after p f (exec-sim p (and-left (sound p) (sound q) t₂) true) s m i) h)
     exec-sim (last p) t o =
         let f : Reader = exec d call p true in
-        guarded (last p) (alt-at f fails) (λ s m i h. last-sim p (and-left (not (loose p)) (sound p) t) s i (f (trivia s)) (after p f (exec-sim p (and-right (not (loose p)) (sound p) t) true) s m i) h)
+        guarded (last p) _ (λ s m i h. last-sim p (and-left (not (loose p)) (sound p) t) s i (f (trivia s)) (after p f (exec-sim p (and-right (not (loose p)) (sound p) t) true) s m i) h)
     exec-sim (recover S) t o = recover-sim d o S
     exec-sim (node a) t o = cm o a
-    exec-sim (memo a) t o = guarded (memo a) (memo-at (kind a) (call o a)) (λ s m i h. memo-sim a (call o a) (cm o a) (cg o a) s m i (known (s .cache) (length (s .rest)) (kind a)) refl h)
+    exec-sim (memo a) t o = guarded (memo a) _ (λ s m i h. memo-sim a (call o a) (cm o a) (cg o a) s m i (known (s .cache) (length (s .rest)) (kind a)) refl h)
 
   pub run-sim : (d : ℕ) (o : Bool) (a : Production) → Good (node a) (run d o a)
   run-sim zero o a s i h = absurd (run-zero o a s (h .0))

@@ -8,7 +8,7 @@ use lib.ListN.{length}
 use native.Mathlib.Omega.{arith}
 use Rattle.peg.specs.Prog.{Production, Prog, eat, unless, ifnext, opt, many, then, _⨟_, _/_, last, recover, node, memo}
 use Rattle.peg.specs.Grammar.{grammar, kind}
-use Rattle.peg.specs.Run.{State, Reader, Mode, ok, failed, stopped, Stop, spent, deep, trivia, turn, halted, charge, begin, finish, nodes, if-ok, eat-at, refuse-at, branch-at, alt-at, then-at, loop-at, memo-at, fails, go-on, loop, recovery, exec, run}
+use Rattle.peg.specs.Run.{State, Reader, Mode, ok, failed, stopped, Stop, spent, deep, trivia, turn, halted, charge, begin, finish, nodes, if-ok, go-on, loop, recovery, exec, run}
 use Rattle.peg.proofs.Every.{and-left, and-right, productions, each, never}
 use Rattle.peg.proofs.Grows.{grows}
 use Rattle.peg.proofs.Shrink.{taking, size, strip-gap, strip-le, run-ok, shrinks}
@@ -81,10 +81,10 @@ idle-productions : (a : Production) → T (idle (grammar a))
 unfolding productions grammar
 idle-productions = each (λ a. idle (grammar a)) tt
 
-if-ok-stopped : (f : Reader) (w : Stop) (s : State) → s .mode ≡ stopped w → if-ok f s ≡ s
-if-ok-stopped f w s = go (s .mode) s
+if-ok-stopped : (r : State) (w : Stop) (s : State) → s .mode ≡ stopped w → if-ok (λ _. r) s ≡ s
+if-ok-stopped r w s = go (s .mode) s
   where
-    go : (m : Mode) (s : State) → m ≡ stopped w → if-ok f (turn m s) ≡ turn m s
+    go : (m : Mode) (s : State) → m ≡ stopped w → if-ok (λ _. r) (turn m s) ≡ turn m s
     go ok s e = never cc
     go failed s e = refl
     go (stopped v) s e = refl
@@ -99,20 +99,20 @@ recovery-stopped d o S w s = go (s .mode) s
 
 module _ (d : ℕ) (call : Bool → Production → Reader) (w : Stop) where
   idles : (p : Prog) → T (idle p) → (o : Bool) (s : State) → s .mode ≡ stopped w → exec d call p o s ≡ s
-  idles (eat S N) t o s e = if-ok-stopped (eat-at S N) w s e
-  idles (unless S) t o s e = if-ok-stopped (refuse-at S) w s e
-  idles (ifnext S p) t o s e = if-ok-stopped (branch-at S (exec d call p o)) w s e
-  idles (opt p) t o s e = if-ok-stopped (alt-at (exec d call p true) (λ u. u)) w s e
-  idles (many p) t o s e = if-ok-stopped (loop-at (exec d call p true)) w s e
-  idles (then p) t o s e = if-ok-stopped (then-at (exec d call p o)) w s e
+  idles (eat S N) t o s e = if-ok-stopped _ w s e
+  idles (unless S) t o s e = if-ok-stopped _ w s e
+  idles (ifnext S p) t o s e = if-ok-stopped _ w s e
+  idles (opt p) t o s e = if-ok-stopped _ w s e
+  idles (many p) t o s e = if-ok-stopped _ w s e
+  idles (then p) t o s e = if-ok-stopped _ w s e
   idles (p ⨟ q) t o s e =
       let x = idles p (and-left (idle p) (idle q) t) o s e in
       ap (exec d call q o) x ∙ idles q (and-right (idle p) (idle q) t) o s e
-  idles (p / q) t o s e = if-ok-stopped (alt-at (exec d call p true) (exec d call q o)) w s e
-  idles (last p) t o s e = if-ok-stopped (alt-at (exec d call p true) fails) w s e
+  idles (p / q) t o s e = if-ok-stopped _ w s e
+  idles (last p) t o s e = if-ok-stopped _ w s e
   idles (recover S) t o s e = recovery-stopped d o S w s e
   idles (node a) t o s e = absurd t
-  idles (memo a) t o s e = if-ok-stopped (memo-at (kind a) (call o a)) w s e
+  idles (memo a) t o s e = if-ok-stopped _ w s e
 
 halted-stops : (v : Stop) (m : Mode) → (w : Stop) × (halted v m ≡ stopped w)
 halted-stops v ok = (v, refl)

@@ -4,15 +4,16 @@ use mathlib.Core.Path.{_≡_, refl, ap, ap₂, sym, _∙_, subst}
 use mathlib.Core.List.{List, [], _∷_, _++_, append-nil, append-assoc}
 use mathlib.Core.Bool.{Bool, true, false}
 use lib.ListN.{length, set, length-set, length-append}
-use native.Mathlib.Nat.{add-zero}
 use native.Mathlib.Omega.{arith}
 use Rattle.kinds.specs.Kinds as kinds
 use Rattle.kinds.specs.Sets.{kindOf, trivial}
 use Rattle.peg.specs.Prog.{Prog, Production}
 use Rattle.peg.specs.Grammar.{rule-decl}
-use Rattle.peg.specs.Run.{State, Reader, Limits, Event, opened, leaf, closed, bad, Mode, ok, failed, stopped, next, past, gap-out, trivia-out, trivia, seek-out, take, turn, charge, begin, finish, nodes, exec, run, read, Choice, stray, Next, end, other, hit, sought, seek, errors, rule-keywords, read-rule, stray-item, item-at, flush, again, item}
+use Rattle.peg.specs.Run.{State, Reader, Limits, Event, opened, leaf, closed, bad, Mode, ok, failed, stopped, next, past, trivia-out, trivia, seek-out, take, turn, charge, begin, finish, nodes, exec, run, read, Choice, stray, Next, end, other, hit, sought, seek, errors, rule-keywords, read-rule, stray-item, item-at, flush, again, item}
 use Rattle.peg.specs.Render.{Source, starts-at, ends-at, span-end, bads, Quad, flat, render, inside}
-use Rattle.peg.specs.Buffer.{four, patch, buffered, buffer, Nest, Adds, Open}
+use Rattle.peg.specs.Buffer.{four, patch, buffered, buffer}
+use Rattle.peg.specs.Open.{Nest, Adds, Open}
+use Rattle.peg.proofs.Gap.{gap-out}
 use Rattle.peg.proofs.Induct.{exec-kept, run-kept}
 use Rattle.peg.proofs.Order.{Steps, stepped}
 use Rattle.peg.proofs.Tidy.{nest-trans, read-tidy}
@@ -108,14 +109,14 @@ module _ (x : Source) where
   quad-on : (l : List ℕ) (q : Quad) (z : List Quad) → l ++ flat (q ∷ z) ≡ (l ++ four (q .0) (q .1) (q .2) (q .3)) ++ flat z
   quad-on l q z = sym (append-assoc l (four (q .0) (q .1) (q .2) (q .3)) (flat z))
 
-  finished : (st : List (ℕ × ℕ)) (o : List Event) (z : List Quad) (g : ℕ) → Nest (length st) o g → flat ((render x 0 o (st, z)) .1) ≡ buffered x st o ++ flat z
+  finished : (st : List (ℕ × ℕ)) (o : List Event) (z : List Quad) (g : ℕ) → Nest (length st) o g → flat (render x st o z) ≡ buffered x st o ++ flat z
   unfolding buffered
   finished st [] z g p = refl
   finished [] (opened n ∷ es) z g p = absurd p
   finished (t ∷ st) (opened n ∷ es) z g p = finished st es ((1, t .0, starts-at x n, t .1) ∷ z) g p ∙ quad-on (buffered x st es) (1, t .0, starts-at x n, t .1) z
   finished st (leaf a n ∷ es) z g p = finished st es ((2, a, starts-at x n, ends-at x n) ∷ z) g p ∙ quad-on (buffered x st es) (2, a, starts-at x n, ends-at x n) z
   finished st (closed a n m ∷ es) z g p = finished ((a, span-end x n m) ∷ st) es ((3, a, starts-at x n, span-end x n m) ∷ z) g p ∙ quad-on (buffered x ((a, span-end x n m) ∷ st) es) (3, a, starts-at x n, span-end x n m) z
-  finished st (bad n c ∷ es) z g p = finished st es ((4, bads es + 0, starts-at x n, ends-at x n) ∷ z) g p ∙ quad-on (buffered x st es) (4, bads es + 0, starts-at x n, ends-at x n) z ∙ ap (λ (i : ℕ). (buffered x st es ++ four 4 i (starts-at x n) (ends-at x n)) ++ flat z) (add-zero (bads es))
+  finished st (bad n c ∷ es) z g p = finished st es ((4, bads es, starts-at x n, ends-at x n) ∷ z) g p ∙ quad-on (buffered x st es) (4, bads es, starts-at x n, ends-at x n) z
 
   pub buffer-finished : (o : List Event) → Nest 0 o 0 → buffer x o ≡ flat (inside x o)
   buffer-finished o p = sym (finished [] o [] 0 p ∙ append-nil (buffered x [] o))

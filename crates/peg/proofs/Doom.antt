@@ -12,8 +12,9 @@ use Rattle.kinds.specs.Kinds as kinds
 use Rattle.kinds.specs.Sets.{idOf, pick}
 use Rattle.peg.specs.Prog.{Production, CONDITION-BLK, FOR-EXPR, WITH-EXPR, Prog, eat, unless, ifnext, opt, many, then, _⨟_, _/_, last, recover, node, memo}
 use Rattle.peg.specs.Grammar.{grammar, kind}
-use Rattle.peg.specs.Run.{State, Reader, Mode, ok, failed, stopped, Next, end, other, hit, next, sought, skip, trivia, turn, back, begin, finish, if-ok, fails, eat-row, eat-at, refuse-row, refuse-at, branch, branch-at, then-at, or-else, alt-at, go-on, loop, loop-at, known, remember, memo-row, memo-at, nodes, recovered, recovery, exec, run}
-use Rattle.peg.specs.Peg.{strip, Res, Miss, Peg, eat-yes, ifnext-hit, then-is, seq-yes, seq-no, alt-no, recover-is, node-is}
+use Rattle.peg.specs.Run.{State, Reader, Mode, ok, failed, stopped, Next, end, other, hit, next, sought, skip, trivia, turn, back, begin, finish, if-ok, fails, eat-row, refuse-row, branch, or-else, go-on, loop, known, remember, memo-row, nodes, recovered, recovery, exec, run}
+use Rattle.peg.specs.Ford.{strip, Res}
+use Rattle.peg.proofs.Peg.{Miss, Peg, eat-yes, ifnext-hit, then-is, seq-yes, seq-no, alt-no, recover-is, node-is}
 use Rattle.peg.proofs.Order.{Running, finish-up}
 use Rattle.peg.proofs.Grows.{Grown, grown, grows, sought-hit, running-before, run-zero}
 use Rattle.peg.proofs.Every.{and-left, and-right, or-cases, productions, each, each-if, is, kind-inj, clash, never}
@@ -186,10 +187,10 @@ trail-production a t =
     let e = each-if (λ a. trailing (grammar a)) (is CONDITION-BLK) tt a t in
     (e, ap (λ (b : Production). trail (grammar b)) (kind-inj a CONDITION-BLK (eqb→eq (kind a) (kind CONDITION-BLK) e)))
 
-if-ok-failed : (f : Reader) (s : State) → s .mode ≡ failed → if-ok f s ≡ s
-if-ok-failed f s = go (s .mode) s
+if-ok-failed : (r s : State) → s .mode ≡ failed → if-ok (λ _. r) s ≡ s
+if-ok-failed r s = go (s .mode) s
   where
-    go : (m : Mode) (s : State) → m ≡ failed → if-ok f (turn m s) ≡ turn m s
+    go : (m : Mode) (s : State) → m ≡ failed → if-ok (λ _. r) (turn m s) ≡ turn m s
     go ok s e = not-ok e
     go failed s e = refl
     go (stopped w) s e = refl
@@ -564,18 +565,18 @@ module _ (R : List ℕ) (takes : List ℕ → Bool) (calls : Production → Bool
     sim p t l o = lift p (exec d call p o) l (exec-sim R d call cg cs ct cm p t o)
 
     calm-exec : (p : Prog) → T (sound p) → T (plain p) → T (low takes calls p) → Quietly (exec d call p true)
-    calm-exec (eat S N) t k l = q-guard (eat-at S N) (λ s m i r. eat-calm N (next S (s .rest)) s ∙ i .base .clear)
-    calm-exec (unless S) t k l = q-guard (refuse-at S) (λ s m i r. refuse-calm (next S (s .rest)) s ∙ i .base .clear)
-    calm-exec (ifnext S p) t k l = q-guard (branch-at S (exec d call p true)) (λ s m i r. q-branch (map idOf S) (exec d call p true) (calm-exec p t k l) (next S (s .rest)) s i r)
+    calm-exec (eat S N) t k l = q-guard _ (λ s m i r. eat-calm N (next S (s .rest)) s ∙ i .base .clear)
+    calm-exec (unless S) t k l = q-guard _ (λ s m i r. refuse-calm (next S (s .rest)) s ∙ i .base .clear)
+    calm-exec (ifnext S p) t k l = q-guard _ (λ s m i r. q-branch (map idOf S) (exec d call p true) (calm-exec p t k l) (next S (s .rest)) s i r)
     calm-exec (opt p) t k l =
         let f : Reader = exec d call p true in
         let t₁ = and-right (not (loose p)) (sound p) t in
-        q-guard (alt-at f (λ u. u)) (λ s m i r. q-or-else (λ u. u) q-id s (f (trivia s)) m i (calm-exec p t₁ k l (trivia s) (inv-trivia s i)) (λ h. after p f (sim p t₁ l true) s m i h .0) r)
+        q-guard (λ s. or-else (λ u. u) s (f (trivia s))) (λ s m i r. q-or-else (λ u. u) q-id s (f (trivia s)) m i (calm-exec p t₁ k l (trivia s) (inv-trivia s i)) (λ h. after p f (sim p t₁ l true) s m i h .0) r)
     calm-exec (many p) t k l =
         let f : Reader = exec d call p true in
         let t₁ = and-right (not (loose p) && taking p) (sound p) t in
-        q-guard (loop-at f) (λ s m i r. q-loop p f (sim p t₁ l true) (calm-exec p t₁ k l) (exec-grown d call cg cs ct p true) (suc (length (s .rest))) s m i r)
-    calm-exec (then p) t k l = q-guard (then-at (exec d call p true)) (λ s m i r. calm-exec p t k l (trivia s) (inv-trivia s i) r)
+        q-guard (λ s. loop f (suc (length (s .rest))) s) (λ s m i r. q-loop p f (sim p t₁ l true) (calm-exec p t₁ k l) (exec-grown d call cg cs ct p true) (suc (length (s .rest))) s m i r)
+    calm-exec (then p) t k l = q-guard _ (λ s m i r. calm-exec p t k l (trivia s) (inv-trivia s i) r)
     calm-exec (p ⨟ q) t k l =
         let t₁ = and-left (sound p) (sound q) t in
         let t₂ = and-right (sound p) (sound q) t in
@@ -584,26 +585,26 @@ module _ (R : List ℕ) (takes : List ℕ → Bool) (calls : Production → Bool
         let f : Reader = exec d call p true in
         let t₂ = and-right (not (loose p) && not (loose q)) (sound p && sound q) t in
         let tp = and-left (sound p) (sound q) t₂ in
-        q-guard (alt-at f (exec d call q true)) (λ s m i r. q-or-else (exec d call q true) (calm-exec q (and-right (sound p) (sound q) t₂) (and-right (plain p) (plain q) k) (and-right (low takes calls p) (low takes calls q) l)) s (f (trivia s)) m i (calm-exec p tp (and-left (plain p) (plain q) k) (and-left (low takes calls p) (low takes calls q) l) (trivia s) (inv-trivia s i)) (λ h. after p f (sim p tp (and-left (low takes calls p) (low takes calls q) l) true) s m i h .0) r)
+        q-guard (λ s. or-else (exec d call q true) s (f (trivia s))) (λ s m i r. q-or-else (exec d call q true) (calm-exec q (and-right (sound p) (sound q) t₂) (and-right (plain p) (plain q) k) (and-right (low takes calls p) (low takes calls q) l)) s (f (trivia s)) m i (calm-exec p tp (and-left (plain p) (plain q) k) (and-left (low takes calls p) (low takes calls q) l) (trivia s) (inv-trivia s i)) (λ h. after p f (sim p tp (and-left (low takes calls p) (low takes calls q) l) true) s m i h .0) r)
     calm-exec (last p) t k l =
         let f : Reader = exec d call p true in
         let t₁ = and-right (not (loose p)) (sound p) t in
-        q-guard (alt-at f fails) (λ s m i r. q-or-else fails q-fails s (f (trivia s)) m i (calm-exec p t₁ k l (trivia s) (inv-trivia s i)) (λ h. after p f (sim p t₁ l true) s m i h .0) r)
+        q-guard (λ s. or-else fails s (f (trivia s))) (λ s m i r. q-or-else fails q-fails s (f (trivia s)) m i (calm-exec p t₁ k l (trivia s) (inv-trivia s i)) (λ h. after p f (sim p t₁ l true) s m i h .0) r)
     calm-exec (recover S) t k l = absurd k
     calm-exec (node a) t k l = cq a l k
-    calm-exec (memo a) t k l = q-guard (memo-at (kind a) (call true a)) (λ s m i r. q-memo (kind a) (call true a) (cq a l k) (known (s .cache) (length (s .rest)) (kind a)) s i r)
+    calm-exec (memo a) t k l = q-guard _ (λ s m i r. q-memo (kind a) (call true a) (cq a l k) (known (s .cache) (length (s .rest)) (kind a)) s i r)
 
     node-doom : (o : Bool) (a : Production) → T (not o || inner a) → T (calls a) → Doomed (node a) (call o a)
     node-doom false a t l = cd a l
     node-doom true a t l = λ s m i r. inl (cq a l t s i r)
 
     pub doom-exec : (p : Prog) (o : Bool) → T (sound p) → T (fit o p) → T (low takes calls p) → Doomed p (exec d call p o)
-    doom-exec (eat S N) o t k l = d-guard (eat S N) (eat-at S N) (λ s m i r. inl (eat-calm N (next S (s .rest)) s ∙ i .base .clear))
-    doom-exec (unless S) o t k l = d-guard (unless S) (refuse-at S) (λ s m i r. inl (refuse-calm (next S (s .rest)) s ∙ i .base .clear))
-    doom-exec (ifnext S p) o t k l = d-guard (ifnext S p) (branch-at S (exec d call p o)) (λ s m i r. d-branch S p (exec d call p o) (doom-exec p o t k l) (next S (s .rest)) s refl m i r)
+    doom-exec (eat S N) o t k l = d-guard (eat S N) _ (λ s m i r. inl (eat-calm N (next S (s .rest)) s ∙ i .base .clear))
+    doom-exec (unless S) o t k l = d-guard (unless S) _ (λ s m i r. inl (refuse-calm (next S (s .rest)) s ∙ i .base .clear))
+    doom-exec (ifnext S p) o t k l = d-guard (ifnext S p) _ (λ s m i r. d-branch S p (exec d call p o) (doom-exec p o t k l) (next S (s .rest)) s refl m i r)
     doom-exec (opt p) o t k l = λ s m i r. inl (calm-exec (opt p) t k l s i r)
     doom-exec (many p) o t k l = λ s m i r. inl (calm-exec (many p) t k l s i r)
-    doom-exec (then p) o t k l = d-guard (then p) (then-at (exec d call p o)) (λ s m i r. bad-in p (then p) (strip (s .rest)) (exec d call p o (trivia s)) (λ _ g. then-is g) (λ t. (t, refl)) (d-after p (exec d call p o) (doom-exec p o t k l) s m i r))
+    doom-exec (then p) o t k l = d-guard (then p) _ (λ s m i r. bad-in p (then p) (strip (s .rest)) (exec d call p o (trivia s)) (λ _ g. then-is g) (λ t. (t, refl)) (d-after p (exec d call p o) (doom-exec p o t k l) s m i r))
     doom-exec (p ⨟ q) o t k l =
         let k₁ = and-left (fit o p && fit o q) (not (trailing p) || (dies (trail p) q || echo (trail p) q)) k in
         d-seq p q (exec d call p o) (exec d call q o) (and-right (fit o p && fit o q) (not (trailing p) || (dies (trail p) q || echo (trail p) q)) k) (sim p (and-left (sound p) (sound q) t) (and-left (low takes calls p) (low takes calls q) l) o) (doom-exec p o (and-left (sound p) (sound q) t) (and-left (fit o p) (fit o q) k₁) (and-left (low takes calls p) (low takes calls q) l)) (doom-exec q o (and-right (sound p) (sound q) t) (and-right (fit o p) (fit o q) k₁) (and-right (low takes calls p) (low takes calls q) l)) (exec-grown d call cg cs ct q o)
@@ -611,25 +612,25 @@ module _ (R : List ℕ) (takes : List ℕ → Bool) (calls : Production → Bool
         let f : Reader = exec d call p true in
         let t₂ = and-right (not (loose p) && not (loose q)) (sound p && sound q) t in
         let tp = and-left (sound p) (sound q) t₂ in
-        d-guard (p / q) (alt-at f (exec d call q o)) (λ s m i r. d-or-else p q (exec d call q o) (doom-exec q o (and-right (sound p) (sound q) t₂) (and-right (plain p) (fit o q) k) (and-right (low takes calls p) (low takes calls q) l)) s (f (trivia s)) m i (calm-exec p tp (and-left (plain p) (fit o q) k) (and-left (low takes calls p) (low takes calls q) l) (trivia s) (inv-trivia s i)) (λ h. after p f (sim p tp (and-left (low takes calls p) (low takes calls q) l) true) s m i h) r)
+        d-guard (p / q) (λ s. or-else (exec d call q o) s (f (trivia s))) (λ s m i r. d-or-else p q (exec d call q o) (doom-exec q o (and-right (sound p) (sound q) t₂) (and-right (plain p) (fit o q) k) (and-right (low takes calls p) (low takes calls q) l)) s (f (trivia s)) m i (calm-exec p tp (and-left (plain p) (fit o q) k) (and-left (low takes calls p) (low takes calls q) l) (trivia s) (inv-trivia s i)) (λ h. after p f (sim p tp (and-left (low takes calls p) (low takes calls q) l) true) s m i h) r)
     doom-exec (last p) o t k l = λ s m i r. inl (calm-exec (last p) t k l s i r)
     doom-exec (recover S) o t k l = d-recover d o S
     doom-exec (node a) o t k l = node-doom o a k l
-    doom-exec (memo a) o t k l = d-guard (memo a) (memo-at (kind a) (call o a)) (λ s m i r. d-memo a (call o a) (node-doom o a k l) (known (s .cache) (length (s .rest)) (kind a)) s m i r)
+    doom-exec (memo a) o t k l = d-guard (memo a) _ (λ s m i r. d-memo a (call o a) (node-doom o a k l) (known (s .cache) (length (s .rest)) (kind a)) s m i r)
 
     blocked-same : (p : Prog) (o : Bool) → T (blocked p) → (s : State) → s .mode ≡ failed → exec d call p o s ≡ s
-    blocked-same (eat S N) o t s e = if-ok-failed (eat-at S N) s e
-    blocked-same (unless S) o t s e = if-ok-failed (refuse-at S) s e
-    blocked-same (ifnext S p) o t s e = if-ok-failed (branch-at S (exec d call p o)) s e
-    blocked-same (opt p) o t s e = if-ok-failed (alt-at (exec d call p true) (λ u. u)) s e
-    blocked-same (many p) o t s e = if-ok-failed (loop-at (exec d call p true)) s e
-    blocked-same (then p) o t s e = if-ok-failed (then-at (exec d call p o)) s e
+    blocked-same (eat S N) o t s e = if-ok-failed _ s e
+    blocked-same (unless S) o t s e = if-ok-failed _ s e
+    blocked-same (ifnext S p) o t s e = if-ok-failed _ s e
+    blocked-same (opt p) o t s e = if-ok-failed _ s e
+    blocked-same (many p) o t s e = if-ok-failed _ s e
+    blocked-same (then p) o t s e = if-ok-failed _ s e
     blocked-same (p ⨟ q) o t s e = ap (exec d call q o) (blocked-same p o (and-left (blocked p) (blocked q) t) s e) ∙ blocked-same q o (and-right (blocked p) (blocked q) t) s e
-    blocked-same (p / q) o t s e = if-ok-failed (alt-at (exec d call p true) (exec d call q o)) s e
-    blocked-same (last p) o t s e = if-ok-failed (alt-at (exec d call p true) fails) s e
+    blocked-same (p / q) o t s e = if-ok-failed _ s e
+    blocked-same (last p) o t s e = if-ok-failed _ s e
     blocked-same (recover S) o t s e = absurd t
     blocked-same (node a) o t s e = absurd t
-    blocked-same (memo a) o t s e = if-ok-failed (memo-at (kind a) (call o a)) s e
+    blocked-same (memo a) o t s e = if-ok-failed _ s e
 
     -- for_expr and with_expr: a choice inside is behind their keyword
     keyed-calm : (a : Production) → Keyed a → T (calls a) → T (sound (grammar a)) → Quietly (exec d call (grammar a) true)
@@ -679,7 +680,7 @@ module _ (R : List ℕ) (takes : List ℕ → Bool) (calls : Production → Bool
 
         by-mode : (n : Mode) → s .mode ≡ n → Calm (exec d call (grammar a) true s)
         by-mode ok m = by-first m ((exec d call (eat (K .word ∷ []) (K .names)) true s) .mode) refl rf
-        by-mode failed m = ap (λ (u : State). u .chosen) (as-seq ∙ ap (exec d call (K .rest) true) (if-ok-failed (eat-at (K .word ∷ []) (K .names)) s m) ∙ blocked-same (K .rest) true (K .still) s m) ∙ i .base .clear
+        by-mode failed m = ap (λ (u : State). u .chosen) (as-seq ∙ ap (exec d call (K .rest) true) (if-ok-failed _ s m) ∙ blocked-same (K .rest) true (K .still) s m) ∙ i .base .clear
         by-mode (stopped w) m = absurd (subst Running m (running-before s (exec d call (grammar a) true s) (exec-grown d call cg cs ct (grammar a) true s) r))
 
   pub run-both : (d : ℕ) → ((a : Production) → T (calls a) → T (inner a) → Quietly (run d true a)) × ((a : Production) → T (calls a) → Doomed (node a) (run d false a))

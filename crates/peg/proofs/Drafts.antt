@@ -2,13 +2,13 @@
 -- take more room than they take behind what was written before: the rooms of the whole are enough for them.
 use Prim.Native.Nat.{ℕ, zero, suc, _+_, _≤_}
 use mathlib.Core.Path.{_≡_, refl, ap₂, sym, subst}
-use mathlib.Core.List.{List, [], _∷_, _++_}
+use mathlib.Core.List.{List, [], _∷_, _++_, map}
 use mathlib.Core.Bool.{Bool, true, false}
 use lib.ListN.{length, length-append}
 use native.Mathlib.Omega.{arith}
 use Rattle.peg.specs.Grammar.{rule-decl}
 use Rattle.peg.specs.Run.{State, Reader, Limits, Draft, Event, opened, leaf, closed, bad, Choice, stray, Mode, ok, failed, stopped, Next, end, other, hit, sought, trivia, take, turn, put, charge, begin, finish, choose, nodes, rule-keywords, run, read-rule, stray-item, item-at, flush, again, item, items, start, read}
-use Rattle.peg.specs.Render.{Source, form-of, names-of, size-of, said, held, moments-of, moments}
+use Rattle.peg.specs.Render.{Source, form-of, names-of, size-of, said, held, moments, used}
 use Rattle.peg.proofs.Induct.{exec-kept, run-kept}
 use Rattle.peg.proofs.Order.{Steps, stepped}
 use Rattle.peg.proofs.Frame.{h, behind}
@@ -170,7 +170,7 @@ module _ (pre a e : List ℕ) (B : Before pre a e) (y : Source) (L : Limits) whe
   said-append (closed k n m ∷ w) q = said-append w q
   said-append (bad n c ∷ w) q = omega (arith, said-append w q)
 
-  fits-drafts : (v r : ℕ) (q : List Event) (m ds : List Draft) → DraftsIn N ds → Fits v r (moments-of L x (behind q m ds)) → Fits v r (moments-of L y ds)
+  fits-drafts : (v r : ℕ) (q : List Event) (m ds : List Draft) → DraftsIn N ds → Fits v r (map (used L x) (behind q m ds)) → Fits v r (map (used L y) ds)
   fits-drafts v r q m [] i f = tt
   fits-drafts v r q m (d ∷ ds) i f =
       (omega (arith, f .0, length-append (d .0) q), omega (arith, f .1, said-append (d .0) q, said-later (d .0) (i .0), held-later (d .1) (i .1)), fits-drafts v r q m ds (i .2) (f .2))

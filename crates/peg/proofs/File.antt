@@ -11,8 +11,10 @@ use native.Mathlib.Omega.{arith}
 use Rattle.kinds.specs.Sets.{idOf, pick}
 use Rattle.peg.specs.Prog.{RULE-DECL, node}
 use Rattle.peg.specs.Grammar.{grammar, rule-decl}
-use Rattle.peg.specs.Run.{State, Mode, ok, failed, stopped, Event, Choice, stray, Next, end, other, hit, sought, skip, gap, trivia, turn, put, run, Limits, rule-keywords, read-rule, stray-item, item-at, errors, flush, again, item, items, start, read}
-use Rattle.peg.specs.Peg.{strip, Res, Peg, Rules, no-more, one-rule}
+use Rattle.peg.specs.Run.{State, Mode, ok, failed, stopped, Event, Choice, stray, Next, end, other, hit, sought, skip, trivia, turn, put, run, Limits, rule-keywords, read-rule, stray-item, item-at, errors, flush, again, item, items, start, read}
+use Rattle.peg.specs.Ford.{strip, Res, Rules, no-more, one-rule}
+use Rattle.peg.proofs.Gap.{gap}
+use Rattle.peg.proofs.Peg.{Peg}
 use Rattle.peg.proofs.Every.{never}
 use Rattle.peg.proofs.Induct.{exec-kept, run-kept}
 use Rattle.peg.proofs.Order.{Running, ordered}
@@ -21,6 +23,7 @@ use Rattle.peg.proofs.Shrink.{size, strip-gap, strip-head, not-failed, 
 use Rattle.peg.proofs.Agree.{nil-cons}
 use Rattle.peg.proofs.Det.{det, yes-no}
 use Rattle.peg.proofs.First.{dies, dies-no}
+use Rattle.peg.proofs.Published.{to-ford, from-ford}
 use Rattle.peg.proofs.Doom.{Off, off-miss, next-off}
 use Rattle.peg.proofs.Accept.{Fresh, accepted, unblamed}
 
@@ -146,7 +149,7 @@ sound-items L (suc n) s f l r e = by-rest (s .rest) refl (sound-items L n)
         let c : u .chosen ≡ [] = no-chosen (u .chosen) (u .out) (omega (arith, errors-bads (u .chosen) (u .out), ap bads (z .2), rule-unsaid L (trivia s), gap-bads (s .mode) (s .rest) (s .out))) in
         let p = accepted L (trivia s) (trivia-fresh s f) (again-running u rv, c) in
         let w : Rules (strip (v .rest)) = H v (z .0) (omega (arith, p .1, ap (λ (q : List ℕ). length (strip q)) (z .1), ap length (strip-gap (s .mode) (s .rest)))) r (omega (arith, errors-bads (u .chosen) (u .out), ap bads (z .2), rule-unsaid L (trivia s), gap-bads (s .mode) (s .rest) (s .out), ap length c)) in
-        one-rule (subst (λ (q : List ℕ). Peg (node RULE-DECL) q (Res.yes (strip (u .rest)))) (strip-gap (s .mode) (s .rest)) (p .0)) (subst (λ (q : List ℕ). Rules (strip q)) (z .1) w)
+        one-rule (to-ford (subst (λ (q : List ℕ). Peg (node RULE-DECL) q (Res.yes (strip (u .rest)))) (strip-gap (s .mode) (s .rest)) (p .0)) .1) (subst (λ (q : List ℕ). Rules (strip q)) (z .1) w)
 
     by-rest : (q : List ℕ) → s .rest ≡ q → ((u : State) → Fresh u → size u ≤ n → Running ((items L n u) .mode) → bads ((items L n u) .out) ≡ bads (u .out) → Rules (strip (u .rest))) → Rules (strip (s .rest))
     by-rest [] h H = subst (λ (q : List ℕ). Rules (strip q)) (sym h) no-more
@@ -168,11 +171,11 @@ full-items L (suc n) s f r w = by-rest (s .rest) refl (full-items L n)
       where
         go : (l : List ℕ) → Rules l → Off (sought rule-keywords l) → ⊥
         go l no-more o = o
-        go l (one-rule {r′ = r′} g rs) o = yes-no r′ (det g Res.no (dies-no rule-keywords l (node RULE-DECL) rule-dies (off-miss (sought rule-keywords l) o)))
+        go l (one-rule {r′ = r′} g rs) o = yes-no r′ (det (from-ford (node RULE-DECL) g) Res.no (dies-no rule-keywords l (node RULE-DECL) rule-dies (off-miss (sought rule-keywords l) o)))
 
     behind : (l r′ : List ℕ) → Rules l → Peg (node RULE-DECL) l (Res.yes r′) → Rules r′
     behind l r′ no-more d = absurd (yes-no r′ (det d Res.no (dies-no rule-keywords [] (node RULE-DECL) rule-dies tt)))
-    behind l r′ (one-rule {r′ = r₁} g rs) d = let e = det g (Res.yes r′) d in let y : r₁ ≡ r′ = cc in subst Rules y rs
+    behind l r′ (one-rule {r′ = r₁} g rs) d = let e = det (from-ford (node RULE-DECL) g) (Res.yes r′) d in let y : r₁ ≡ r′ = cc in subst Rules y rs
 
     skip-skip : (m : Mode) → m ≡ ok → sought rule-keywords (gap m (s .rest)) ≡ Rattle.peg.specs.Run.next rule-keywords (s .rest)
     skip-skip ok e = refl

@@ -9,7 +9,8 @@ use Rattle.kinds.specs.Sets.{idOf, pick}
 use Rattle.peg.specs.Prog.{Production, Prog, eat, unless, ifnext, opt, many, then, _⨟_, _/_, last, recover, node, memo}
 use Rattle.peg.specs.Grammar.{grammar}
 use Rattle.peg.specs.Run.{Next, other, hit, sought}
-use Rattle.peg.specs.Peg.{Res, Miss, Peg, eat-no, ifnext-miss, opt-no, then-is, seq-yes, seq-no, alt-no, last-is, recover-is, node-is}
+use Rattle.peg.specs.Ford.{Res}
+use Rattle.peg.proofs.Peg.{Miss, Peg, eat-no, ifnext-miss, opt-no, then-is, seq-yes, seq-no, alt-no, last-is, recover-is, node-is}
 use Rattle.peg.proofs.Every.{and-left, and-right, clash}
 
 abbrev there : Option ℕ → Bool
@@ -127,7 +128,7 @@ module _ (S r : List ℕ) (m : Miss (sought S r)) where
   meets-alt p q dead dead d e = alt-no d e
   meets-alt p q dead same d e = alt-no d e
   meets-alt p q dead open-ended d e = tt
-  meets-alt p q same y d e = Rattle.peg.specs.Peg.alt-yes d
+  meets-alt p q same y d e = Rattle.peg.proofs.Peg.alt-yes d
   meets-alt p q open-ended y d e = tt
 
   fate-meets : (c : List ℕ → Production → Fate) → ((a : Production) → Meets (c S a) (node a) r) → (p : Prog) → Meets (fate c S p) p r

@@ -8,8 +8,9 @@ use native.Mathlib.Nat.{suc-add, zero-add}
 use Rattle.kinds.specs.Kinds as kinds
 use Rattle.kinds.specs.Sets.{idOf, kindOf, trivial}
 use Rattle.peg.specs.Prog.{Production}
-use Rattle.peg.specs.Run.{count, Draft, mark, State, Reader, Mode, ok, failed, stopped, Stop, spent, deep, Event, opened, leaf, Choice, Next, end, other, hit, next, past, put, turn, emit, take, back, halted, if-ok, trivia, trivia-out, gap, gap-out, unexpected, choose, charge, begin, finish, seek, seek-out, skip-to, swallow, first-names, recovered, recovery, eat-row, refuse-row, branch, or-else, loop, go-on, known, remember, memo-row, nodes, run}
+use Rattle.peg.specs.Run.{count, Draft, mark, State, Reader, Mode, ok, failed, stopped, Stop, spent, deep, Event, opened, leaf, Choice, Next, end, other, hit, next, past, put, turn, emit, take, back, halted, if-ok, trivia, trivia-out, unexpected, choose, charge, begin, finish, seek, seek-out, skip-to, swallow, first-names, recovered, recovery, eat-row, refuse-row, branch, or-else, loop, go-on, known, remember, memo-row, nodes, run}
 use Rattle.peg.specs.Remaining.{Running}
+use Rattle.peg.proofs.Gap.{gap, gap-out}
 use Rattle.peg.proofs.Induct.{Kept, run-kept}
 
 -- drafts, with the events q written before them, after the drafts m

@@ -9,9 +9,10 @@ use native.Mathlib.Nat.{le-refl}
 use native.Mathlib.Omega.{arith}
 use Rattle.kinds.specs.Sets.{kindOf, pick, trivial}
 use Rattle.peg.specs.Prog.{Production}
-use Rattle.peg.specs.Run.{State, Mode, ok, failed, stopped, Stop, Event, leaf, Choice, Next, other, hit, next, sought, skip, past, gap, gap-out, trivia-out, seek, seek-out, pending, add, decide, run, wanted, unwanted, spent, deep, trivia, charge, begin, finish}
+use Rattle.peg.specs.Run.{State, Mode, ok, failed, stopped, Stop, Event, leaf, Choice, Next, other, hit, next, sought, skip, past, trivia-out, seek, seek-out, pending, add, decide, run, wanted, unwanted, spent, deep, trivia, charge, begin, finish}
 pub use Rattle.peg.specs.Render.{bads}
 use Rattle.peg.specs.Grammar.{kind}
+use Rattle.peg.proofs.Gap.{gap, gap-out}
 use Rattle.peg.proofs.Every.{never}
 use Rattle.peg.proofs.Induct.{run-kept}
 use Rattle.peg.proofs.Order.{Order, ordered, Running, Plain, halted-not, finish-up}

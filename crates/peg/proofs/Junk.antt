@@ -8,16 +8,16 @@ use native.Mathlib.Omega.{arith}
 use Rattle.kinds.specs.Kinds as kinds
 use Rattle.kinds.specs.Sets.{trivial, kindOf}
 use Rattle.peg.specs.Run.{Limits, Event, opened, leaf, closed, bad, stray, skip, trivia-out}
-use Rattle.peg.specs.Render.{Source, starts-at, span-end, Quad, Rec, Page, bads, render, inside, records}
+use Rattle.peg.specs.Render.{Source, starts-at, span-end, Quad, Rec, bads, render, inside, records}
 use Rattle.peg.specs.Remaining.{tokens, junk-error, junk-events}
 use Rattle.peg.proofs.Shown.{render-keeps, records-keep}
 use Rattle.peg.proofs.Stands.{leaves}
 
 module _ (x : Source) where
   -- rows are written as their tokens
-  render-leaves : (b : ℕ) (j r : List ℕ) (o : List Event) (st : List (ℕ × ℕ)) (l : List Quad) → render x b (leaves j r o) (st, l) ≡ render x b o (st, tokens x j r ++ l)
-  render-leaves b [] r o st l = refl
-  render-leaves b (i ∷ j) r o st l = render-leaves b j r (leaf (kindOf i) (suc (length (j ++ r))) ∷ o) st l
+  render-leaves : (j r : List ℕ) (o : List Event) (st : List (ℕ × ℕ)) (l : List Quad) → render x st (leaves j r o) l ≡ render x st o (tokens x j r ++ l)
+  render-leaves [] r o st l = refl
+  render-leaves (i ∷ j) r o st l = render-leaves j r (leaf (kindOf i) (suc (length (j ++ r))) ∷ o) st l
 
   records-leaves : (L : Limits) (j r : List ℕ) (o : List Event) (l : List Rec) → records L x (leaves j r o) l ≡ records L x o l
   records-leaves L [] r o l = refl
@@ -34,13 +34,10 @@ module _ (x : Source) where
       let n : ℕ = length (j ++ r) in
       let a : ℕ = starts-at x n in
       let z : ℕ = span-end x n (length r) in
-      ap (λ (p : Page). p .1) (render-leaves 0 j r (opened n ∷ bad n stray ∷ leaves g (j ++ r) o) ((kinds.ERROR, z) ∷ []) ((3, kinds.ERROR, a, z) ∷ []))
-      ∙ ap (λ (i : ℕ). (render x 0 (leaves g (j ++ r) o) ([], junk-events x i j r)) .1) (count (bads (leaves g (j ++ r) o)) (bads o) (bads-leaves g (j ++ r) o))
-      ∙ ap (λ (p : Page). p .1) (render-leaves 0 g (j ++ r) o [] (junk-events x (bads o) j r))
-      ∙ ap (λ (p : Page). p .1) (render-keeps x 0 o [] [] (tokens x g (j ++ r) ++ junk-events x (bads o) j r))
-    where
-      count : (a b : ℕ) → a ≡ b → a + 0 ≡ b
-      count a b e = omega (arith, e)
+      render-leaves j r (opened n ∷ bad n stray ∷ leaves g (j ++ r) o) ((kinds.ERROR, z) ∷ []) ((3, kinds.ERROR, a, z) ∷ [])
+      ∙ ap (λ (i : ℕ). render x [] (leaves g (j ++ r) o) (junk-events x i j r)) (bads-leaves g (j ++ r) o)
+      ∙ render-leaves g (j ++ r) o [] (junk-events x (bads o) j r)
+      ∙ render-keeps x [] o [] (tokens x g (j ++ r) ++ junk-events x (bads o) j r)
 
   pub junk-recorded : (L : Limits) (g j r : List ℕ) (o : List Event) → let n : ℕ = length (j ++ r) in
       records L x (closed kinds.ERROR n (length r) ∷ leaves j r (opened n ∷ bad n stray ∷ leaves g (j ++ r) o)) [] ≡ records L x o [] ++ (junk-error x j r ∷ [])

@@ -11,7 +11,8 @@ use Rattle.kinds.specs.Sets.{idOf, pick}
 use Rattle.peg.specs.Prog.{Production, FOR-EXPR, WITH-EXPR, Prog, eat, unless, ifnext, opt, many, then, _⨟_, _/_, last, recover, node, memo}
 use Rattle.peg.specs.Grammar.{grammar, kind}
 use Rattle.peg.specs.Run.{Next, end, other, hit, sought}
-use Rattle.peg.specs.Peg.{Res, Peg, eat-yes, unless-yes, ifnext-hit, ifnext-miss, opt-yes, opt-no, many-yes, many-no, then-is, seq-yes, alt-yes, alt-no, last-is, recover-is, node-is, memo-is}
+use Rattle.peg.specs.Ford.{Res}
+use Rattle.peg.proofs.Peg.{Peg, eat-yes, unless-yes, ifnext-hit, ifnext-miss, opt-yes, opt-no, many-yes, many-no, then-is, seq-yes, alt-yes, alt-no, last-is, recover-is, node-is, memo-is}
 use Rattle.peg.proofs.Every.{and-left, and-right, productions, all, is, each-but, never}
 use Rattle.peg.proofs.Grows.{sought-hit}
 

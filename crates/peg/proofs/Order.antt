@@ -133,7 +133,7 @@ module _ (Q : State → State → Type 0) (O : Steps Q) where
   recovered-up d o S end m s = O .same s
   recovered-up d o S (hit a is) ok s = O .same s
   recovered-up d o S (hit a is) failed s = O .at-choose s
-  recovered-up d o S (hit a is) (stopped w) s = O .same s
+  recovered-up d o S (hit a is) (stopped w) s = O .at-choose s
   recovered-up d o S other m s =
       let t : State = first-names (s .chosen) S s in
       O .trans s (choose t) (swallow d o S (choose t)) (O .trans s t (choose t) (first-names-up (s .chosen) S s) (O .at-choose t)) (swallow-up d o S (choose t))

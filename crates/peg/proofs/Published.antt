@@ -1,4 +1,4 @@
--- Acceptance is Ford's: `Peg p` is his relation on the expression of p.
+-- The relation on the module's combinators is Ford's: `Peg p` is his relation on the expression of p.
 use Prim.Native.Nat.{ℕ, zero, suc, _≤_, _<_}
 use mathlib.Core.Path.{_≡_, refl, sym, subst}
 use mathlib.Core.Logic.{_⊎_, inl, inr, _↔_}
@@ -12,9 +12,9 @@ use Rattle.kinds.specs.Sets.{idOf, pick}
 use Rattle.peg.specs.Prog.{Production, RULE-DECL, Prog, eat, unless, ifnext, opt, many, then, _⨟_, _/_, last, recover, node, memo}
 use Rattle.peg.specs.Grammar.{grammar}
 use Rattle.peg.specs.Run.{Next, end, other, hit, sought, rule-keywords}
-use Rattle.peg.specs.Peg.{Res, Miss, Peg, eat-yes, eat-no, unless-yes, unless-no, ifnext-hit, ifnext-miss, opt-yes, opt-no, many-yes, many-no, then-is, seq-yes, seq-no, alt-yes, alt-no, last-is, recover-is, node-is, memo-is, Rules, no-more, one-rule}
+use Rattle.peg.proofs.Peg.{Miss, Peg, eat-yes, eat-no, unless-yes, unless-no, ifnext-hit, ifnext-miss, opt-yes, opt-no, many-yes, many-no, then-is, seq-yes, seq-no, alt-yes, alt-no, last-is, recover-is, node-is, memo-is}
 use Rattle.peg.specs.Ford as Fo
-use Rattle.peg.specs.Ford.{Exp, ε, tok, nt, _·_, _∣_, star, non, Ford, empty, term-yes, term-no, term-end, nonterm, seq-no₁, seq-no₂, choice₁, choice₂, repeat, rest, non-no, non-yes, one-of, ford, rules}
+use Rattle.peg.specs.Ford.{Exp, ε, tok, nt, _·_, _∣_, star, non, Ford, empty, term-yes, term-no, term-end, nonterm, seq-no₁, seq-no₂, choice₁, choice₂, repeat, rest, non-no, non-yes, one-of, ford, rules, Res, Rules, no-more, one-rule}
 use Rattle.peg.proofs.Det.{yes-no, yes-is}
 use Rattle.peg.proofs.First.{dies-no}
 
@@ -24,7 +24,7 @@ Fd = Ford rules
 move : {e : Exp} {r r′ : List ℕ} {n : ℕ} {y : Res} → r ≡ r′ → Fd e r′ n y → Fd e r n y
 move {e = e} {n = n} {y = y} z h = subst (λ (l : List ℕ). Fd e l n y) (sym z) h
 
-det : {e : Exp} {r : List ℕ} {n : ℕ} {x : Res} → Fd e r n x → (m : ℕ) (y : Res) → Fd e r m y → x ≡ y
+pub det : {e : Exp} {r : List ℕ} {n : ℕ} {x : Res} → Fd e r n x → (m : ℕ) (y : Res) → Fd e r m y → x ≡ y
 det empty m y empty = refl
 det (term-yes a) m y (term-yes b) = refl
 det (term-yes a) m y (term-no b) = absurd (b a)
@@ -256,22 +256,25 @@ backs : (N : ℕ) → Back N
 backs zero p r n x l d = absurd (omega (arith, l, positive d))
 backs (suc N) p r n x l d = step N (backs N) p r n x l d
 
--- THE THEOREM: the acceptance definition is the published one
+pub from-ford : (p : Prog) {r : List ℕ} {n : ℕ} {x : Res} → Fd (ford p) r n x → Peg p r x
+from-ford p {r} {n} {x} d = backs n p r n x (le-refl n) d
+
+-- THE THEOREM: document 01's reading of the combinators is the published relation
 pub peg-is-ford : (p : Prog) (r : List ℕ) (x : Res) → Peg p r x ↔ ((n : ℕ) × Ford rules (ford p) r n x)
-peg-is-ford p r x = ((λ g. to-ford g), λ z. backs (z .0) p r (z .0) x (le-refl (z .0)) (z .1))
+peg-is-ford p r x = ((λ g. to-ford g), λ z. from-ford p (z .1))
 
 -- "a run of none or more `rule_decl` from first to last", in Ford's words: rule_decl* takes all
 rule-fails : Peg (node RULE-DECL) [] Res.no
 unfolding grammar idOf
 rule-fails = dies-no rule-keywords [] (node RULE-DECL) tt tt
 
-rules-many : {r : List ℕ} → Rules r → Peg (many (node RULE-DECL)) r (Res.yes [])
-rules-many no-more = many-no rule-fails
-rules-many (one-rule g rs) = many-yes g (rules-many rs)
+rules-star : {r : List ℕ} → Rules r → Some (star (nt RULE-DECL)) r (Res.yes [])
+rules-star no-more = (_, rest (to-ford rule-fails .1))
+rules-star (one-rule g rs) = (_, repeat g (rules-star rs .1))
 
-many-rules : {r : List ℕ} → Peg (many (node RULE-DECL)) r (Res.yes []) → Rules r
-many-rules (many-yes d e) = one-rule d (many-rules e)
-many-rules (many-no d) = no-more
+star-rules : {r : List ℕ} {n : ℕ} → Fd (star (nt RULE-DECL)) r n (Res.yes []) → Rules r
+star-rules (repeat d e) = one-rule d (star-rules e)
+star-rules (rest d) = no-more
 
 pub accepts-is-ford : (r : List ℕ) → Rules r ↔ ((n : ℕ) × Ford rules (star (nt RULE-DECL)) r n (Res.yes []))
-accepts-is-ford r = let i = peg-is-ford (many (node RULE-DECL)) r (Res.yes []) in ((λ a. i .0 (rules-many a)), λ z. many-rules (i .1 z))
+accepts-is-ford r = ((λ a. rules-star a), λ z. star-rules (z .1))

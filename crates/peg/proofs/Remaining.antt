@@ -13,7 +13,7 @@ use Rattle.peg.specs.Render.{Source, Quad, Rec, Reading, bads, flat, ins
 use Rattle.peg.specs.Buffer.{buffer}
 use Rattle.peg.specs.Answer.{Desk, given, words, refusal, answer, source-of}
 use Rattle.peg.specs.Remaining.{Running, standing, rows-before, place, written, recorded, remaining, shifts, shift-records, in-file, Continued, Keyless, Solid, tokens, junk-events, Junk}
-use Rattle.peg.specs.Peg.{strip, Res, Peg}
+use Rattle.peg.specs.Ford.{strip, Res, Ford, nt, rules}
 use Rattle.peg.proofs.Grows.{End}
 use Rattle.peg.proofs.Agree.{next-end, next-hit}
 use Rattle.peg.proofs.Doom.{Off}
@@ -22,6 +22,7 @@ use Rattle.peg.proofs.Buffer.{item-adds, buffer-finished}
 use Rattle.peg.proofs.Tidy.{items-tidied}
 use Rattle.peg.proofs.Shown.{damage-shown, inside-append}
 use Rattle.peg.proofs.Suffix.{items-rows, damage-stays, next-item}
+use Rattle.peg.proofs.Published.{from-ford}
 use Rattle.peg.proofs.Stands.{leaves, junk-run, rule-stands}
 use Rattle.peg.proofs.Junk.{lead, junk-written, junk-recorded, unrecorded}
 use Rattle.peg.proofs.Takes.{end-length, item-takes}
@@ -123,9 +124,9 @@ module _ (L : Limits) (d : Desk) (n : ℕ) where
   one-item r i is e = next-item L (d .ids) (d .fuel) n i is (fresh r .is-ok) e
 
   -- right behind an accepted rule
-  pub rule-behind : (x r : List ℕ) → Running (s .mode) → s .rest ≡ x ++ r → Solid x → Peg (node RULE-DECL) (strip (s .rest)) (Res.yes (strip r)) → T (past (next rule-keywords r)) → let v : State = standing L d (n + 1) in Running (v .mode) →
+  pub rule-behind : (x r : List ℕ) (m : ℕ) → Running (s .mode) → s .rest ≡ x ++ r → Solid x → Ford rules (nt RULE-DECL) (strip (s .rest)) m (Res.yes (strip r)) → T (past (next rule-keywords r)) → let v : State = standing L d (n + 1) in Running (v .mode) →
       (v .rest ≡ r) × (recorded L d v ≡ recorded L d s) × ((w : List Quad) × (written d v ≡ written d s ++ w))
-  rule-behind x r m e q g p = at (solid-front x r q)
+  rule-behind x r _ m e q g p = at (solid-front x r q)
     where
       followed : (y : Next) → next rule-keywords r ≡ y → T (past y) → Off (sought rule-keywords (strip r)) → ⊥
       followed end z t o = subst Off (ap (sought rule-keywords) (next-end rule-keywords r z)) o
@@ -138,9 +139,10 @@ module _ (L : Limits) (d : Desk) (n : ℕ) where
       stood : Running ((item L (standing L d n)) .mode) → Stood (item L (standing L d n))
       stood k =
           let v : State = item L s in
-          let h = rule-stands L s x r (fresh m) e q g (followed (next rule-keywords r) refl p) k in
+          let h = rule-stands L s x r (fresh m) e q (from-ford (node RULE-DECL) g) (followed (next rule-keywords r) refl p) k in
           let A = item-adds L s in
-          (h .1, ap (λ (o : List Event). records L (source-of d) o []) (sym (A .joins)) ∙ unrecorded (source-of d) L (A .new) (s .out) [] (ap bads (A .joins) ∙ h .2), (_, ap (inside (source-of d)) (sym (A .joins)) ∙ inside-append (source-of d) (A .new) (s .out) (A .nest 0)))
+          let B = inside-append (source-of d) (A .new) (s .out) (A .nest 0) in
+          (h .1, ap (λ (o : List Event). records L (source-of d) o []) (sym (A .joins)) ∙ unrecorded (source-of d) L (A .new) (s .out) [] (ap bads (A .joins) ∙ h .2), (B .0, ap (inside (source-of d)) (sym (A .joins)) ∙ B .1))
 
       at : ((i : ℕ) × (is : List ℕ) × (x ++ r ≡ i ∷ is)) → Running ((standing L d (n + 1)) .mode) → Stood (standing L d (n + 1))
       at f k = let z = one-item m (f .0) (f .1) (e ∙ f .2) in subst Stood (sym z) (stood (subst (λ (u : State). Running (u .mode)) z k))

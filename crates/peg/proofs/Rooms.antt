@@ -2,14 +2,14 @@
 -- with room enough there is an answer; and the buffers stay as long as they were lent.
 use Prim.Native.Nat.{ℕ, zero, suc, _+_, _-_, _*_, _/_, _≤_, _<_, max}
 use mathlib.Core.Path.{_≡_, refl, ap, ap₂, sym, _∙_}
-use mathlib.Core.List.{List, [], _∷_, _++_}
+use mathlib.Core.List.{List, [], _∷_, _++_, map}
 use mathlib.Core.Bool.{Bool, true, false}
 use lib.Dec.{T, ltb, ltb→lt, lt→ltb}
 use lib.ListN.{length, replicate, length-append, length-replicate}
 use native.Mathlib.Omega.{arith}
 use Rattle.kinds.specs.Kinds as k
 use Rattle.peg.specs.Run.{State, Limits, Draft, Event, opened, leaf, closed, bad}
-use Rattle.peg.specs.Render.{Source, Quad, Rec, Reading, records, record-of, said, flat, flat-records, inside, rendered, moments-of, moments, exceeds, over}
+use Rattle.peg.specs.Render.{Source, Quad, Rec, Reading, records, record-of, said, flat, flat-records, inside, rendered, moments, exceeds, over, used}
 use Rattle.peg.specs.Answer.{Desk, Answer, refused, given, refusal, exceeded, answer, answer-of, source-of, After, refusing, blank, as-lent, filled, left-by, after}
 use Rattle.peg.proofs.Tidy.{read-tidy}
 use Rattle.peg.proofs.Buffer.{buffer-length, buffer-finished}
@@ -90,7 +90,7 @@ same-test e n = go (ltb e (4 * n)) (ltb (4 * (e / 4)) (4 * n)) (ltb→lt e (4 * 
 same-exceeds : (e r n m : ℕ) → exceeds e r (4 * n, m) ≡ exceeds (4 * (e / 4)) r (4 * n, m)
 same-exceeds e r n m = ap (λ (b : Bool). elim b as (λ _. ℕ) [ true ↦ 7 | false ↦ elim (ltb r m) as (λ _. ℕ) [ true ↦ 8 | false ↦ 0 ] ]) (same-test e n)
 
-same-over : (L : Limits) (x : Source) (e r : ℕ) (ds : List Draft) → over e r (moments-of L x ds) ≡ over (4 * (e / 4)) r (moments-of L x ds)
+same-over : (L : Limits) (x : Source) (e r : ℕ) (ds : List Draft) → over e r (map (used L x) ds) ≡ over (4 * (e / 4)) r (map (used L x) ds)
 same-over L x e r [] = refl
 same-over L x e r (d ∷ ds) = ap₂ (λ (n i : ℕ). elim n as (λ _. ℕ) [ zero ↦ i | suc n ↦ suc n ]) (same-over L x e r ds) (same-exceeds e r (suc (length (d .0))) _)
 

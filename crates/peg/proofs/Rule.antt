@@ -14,7 +14,8 @@ use Rattle.kinds.specs.Sets.{idOf, pick}
 use Rattle.peg.specs.Prog.{Production, RULE-DECL, CONDITION-BLK, Prog, eat, then, _⨟_, recover, node}
 use Rattle.peg.specs.Grammar.{grammar, kind}
 use Rattle.peg.specs.Run.{State, Reader, Limits, Mode, ok, failed, stopped, Next, end, other, hit, next, sought, skip, trivia, turn, begin, finish, eat-row, recovered, recovery, exec, run, read-rule}
-use Rattle.peg.specs.Peg.{strip, Res, Miss, Peg, eat-yes, eat-no, unless-yes, unless-no, ifnext-hit, ifnext-miss, opt-yes, opt-no, many-yes, many-no, then-is, seq-yes, seq-no, alt-yes, alt-no, last-is, recover-is, node-is, memo-is}
+use Rattle.peg.specs.Ford.{strip, Res}
+use Rattle.peg.proofs.Peg.{Miss, Peg, eat-yes, eat-no, unless-yes, unless-no, ifnext-hit, ifnext-miss, opt-yes, opt-no, many-yes, many-no, then-is, seq-yes, seq-no, alt-yes, alt-no, last-is, recover-is, node-is, memo-is}
 use Rattle.peg.proofs.Order.{Running, finish-up, recovery-up}
 use Rattle.peg.proofs.Grows.{End, end-refl, end-trans, end-cons, gap-end, skip-end, Grown, grown, grows, sought-hit, running-before, run-zero}
 use Rattle.peg.proofs.Every.{and-left, and-right, productions, each-if, clash, never}

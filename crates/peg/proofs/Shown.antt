@@ -10,9 +10,9 @@ use native.Mathlib.Nat.{suc-add, zero-add, add-zero, add-suc}
 use native.Mathlib.Omega.{arith}
 use Rattle.kinds.specs.Kinds as k
 use Rattle.peg.specs.Run.{State, Limits, Event, opened, leaf, closed, bad, Choice, items, start, read}
-use Rattle.peg.specs.Render.{Source, ends-at, starts-at, id-at, text-at, span-end, Quad, Rec, Page, bads, write, render, form-of, names-of, record-of, records, inside}
+use Rattle.peg.specs.Render.{Source, ends-at, starts-at, id-at, text-at, span-end, Quad, Rec, bads, render, form-of, names-of, record-of, records, inside}
 use Rattle.peg.specs.Remaining.{shifts, shift-records}
-use Rattle.peg.specs.Buffer.{Nest}
+use Rattle.peg.specs.Open.{Nest}
 use Rattle.peg.proofs.Every.{never}
 use Rattle.peg.proofs.Order.{Running}
 use Rattle.peg.proofs.Frame.{h}
@@ -59,43 +59,30 @@ bads-append (leaf a n ∷ w) q = bads-append w q
 bads-append (closed a n m ∷ w) q = bads-append w q
 bads-append (bad n c ∷ w) q = omega (arith, bads-append w q)
 
--- a page is written event by event
-render-append : (x : Source) (b : ℕ) (w q : List Event) (z : Page) → render x b (w ++ q) z ≡ render x b q (render x (bads q + b) w z)
-render-append x b [] q z = refl
-render-append x b (e ∷ w) q z = ap (λ (i : ℕ). render x b (w ++ q) (write x i e z)) (omega (arith, bads-append w q)) ∙ render-append x b w q (write x (bads w + (bads q + b)) e z)
-
 -- what was written stays behind
-write-keeps : (x : Source) (i : ℕ) (e : Event) (st : List (ℕ × ℕ)) (l l′ : List Quad) → let z : Page = write x i e (st, l) in write x i e (st, l ++ l′) ≡ (z .0, z .1 ++ l′)
-write-keeps x i (opened n) [] l l′ = refl
-write-keeps x i (opened n) (t ∷ st) l l′ = refl
-write-keeps x i (leaf a n) st l l′ = refl
-write-keeps x i (closed a n m) st l l′ = refl
-write-keeps x i (bad n c) st l l′ = refl
-
-pub render-keeps : (x : Source) (b : ℕ) (w : List Event) (st : List (ℕ × ℕ)) (l l′ : List Quad) → let z : Page = render x b w (st, l) in render x b w (st, l ++ l′) ≡ (z .0, z .1 ++ l′)
-render-keeps x b [] st l l′ = refl
-render-keeps x b (e ∷ w) st l l′ = let z : Page = write x (bads w + b) e (st, l) in ap (render x b w) (write-keeps x (bads w + b) e st l l′) ∙ render-keeps x b w (z .0) (z .1) l′
+pub render-keeps : (x : Source) (st : List (ℕ × ℕ)) (w : List Event) (l l′ : List Quad) → render x st w (l ++ l′) ≡ render x st w l ++ l′
+render-keeps x st [] l l′ = refl
+render-keeps x [] (opened n ∷ w) l l′ = render-keeps x [] w l l′
+render-keeps x (t ∷ st) (opened n ∷ w) l l′ = render-keeps x st w ((1, t .0, starts-at x n, t .1) ∷ l) l′
+render-keeps x st (leaf a n ∷ w) l l′ = render-keeps x st w ((2, a, starts-at x n, ends-at x n) ∷ l) l′
+render-keeps x st (closed a n m ∷ w) l l′ = render-keeps x ((a, span-end x n m) ∷ st) w ((3, a, starts-at x n, span-end x n m) ∷ l) l′
+render-keeps x st (bad n c ∷ w) l l′ = render-keeps x st w ((4, bads w, starts-at x n, ends-at x n) ∷ l) l′
 
 nil-of : {A : Type 0} (l : List A) → length l ≡ 0 → l ≡ []
 nil-of [] e = refl
 nil-of (x ∷ l) e = absurd (omega (arith, e))
 
--- the stack is as high as the nest says
-render-high : (x : Source) (b : ℕ) (w : List Event) (st : List (ℕ × ℕ)) (l : List Quad) (g : ℕ) → Nest (length st) w g → length ((render x b w (st, l)) .0) ≡ g
-render-high x b [] st l g p = p
-render-high x b (opened n ∷ w) [] l g p = absurd p
-render-high x b (opened n ∷ w) (t ∷ st) l g p = render-high x b w st _ g p
-render-high x b (leaf a n ∷ w) st l g p = render-high x b w st _ g p
-render-high x b (closed a n m ∷ w) st l g p = render-high x b w ((a, span-end x n m) ∷ st) _ g p
-render-high x b (bad n c ∷ w) st l g p = render-high x b w st _ g p
-
 -- what is nested comes behind what was written
-pub inside-append : (x : Source) (w q : List Event) → Nest 0 w 0 → inside x (w ++ q) ≡ inside x q ++ (render x (bads q + 0) w ([], [])) .1
-inside-append x w q p =
-    let z : Page = render x (bads q + 0) w ([], []) in
-    ap (λ (z : Page). z .1) (render-append x 0 w q ([], []))
-    ∙ ap (λ (st : List (ℕ × ℕ)). (render x 0 q (st, z .1)) .1) (nil-of (z .0) (render-high x (bads q + 0) w [] [] 0 p))
-    ∙ ap (λ (z : Page). z .1) (render-keeps x 0 q [] [] (z .1))
+render-behind : (x : Source) (st : List (ℕ × ℕ)) (w q : List Event) (l : List Quad) → Nest (length st) w 0 → (z : List Quad) × (render x st (w ++ q) l ≡ render x [] q z)
+render-behind x st [] q l p = (l, ap (λ (s : List (ℕ × ℕ)). render x s q l) (nil-of st p))
+render-behind x [] (opened n ∷ w) q l p = absurd p
+render-behind x (t ∷ st) (opened n ∷ w) q l p = render-behind x st w q _ p
+render-behind x st (leaf a n ∷ w) q l p = render-behind x st w q _ p
+render-behind x st (closed a n m ∷ w) q l p = render-behind x ((a, span-end x n m) ∷ st) w q _ p
+render-behind x st (bad n c ∷ w) q l p = render-behind x st w q _ p
+
+pub inside-append : (x : Source) (w q : List Event) → Nest 0 w 0 → (z : List Quad) × (inside x (w ++ q) ≡ inside x q ++ z)
+inside-append x w q p = let b = render-behind x [] w q [] p in (b .0, b .1 ∙ render-keeps x [] q [] (b .0))
 
 records-append : (x : Source) (L : Limits) (w q : List Event) (l : List Rec) → records L x (w ++ q) l ≡ records L x q (records L x w l)
 records-append x L [] q l = refl
@@ -167,25 +154,20 @@ module _ (pre a e : List ℕ) (B : Before pre a e) (y : Source) where
       ap₂ (λ (i : ℕ) (t : List ℕ). let f = form-of L i t c in let z : Rec = (starts-at x n, ends-at x n, f, names-of f c) in z) (id-later n l) (text-later n l)
       ∙ ap₂ (λ (i j : ℕ). let f = form-of L (id-at y n) (text-at y n) c in let z : Rec = (i, j, f, names-of f c) in z) (starts-later n l) (ends-later n l)
 
-  shown : (c : ℕ) (w : List Event) (st : List (ℕ × ℕ)) (l : List Quad) (g : ℕ) → Ins N w → Nest (length st) w g → let z : Page = render y 0 w (st, l) in render x c w (ups P st, shifts P c l) ≡ (ups P (z .0), shifts P c (z .1))
-  shown c [] st l g i p = refl
-  shown c (opened n ∷ w) [] l g i p = absurd p
-  shown c (opened n ∷ w) (t ∷ st) l g i p = ap (λ (s : ℕ). render x c w (ups P st, (1, t .0, s, P + t .1) ∷ shifts P c l)) (starts-later n (i .0)) ∙ shown c w st ((1, t .0, starts-at y n, t .1) ∷ l) g (i .1) p
-  shown c (leaf k n ∷ w) st l g i p = ap₂ (λ (s z : ℕ). render x c w (ups P st, (2, k, s, z) ∷ shifts P c l)) (starts-later n (i .0)) (ends-later n (i .0)) ∙ shown c w st ((2, k, starts-at y n, ends-at y n) ∷ l) g (i .1) p
-  shown c (closed k n m ∷ w) st l g i p = ap₂ (λ (s z : ℕ). render x c w ((k, z) ∷ ups P st, (3, k, s, z) ∷ shifts P c l)) (starts-later n (i .0 .0)) (span-later n m (i .0 .0) (i .0 .1)) ∙ shown c w ((k, span-end y n m) ∷ st) ((3, k, starts-at y n, span-end y n m) ∷ l) g (i .1) p
-  shown c (bad n h ∷ w) st l g i p = ap (λ (j : ℕ). render x c w (ups P st, (4, j, starts-at x n, ends-at x n) ∷ shifts P c l)) (more (bads w)) ∙ ap₂ (λ (s z : ℕ). render x c w (ups P st, (4, (bads w + 0) + c, s, z) ∷ shifts P c l)) (starts-later n (i .0)) (ends-later n (i .0)) ∙ shown c w st ((4, bads w + 0, starts-at y n, ends-at y n) ∷ l) g (i .1) p
-    where
-      more : (j : ℕ) → j + c ≡ (j + 0) + c
-      more j = omega arith
-
   -- events of the rows left, behind the events q
+  shown : (w q : List Event) (st : List (ℕ × ℕ)) (l : List Quad) → Ins N w → Nest (length st) w 0 → render x (ups P st) (w ++ q) (shifts P (bads q) l) ≡ render x [] q (shifts P (bads q) (render y st w l))
+  shown [] q st l i p = ap (λ (s : List (ℕ × ℕ)). render x (ups P s) q (shifts P (bads q) l)) (nil-of st p)
+  shown (opened n ∷ w) q [] l i p = absurd p
+  shown (opened n ∷ w) q (t ∷ st) l i p = ap (λ (s : ℕ). render x (ups P st) (w ++ q) ((1, t .0, s, P + t .1) ∷ shifts P (bads q) l)) (starts-later n (i .0)) ∙ shown w q st ((1, t .0, starts-at y n, t .1) ∷ l) (i .1) p
+  shown (leaf k n ∷ w) q st l i p = ap₂ (λ (s z : ℕ). render x (ups P st) (w ++ q) ((2, k, s, z) ∷ shifts P (bads q) l)) (starts-later n (i .0)) (ends-later n (i .0)) ∙ shown w q st ((2, k, starts-at y n, ends-at y n) ∷ l) (i .1) p
+  shown (closed k n m ∷ w) q st l i p = ap₂ (λ (s z : ℕ). render x ((k, z) ∷ ups P st) (w ++ q) ((3, k, s, z) ∷ shifts P (bads q) l)) (starts-later n (i .0 .0)) (span-later n m (i .0 .0) (i .0 .1)) ∙ shown w q ((k, span-end y n m) ∷ st) ((3, k, starts-at y n, span-end y n m) ∷ l) (i .1) p
+  shown (bad n h ∷ w) q st l i p =
+      ap (λ (j : ℕ). render x (ups P st) (w ++ q) ((4, j, starts-at x n, ends-at x n) ∷ shifts P (bads q) l)) (bads-append w q)
+      ∙ ap₂ (λ (s z : ℕ). render x (ups P st) (w ++ q) ((4, bads w + bads q, s, z) ∷ shifts P (bads q) l)) (starts-later n (i .0)) (ends-later n (i .0))
+      ∙ shown w q st ((4, bads w, starts-at y n, ends-at y n) ∷ l) (i .1) p
+
   pub inside-later : (w q : List Event) → Ins N w → Nest 0 w 0 → inside x (w ++ q) ≡ inside x q ++ shifts P (bads q) (inside y w)
-  inside-later w q i p =
-      ap (λ (z : Page). z .1) (render-append x 0 w q ([], []))
-      ∙ ap (λ (c : ℕ). (render x 0 q (render x c w ([], []))) .1) (add-zero (bads q))
-      ∙ ap (λ (z : Page). (render x 0 q z) .1) (shown (bads q) w [] [] 0 i p)
-      ∙ ap (λ (st : List (ℕ × ℕ)). (render x 0 q (ups P st, shifts P (bads q) (inside y w))) .1) (nil-of ((render y 0 w ([], [])) .0) (render-high y 0 w [] [] 0 p))
-      ∙ ap (λ (z : Page). z .1) (render-keeps x 0 q [] [] (shifts P (bads q) (inside y w)))
+  inside-later w q i p = shown w q [] [] i p ∙ render-keeps x [] q [] (shifts P (bads q) (inside y w))
 
   records-shown : (L : Limits) (w : List Event) (l : List Rec) → Ins N w → records L x w (shift-records P l) ≡ shift-records P (records L y w l)
   records-shown L [] l i = refl

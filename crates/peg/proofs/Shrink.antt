@@ -10,8 +10,9 @@ use native.Mathlib.Omega.{arith}
 use Rattle.kinds.specs.Sets.{trivial}
 use Rattle.peg.specs.Prog.{Production, Prog, eat, unless, ifnext, opt, many, then, _⨟_, _/_, last, recover, node, memo}
 use Rattle.peg.specs.Grammar.{grammar, kind}
-use Rattle.peg.specs.Run.{State, Reader, Mode, ok, failed, stopped, Stop, spent, deep, Next, end, other, hit, next, skip, gap, trivia, turn, back, halted, charge, begin, finish, if-ok, eat-row, or-else, fails, loop-at, eat-at, refuse-at, then-at, branch-at, alt-at, memo-at, known, remember, memo-row, exec, run}
-use Rattle.peg.specs.Peg.{strip}
+use Rattle.peg.specs.Run.{State, Reader, Mode, ok, failed, stopped, Stop, spent, deep, Next, end, other, hit, next, skip, trivia, turn, back, halted, charge, begin, finish, if-ok, eat-row, or-else, fails, known, remember, memo-row, exec, run}
+use Rattle.peg.specs.Ford.{strip}
+use Rattle.peg.proofs.Gap.{gap}
 use Rattle.peg.proofs.Every.{and-left, and-right, or-cases, productions, each, never}
 use Rattle.peg.proofs.Induct.{exec-kept}
 use Rattle.peg.proofs.Order.{ordered, Running}
@@ -53,10 +54,11 @@ not-failed e = never cc
 pub not-stopped : {A : Type 0} (w : Stop) → stopped w ≡ ok → A
 not-stopped w e = never cc
 
-pub if-ok-ok : (f : Reader) (s : State) → (if-ok f s) .mode ≡ ok → (s .mode ≡ ok) × (if-ok f s ≡ f s)
-if-ok-ok f s = go (s .mode) s
+-- what stands behind `if-ok`: r where the state s is OK
+pub if-ok-ok : (r s : State) → (if-ok (λ _. r) s) .mode ≡ ok → (s .mode ≡ ok) × (if-ok (λ _. r) s ≡ r)
+if-ok-ok r s = go (s .mode) s
   where
-    go : (m : Mode) (s : State) → (if-ok f (turn m s)) .mode ≡ ok → (m ≡ ok) × (if-ok f (turn m s) ≡ f (turn m s))
+    go : (m : Mode) (s : State) → (if-ok (λ _. r) (turn m s)) .mode ≡ ok → (m ≡ ok) × (if-ok (λ _. r) (turn m s) ≡ r)
     go ok s e = (refl, refl)
     go failed s e = not-failed e
     go (stopped w) s e = not-stopped w e
@@ -169,22 +171,22 @@ module _ (d : ℕ) (call : Bool → Production → Reader)
   exec-grown = exec-kept (ordered Grown grown) d call cg
 
   pub strict-exec : (p : Prog) → T (strict p) → (o : Bool) (s : State) → (exec d call p o s) .mode ≡ ok → s .mode ≡ ok
-  strict-exec (eat S N) t o s e = if-ok-ok (eat-at S N) s e .0
-  strict-exec (unless S) t o s e = if-ok-ok (refuse-at S) s e .0
-  strict-exec (ifnext S p) t o s e = if-ok-ok (branch-at S (exec d call p o)) s e .0
-  strict-exec (opt p) t o s e = if-ok-ok (alt-at (exec d call p true) (λ u. u)) s e .0
-  strict-exec (many p) t o s e = if-ok-ok (loop-at (exec d call p true)) s e .0
-  strict-exec (then p) t o s e = if-ok-ok (then-at (exec d call p o)) s e .0
+  strict-exec (eat S N) t o s e = if-ok-ok _ s e .0
+  strict-exec (unless S) t o s e = if-ok-ok _ s e .0
+  strict-exec (ifnext S p) t o s e = if-ok-ok _ s e .0
+  strict-exec (opt p) t o s e = if-ok-ok _ s e .0
+  strict-exec (many p) t o s e = if-ok-ok _ s e .0
+  strict-exec (then p) t o s e = if-ok-ok _ s e .0
   strict-exec (p ⨟ q) t o s e = strict-exec p (and-left (strict p) (strict q) t) o s (strict-exec q (and-right (strict p) (strict q) t) o (exec d call p o s) e)
-  strict-exec (p / q) t o s e = if-ok-ok (alt-at (exec d call p true) (exec d call q o)) s e .0
-  strict-exec (last p) t o s e = if-ok-ok (alt-at (exec d call p true) fails) s e .0
+  strict-exec (p / q) t o s e = if-ok-ok _ s e .0
+  strict-exec (last p) t o s e = if-ok-ok _ s e .0
   strict-exec (recover S) t o s e = absurd t
   strict-exec (node a) t o s e = cs o a s e
-  strict-exec (memo a) t o s e = if-ok-ok (memo-at (kind a) (call o a)) s e .0
+  strict-exec (memo a) t o s e = if-ok-ok _ s e .0
 
   pub shrinks : (p : Prog) → T (taking p) → (o : Bool) (s : State) → (exec d call p o s) .mode ≡ ok → size (exec d call p o s) < size s
   shrinks (eat S N) t o s e =
-      let g = if-ok-ok (eat-at S N) s e in
+      let g = if-ok-ok _ s e in
       let h = eat-row-small S N s (next S (s .rest)) refl (ap (λ (u : State). u .mode) (sym (g .1)) ∙ e) in
       omega (arith, ap size (g .1))
   shrinks (unless S) t o s e = absurd t
@@ -192,7 +194,7 @@ module _ (d : ℕ) (call : Bool → Production → Reader)
   shrinks (opt p) t o s e = absurd t
   shrinks (many p) t o s e = absurd t
   shrinks (then p) t o s e =
-      let g = if-ok-ok (then-at (exec d call p o)) s e in
+      let g = if-ok-ok _ s e in
       let h = shrinks p t o (trivia s) (ap (λ (u : State). u .mode) (sym (g .1)) ∙ e) in
       omega (arith, ap size (g .1), size-trivia s)
   shrinks (p ⨟ q) t o s e =
@@ -205,7 +207,7 @@ module _ (d : ℕ) (call : Bool → Production → Reader)
       go (inl t) a b c f = let z = c t in omega arith
       go (inr t) a b c f = let z = f (and-left (taking p) (strict q) t) (strict-exec q (and-right (taking p) (strict q) t) o (exec d call p o s) e) in omega arith
   shrinks (p / q) t o s e =
-      let g = if-ok-ok (alt-at (exec d call p true) (exec d call q o)) s e in
+      let g = if-ok-ok (or-else (exec d call q o) s (exec d call p true (trivia s))) s e in
       let u : State = exec d call p true (trivia s) in
       go (or-else-ok (exec d call q o) s u (ap (λ (u : State). u .mode) (sym (g .1)) ∙ e)) (ap size (g .1)) (size-trivia s) (shrinks p (and-left (taking p) (taking q) t) true (trivia s)) (shrinks q (and-right (taking p) (taking q) t) o (turn ok (back s u))) (ap (λ (u : State). u .mode) (sym (g .1)) ∙ e)
     where
@@ -214,7 +216,7 @@ module _ (d : ℕ) (call : Bool → Production → Reader)
       go (inl x) a b c f e = let z = c (x .0) in omega (arith, ap size (x .1))
       go (inr x) a b c f e = let z = f (ap (λ (u : State). u .mode) (sym x) ∙ e) in omega (arith, ap size x)
   shrinks (last p) t o s e =
-      let g = if-ok-ok (alt-at (exec d call p true) fails) s e in
+      let g = if-ok-ok _ s e in
       let u : State = exec d call p true (trivia s) in
       go (or-else-ok fails s u (ap (λ (u : State). u .mode) (sym (g .1)) ∙ e)) (ap size (g .1)) (size-trivia s) (shrinks p t true (trivia s)) (ap (λ (u : State). u .mode) (sym (g .1)) ∙ e)
     where
@@ -225,7 +227,7 @@ module _ (d : ℕ) (call : Bool → Production → Reader)
   shrinks (recover S) t o s e = absurd t
   shrinks (node a) t o s e = ct o a s e
   shrinks (memo a) t o s e =
-      let g = if-ok-ok (memo-at (kind a) (call o a)) s e in
+      let g = if-ok-ok _ s e in
       go (known (s .cache) (length (s .rest)) (kind a)) (ap size (g .1)) (ap (λ (u : State). u .mode) (sym (g .1)) ∙ e)
     where
       go : (b : Bool) → size (exec d call (memo a) o s) ≡ size (memo-row (kind a) (call o a) b s) → (memo-row (kind a) (call o a) b s) .mode ≡ ok → size (exec d call (memo a) o s) < size s

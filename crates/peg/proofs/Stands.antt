@@ -10,8 +10,10 @@ use Rattle.kinds.specs.Kinds as kinds
 use Rattle.kinds.specs.Sets.{idOf, kindOf, pick, trivial}
 use Rattle.peg.specs.Prog.{RULE-DECL, node}
 use Rattle.peg.specs.Grammar.{grammar}
-use Rattle.peg.specs.Run.{State, Limits, Event, opened, leaf, closed, bad, Choice, stray, Mode, ok, failed, stopped, Next, end, other, hit, next, sought, skip, past, trivia-out, gap-out, trivia, seek, seek-out, rule-keywords, read-rule, stray-item, item-at, errors, flush, again, item}
-use Rattle.peg.specs.Peg.{strip, Res, Miss, Peg}
+use Rattle.peg.specs.Run.{State, Limits, Event, opened, leaf, closed, bad, Choice, stray, Mode, ok, failed, stopped, Next, end, other, hit, next, sought, skip, past, trivia-out, trivia, seek, seek-out, rule-keywords, read-rule, stray-item, item-at, errors, flush, again, item}
+use Rattle.peg.specs.Ford.{strip, Res}
+use Rattle.peg.proofs.Gap.{gap-out}
+use Rattle.peg.proofs.Peg.{Miss, Peg}
 use Rattle.peg.specs.Remaining.{Keyless, Solid}
 use Rattle.peg.proofs.Every.{never}
 use Rattle.peg.proofs.Order.{Running}

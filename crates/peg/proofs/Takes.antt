@@ -12,8 +12,9 @@ use Rattle.kinds.specs.Kinds as kinds
 use Rattle.kinds.specs.Sets.{idOf, pick, trivial}
 use Rattle.peg.specs.Prog.{Production, RULE-DECL, RULE-MODS, Prog, node, opt, last, _⨟_}
 use Rattle.peg.specs.Grammar.{grammar, kind, rule-decl, one}
-use Rattle.peg.specs.Run.{State, Reader, Limits, Mode, ok, failed, stopped, Next, end, other, hit, sought, next, skip, past, gap, trivia, turn, put, back, or-else, alts, opts, fails, eats, eat-row, begin, finish, charge, seek, exec, run, rule-keywords, read-rule, stray-item, item-at, flush, again, item}
-use Rattle.peg.specs.Peg.{strip}
+use Rattle.peg.specs.Run.{State, Reader, Limits, Mode, ok, failed, stopped, Next, end, other, hit, sought, next, skip, past, trivia, turn, put, back, or-else, alts, opts, fails, eats, eat-row, begin, finish, charge, seek, exec, run, rule-keywords, read-rule, stray-item, item-at, flush, again, item}
+use Rattle.peg.specs.Ford.{strip}
+use Rattle.peg.proofs.Gap.{gap}
 use Rattle.peg.proofs.Every.{never}
 use Rattle.peg.proofs.Induct.{exec-kept}
 use Rattle.peg.proofs.Order.{Running, ordered, finish-up}

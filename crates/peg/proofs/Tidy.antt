@@ -10,8 +10,9 @@ use native.Mathlib.Omega.{arith}
 use Rattle.kinds.specs.Kinds as kinds
 use Rattle.kinds.specs.Sets.{kindOf, trivial}
 use Rattle.peg.specs.Grammar.{rule-decl}
-use Rattle.peg.specs.Run.{State, Reader, Limits, Event, opened, leaf, closed, bad, Choice, wanted, unwanted, stray, Mode, ok, failed, stopped, Next, end, other, hit, next, sought, skip, past, gap, gap-out, trivia-out, trivia, seek, seek-out, skip-to, take, turn, put, charge, begin, finish, nodes, further, furthest, join, pending, add, decide, choose, errors, run, rule-keywords, read-rule, stray-item, item-at, flush, again, item, items, start, read}
-use Rattle.peg.specs.Buffer.{Nest}
+use Rattle.peg.specs.Run.{State, Reader, Limits, Event, opened, leaf, closed, bad, Choice, wanted, unwanted, stray, Mode, ok, failed, stopped, Next, end, other, hit, next, sought, skip, past, trivia-out, trivia, seek, seek-out, skip-to, take, turn, put, charge, begin, finish, nodes, further, furthest, join, pending, add, decide, choose, errors, run, rule-keywords, read-rule, stray-item, item-at, flush, again, item, items, start, read}
+use Rattle.peg.specs.Open.{Nest}
+use Rattle.peg.proofs.Gap.{gap, gap-out}
 use Rattle.peg.proofs.Induct.{exec-kept, run-kept}
 use Rattle.peg.proofs.Order.{Steps, stepped}
 use Rattle.peg.proofs.Grows.{gap-end, seek-end, skip-end, take-end}

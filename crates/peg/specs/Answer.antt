@@ -6,6 +6,7 @@ use lib.Dec.{eqb, ltb}
 use lib.ListN.{length, replicate}
 use Rattle.kinds.specs.Kinds as k
 use Rattle.kinds.specs.Sets.{isId}
+pub use Rattle.peg.specs.Run.{any}
 use Rattle.peg.specs.Run.{Limits, State, read}
 use Rattle.peg.specs.Render.{Source, Reading, rendered, moments, over, flat, flat-records}
 
@@ -20,10 +21,6 @@ pub record Desk : Type 0 where
   pub scratch : List ℕ
   pub events : List ℕ
   pub errors : List ℕ
-
-abbrev pub any : (ℕ → Bool) → List ℕ → Bool
-any p [] = false
-any p (i ∷ is) = p i || any p is
 
 -- 3: "an id not in KINDS.md"
 abbrev pub no-id : ℕ → Bool

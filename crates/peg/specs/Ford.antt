@@ -1,13 +1,13 @@
--- Ford, "Parsing Expression Grammars" (POPL 2004), section 3: parsing expressions and the relation (e, x) ⇒ (n, o), rule by rule.
--- The outcome o is failure, or the input that is left (Ford writes the part that was consumed). The grammar R gives each nonterminal its
--- expression. Terminals are token ids.
+-- Acceptance: "For acceptance PEG over the module's productions decides". Ford, "Parsing Expression Grammars" (POPL 2004), section 3: parsing
+-- expressions and the relation (e, x) ⇒ (n, o), rule by rule. The outcome o is failure, or the input that is left (Ford writes the part that was
+-- consumed). The grammar R gives each nonterminal its expression. Terminals are token ids.
 use Prim.Native.Nat.{ℕ, suc, _+_}
 use mathlib.Core.Path.{_≡_}
 use mathlib.Core.List.{List, [], _∷_}
-use Rattle.kinds.specs.Sets.{idOf}
-use Rattle.peg.specs.Prog.{Production, Prog, eat, unless, ifnext, opt, many, then, _⨟_, _/_, last, recover, node, memo}
+use mathlib.Core.Bool.{true, false}
+use Rattle.kinds.specs.Sets.{idOf, trivial}
+use Rattle.peg.specs.Prog.{Production, RULE-DECL, Prog, eat, unless, ifnext, opt, many, then, _⨟_, _/_, last, recover, node, memo}
 use Rattle.peg.specs.Grammar.{grammar}
-use Rattle.peg.specs.Peg.{Res}
 
 infixr 20 _·_
 infixr 15 _∣_
@@ -17,6 +17,11 @@ pub data Exp : Type 0 where
   nt : Production → Exp
   _·_ _∣_ : Exp → Exp → Exp
   star non : Exp → Exp
+
+-- failure, or the rows that are left
+pub data Res : Type 0 where
+  no : Res
+  yes : List ℕ → Res
 
 pub data Ford (R : Production → Exp) : Exp → List ℕ → ℕ → Res → Type 0 where
   empty : {x : List ℕ} → Ford R ε x 1 (Res.yes x)
@@ -34,8 +39,8 @@ pub data Ford (R : Production → Exp) : Exp → List ℕ → ℕ → Res → Ty
   non-no : {e : Exp} {x y : List ℕ} {n : ℕ} → Ford R e x n (Res.yes y) → Ford R (non e) x (suc n) Res.no
   non-yes : {e : Exp} {x : List ℕ} {n : ℕ} → Ford R e x n Res.no → Ford R (non e) x (suc n) (Res.yes x)
 
--- the module's combinators in Ford's, as document 01's first paragraph says: a set is a choice of tokens; `if_next` is `&S e / !S`; `begin`, `end` and
--- `recover` are left out
+-- the module's combinators in Ford's: a set is a choice of tokens; "`begin`, `end` and `recover` are left out, `cached` is its part, and `if_next` is
+-- its part where its token is next and nothing elsewhere", which is `&S e / !S` (proofs/Published)
 abbrev pub one-of : List ℕ → Exp
 one-of [] = non ε
 one-of (a ∷ S) = tok (idOf a) ∣ one-of S
@@ -56,3 +61,16 @@ ford (memo a) = nt a
 
 abbrev pub rules : Production → Exp
 rules a = ford (grammar a)
+
+-- the rows that are no trivia
+abbrev pub strip : List ℕ → List ℕ
+strip [] = []
+strip (i ∷ is) = elim (trivial i) [ true ↦ strip is | false ↦ i ∷ strip is ]
+
+-- "The PEG accepts every item when the rows, trivia aside, are a run of none or more `rule_decl` from first to last."
+pub data Rules : List ℕ → Type 0 where
+  no-more : Rules []
+  one-rule : {r r′ : List ℕ} {n : ℕ} → Ford rules (nt RULE-DECL) r n (Res.yes r′) → Rules r′ → Rules r
+
+abbrev pub Accepts : List ℕ → Type 0
+Accepts ids = Rules (strip ids)

@@ -5,15 +5,12 @@ use Rattle.kinds.specs.Kinds as k
 use Rattle.kinds.specs.Sets.{idOf}
 use Rattle.peg.specs.Prog.{Production, RULE-DECL, RULE-MODS, RULE-TAGS, META-BLK, META-DEF, PATTERNS-BLK, PATTERN-DEF, PATTERN-MODS, PATTERN-MOD, HEX-PATTERN, HEX-SUB-PATTERN, HEX-ALTERNATIVE, HEX-JUMP, CONDITION-BLK, BOOLEAN-EXPR, BOOLEAN-TERM, EXPR, FUNC-CALL, RANGE, TERM, PRIMARY-EXPR, FOR-EXPR, OF-EXPR, WITH-EXPR, WITH-DECLS, WITH-DECL, QUANTIFIER, ITERABLE, BOOLEAN-EXPR-TUPLE, EXPR-TUPLE, PATTERN-IDENT-TUPLE, Prog, eat, unless, ifnext, opt, many, then, _⨟_, _/_, last, recover, node, memo}
 
--- the forms that the module writes: `expect` of a set, of one kind, of two; `expect_d`; one_or_more; `cond`; `alt`
+-- the forms that the module writes: `expect` of a set, and of one kind; `expect_d`; one_or_more; `cond`. Its `alt` is written p / q / last r
 abbrev pub set : List ℕ → Prog
 set S = eat S (map idOf S)
 
 abbrev pub one : ℕ → Prog
 one a = eat (a ∷ []) (idOf a ∷ [])
-
-abbrev pub two : ℕ → ℕ → Prog
-two a b = eat (a ∷ b ∷ []) (idOf a ∷ idOf b ∷ [])
 
 abbrev pub named : ℕ → List ℕ → Prog
 named d S = eat S (d ∷ [])
@@ -24,23 +21,18 @@ some p = then p ⨟ many p
 abbrev pub cond : ℕ → Prog → Prog
 cond a p = ifnext (a ∷ []) (one a ⨟ then p)
 
-abbrev pub alt₂ : Prog → Prog → Prog
-alt₂ p q = p / last q
-
-abbrev pub alt₃ : Prog → Prog → Prog → Prog
-alt₃ p q r = p / q / last r
-
 abbrev pub at-or-in : Prog
-at-or-in = alt₂ (one k.AT-KW ⨟ then (memo EXPR)) (one k.IN-KW ⨟ then (node RANGE))
+at-or-in = (one k.AT-KW ⨟ then (memo EXPR)) / last (one k.IN-KW ⨟ then (node RANGE))
 
 abbrev pub them : Prog
-them = alt₂ (one k.THEM-KW) (node PATTERN-IDENT-TUPLE)
+them = one k.THEM-KW / last (node PATTERN-IDENT-TUPLE)
 
 abbrev pub hex-unit : Prog
-hex-unit = alt₂ (one k.HEX-BYTE) (node HEX-ALTERNATIVE)
+hex-unit = one k.HEX-BYTE / last (node HEX-ALTERNATIVE)
 
-abbrev pub tuple : Prog → Prog
-tuple p = one k.L-PAREN ⨟ then p ⨟ many (one k.COMMA ⨟ then p) ⨟ one k.R-PAREN
+-- one or more p between parentheses, a row of kind a between each two
+abbrev pub tuple : ℕ → Prog → Prog
+tuple a p = one k.L-PAREN ⨟ then p ⨟ many (one a ⨟ then p) ⨟ one k.R-PAREN
 
 -- an item that begins with a rule keyword
 abbrev pub rule-decl : Prog
@@ -54,28 +46,27 @@ grammar RULE-DECL =
     ⨟ ifnext (k.META-KW ∷ []) (node META-BLK ⨟ recover (k.STRINGS-KW ∷ k.CONDITION-KW ∷ []))
     ⨟ ifnext (k.STRINGS-KW ∷ []) (node PATTERNS-BLK ⨟ recover (k.CONDITION-KW ∷ []))
     ⨟ then (node CONDITION-BLK ⨟ recover (k.R-BRACE ∷ [])) ⨟ one k.R-BRACE
-grammar RULE-MODS = alt₂ (one k.PRIVATE-KW ⨟ opt (one k.GLOBAL-KW)) (one k.GLOBAL-KW ⨟ opt (one k.PRIVATE-KW))
+grammar RULE-MODS = (one k.PRIVATE-KW ⨟ opt (one k.GLOBAL-KW)) / last (one k.GLOBAL-KW ⨟ opt (one k.PRIVATE-KW))
 grammar RULE-TAGS = one k.COLON ⨟ some (one k.IDENT)
 grammar META-BLK = one k.META-KW ⨟ one k.COLON ⨟ some (node META-DEF)
 grammar META-DEF =
     one k.IDENT ⨟ one k.EQUAL
-    ⨟ alt₂ (opt (one k.MINUS) ⨟ two k.INTEGER-LIT k.FLOAT-LIT) (set (k.STRING-LIT ∷ k.TRUE-KW ∷ k.FALSE-KW ∷ []))
+    ⨟ ((opt (one k.MINUS) ⨟ set (k.INTEGER-LIT ∷ k.FLOAT-LIT ∷ [])) / last (set (k.STRING-LIT ∷ k.TRUE-KW ∷ k.FALSE-KW ∷ [])))
 grammar PATTERNS-BLK = one k.STRINGS-KW ⨟ one k.COLON ⨟ some (node PATTERN-DEF)
 grammar PATTERN-DEF =
-    one k.PATTERN-IDENT ⨟ one k.EQUAL ⨟ alt₃ (one k.STRING-LIT) (one k.REGEXP) (node HEX-PATTERN) ⨟ opt (node PATTERN-MODS)
+    one k.PATTERN-IDENT ⨟ one k.EQUAL ⨟ (one k.STRING-LIT / one k.REGEXP / last (node HEX-PATTERN)) ⨟ opt (node PATTERN-MODS)
 grammar PATTERN-MODS = some (node PATTERN-MOD)
 grammar PATTERN-MOD =
-    alt₃ (named k.MODIFIER (k.ASCII-KW ∷ k.WIDE-KW ∷ k.NOCASE-KW ∷ k.PRIVATE-KW ∷ k.FULLWORD-KW ∷ []))
-    (named k.MODIFIER (k.BASE64-KW ∷ k.BASE64WIDE-KW ∷ []) ⨟ cond k.L-PAREN (one k.STRING-LIT ⨟ one k.R-PAREN))
-    (named k.MODIFIER (k.XOR-KW ∷ [])
+    named k.MODIFIER (k.ASCII-KW ∷ k.WIDE-KW ∷ k.NOCASE-KW ∷ k.PRIVATE-KW ∷ k.FULLWORD-KW ∷ [])
+    / (named k.MODIFIER (k.BASE64-KW ∷ k.BASE64WIDE-KW ∷ []) ⨟ cond k.L-PAREN (one k.STRING-LIT ⨟ one k.R-PAREN))
+    / last (named k.MODIFIER (k.XOR-KW ∷ [])
     ⨟ cond k.L-PAREN (one k.INTEGER-LIT ⨟ cond k.HYPHEN (one k.INTEGER-LIT) ⨟ one k.R-PAREN))
 grammar HEX-PATTERN = one k.L-BRACE ⨟ then (node HEX-SUB-PATTERN) ⨟ one k.R-BRACE
 grammar HEX-SUB-PATTERN = hex-unit ⨟ many (many (node HEX-JUMP) ⨟ hex-unit)
-grammar HEX-ALTERNATIVE =
-    one k.L-PAREN ⨟ then (node HEX-SUB-PATTERN) ⨟ many (one k.PIPE ⨟ then (node HEX-SUB-PATTERN)) ⨟ one k.R-PAREN
+grammar HEX-ALTERNATIVE = tuple k.PIPE (node HEX-SUB-PATTERN)
 grammar HEX-JUMP =
     one k.L-BRACKET
-    ⨟ alt₂ (opt (one k.INTEGER-LIT) ⨟ one k.HYPHEN ⨟ opt (one k.INTEGER-LIT)) (one k.INTEGER-LIT) ⨟ one k.R-BRACKET
+    ⨟ ((opt (one k.INTEGER-LIT) ⨟ one k.HYPHEN ⨟ opt (one k.INTEGER-LIT)) / last (one k.INTEGER-LIT)) ⨟ one k.R-BRACKET
 grammar CONDITION-BLK = one k.CONDITION-KW ⨟ one k.COLON ⨟ then (node BOOLEAN-EXPR ⨟ recover (k.R-BRACE ∷ []))
 grammar BOOLEAN-EXPR =
     then (node BOOLEAN-TERM) ⨟ many (named k.OPERATOR (k.AND-KW ∷ k.OR-KW ∷ []) ⨟ then (node BOOLEAN-TERM))
@@ -103,24 +94,24 @@ grammar TERM =
     / (named k.EXPRESSION (k.L-PAREN ∷ []) ⨟ then (memo EXPR) ⨟ one k.R-PAREN)
     / last (node PRIMARY-EXPR ⨟ many (named k.EXPRESSION (k.DOT ∷ []) ⨟ then (node PRIMARY-EXPR)))
 grammar PRIMARY-EXPR =
-    alt₃ (node FUNC-CALL) (one k.IDENT ⨟ one k.L-BRACKET ⨟ then (memo EXPR) ⨟ one k.R-BRACKET) (one k.IDENT)
+    node FUNC-CALL / (one k.IDENT ⨟ one k.L-BRACKET ⨟ then (memo EXPR) ⨟ one k.R-BRACKET) / last (one k.IDENT)
 grammar FOR-EXPR =
     named k.EXPRESSION (k.FOR-KW ∷ []) ⨟ then (node QUANTIFIER)
-    ⨟ alt₂ (one k.OF-KW ⨟ them) (one k.IDENT ⨟ many (one k.COMMA ⨟ one k.IDENT) ⨟ one k.IN-KW ⨟ node ITERABLE)
+    ⨟ ((one k.OF-KW ⨟ them) / last (one k.IDENT ⨟ many (one k.COMMA ⨟ one k.IDENT) ⨟ one k.IN-KW ⨟ node ITERABLE))
     ⨟ one k.COLON ⨟ one k.L-PAREN ⨟ then (node BOOLEAN-EXPR ⨟ recover (k.R-PAREN ∷ [])) ⨟ one k.R-PAREN
 grammar OF-EXPR =
     then (node QUANTIFIER) ⨟ one k.OF-KW
-    ⨟ alt₂ (them ⨟ ifnext (k.AT-KW ∷ k.IN-KW ∷ []) at-or-in) (node BOOLEAN-EXPR-TUPLE ⨟ unless (k.AT-KW ∷ k.IN-KW ∷ []))
+    ⨟ ((them ⨟ ifnext (k.AT-KW ∷ k.IN-KW ∷ []) at-or-in) / last (node BOOLEAN-EXPR-TUPLE ⨟ unless (k.AT-KW ∷ k.IN-KW ∷ [])))
 grammar WITH-EXPR =
     named k.EXPRESSION (k.WITH-KW ∷ []) ⨟ then (node WITH-DECLS ⨟ recover (k.COLON ∷ k.L-PAREN ∷ [])) ⨟ one k.COLON
     ⨟ one k.L-PAREN ⨟ then (node BOOLEAN-EXPR ⨟ recover (k.R-PAREN ∷ [])) ⨟ one k.R-PAREN
 grammar WITH-DECLS = then (node WITH-DECL) ⨟ many (one k.COMMA ⨟ node WITH-DECL)
 grammar WITH-DECL = one k.IDENT ⨟ one k.EQUAL ⨟ then (memo EXPR)
 grammar QUANTIFIER =
-    alt₃ (named k.EXPRESSION (k.ALL-KW ∷ k.NONE-KW ∷ k.ANY-KW ∷ [])) (memo TERM ⨟ one k.PERCENT) (memo EXPR ⨟ unless (k.PERCENT ∷ []))
-grammar ITERABLE = alt₃ (node RANGE) (node EXPR-TUPLE) (memo EXPR)
-grammar BOOLEAN-EXPR-TUPLE = tuple (node BOOLEAN-EXPR)
-grammar EXPR-TUPLE = tuple (memo EXPR)
+    named k.EXPRESSION (k.ALL-KW ∷ k.NONE-KW ∷ k.ANY-KW ∷ []) / (memo TERM ⨟ one k.PERCENT) / last (memo EXPR ⨟ unless (k.PERCENT ∷ []))
+grammar ITERABLE = node RANGE / node EXPR-TUPLE / last (memo EXPR)
+grammar BOOLEAN-EXPR-TUPLE = tuple k.COMMA (node BOOLEAN-EXPR)
+grammar EXPR-TUPLE = tuple k.COMMA (memo EXPR)
 grammar PATTERN-IDENT-TUPLE =
     one k.L-PAREN ⨟ one k.PATTERN-IDENT ⨟ opt (one k.ASTERISK)
     ⨟ many (one k.COMMA ⨟ one k.PATTERN-IDENT ⨟ opt (one k.ASTERISK)) ⨟ one k.R-PAREN

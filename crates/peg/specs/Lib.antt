@@ -1,10 +1,10 @@
 pub mod Prog
 pub mod Grammar
 pub mod Run
-pub mod Peg
 pub mod Ford
 pub mod Render
 pub mod Buffer
+pub mod Open
 pub mod Answer
 pub mod Remaining
 pub mod Merge

@@ -1,6 +1,6 @@
 -- A reading in document 01's numbers ("Rows, events, error records"): events of four numbers, error records, the forms, and the rooms taken.
 use Prim.Native.Nat.{ℕ, zero, suc, _-_, _+_, _*_}
-use mathlib.Core.List.{List, [], _∷_, _++_}
+use mathlib.Core.List.{List, [], _∷_, _++_, map, foldl}
 use mathlib.Core.Bool.{true, false}
 use lib.Dec.{eqb, ltb}
 use lib.ListN.{length, getD, take, drop}
@@ -87,46 +87,36 @@ abbrev pub flat-records : List Rec → List ℕ
 flat-records [] = []
 flat-records (e ∷ es) = e .0 ∷ e .1 ∷ e .2 ∷ length (e .3) ∷ e .3 ++ flat-records es
 
--- how many errors
+-- the errors that stand written, the last first, and how many they are
+abbrev pub faults : List Event → List (ℕ × Choice)
+faults [] = []
+faults (opened n ∷ es) = faults es
+faults (leaf a n ∷ es) = faults es
+faults (closed a n m ∷ es) = faults es
+faults (bad n c ∷ es) = (n, c) ∷ faults es
+
 abbrev pub bads : List Event → ℕ
-bads [] = 0
-bads (opened n ∷ es) = bads es
-bads (leaf a n ∷ es) = bads es
-bads (closed a n m ∷ es) = bads es
-bads (bad n c ∷ es) = suc (bads es)
+bads es = length (faults es)
 
 -- written from the last event to the first: the stack holds kind and end of the nodes whose closing was met, so that a begin has them "at both
--- events"; b is how many records are before
-abbrev pub Page : Type 0
-Page = List (ℕ × ℕ) × List Quad
-
-abbrev pub shut : Source → ℕ → List (ℕ × ℕ) → List Quad → Page
-shut x n [] l = ([], l)
-shut x n (t ∷ st) l = (st, (1, t .0, starts-at x n, t .1) ∷ l)
-
-abbrev pub write : Source → ℕ → Event → Page → Page
-write x b (opened n) z = shut x n (z .0) (z .1)
-write x b (leaf a n) z = (z .0, (2, a, starts-at x n, ends-at x n) ∷ z .1)
-write x b (closed a n m) z = ((a, span-end x n m) ∷ z .0, (3, a, starts-at x n, span-end x n m) ∷ z .1)
-write x b (bad n c) z = (z .0, (4, b, starts-at x n, ends-at x n) ∷ z .1)
-
-abbrev pub render : Source → ℕ → List Event → Page → Page
-render x b [] z = z
-render x b (e ∷ es) z = render x b es (write x (bads es + b) e z)
+-- events"; l is what stands behind. An error's index is how many records are before
+abbrev pub render : Source → List (ℕ × ℕ) → List Event → List Quad → List Quad
+render x st [] l = l
+render x [] (opened n ∷ es) l = render x [] es l
+render x (t ∷ st) (opened n ∷ es) l = render x st es ((1, t .0, starts-at x n, t .1) ∷ l)
+render x st (leaf a n ∷ es) l = render x st es ((2, a, starts-at x n, ends-at x n) ∷ l)
+render x st (closed a n m ∷ es) l = render x ((a, span-end x n m) ∷ st) es ((3, a, starts-at x n, span-end x n m) ∷ l)
+render x st (bad n c ∷ es) l = render x st es ((4, bads es, starts-at x n, ends-at x n) ∷ l)
 
 abbrev pub record-of : Limits → Source → ℕ → Choice → Rec
 record-of L x n c = let f = form-of L (id-at x n) (text-at x n) c in (starts-at x n, ends-at x n, f, names-of f c)
 
 abbrev pub records : Limits → Source → List Event → List Rec → List Rec
-records L x [] l = l
-records L x (opened n ∷ es) l = records L x es l
-records L x (leaf a n ∷ es) l = records L x es l
-records L x (closed a n m ∷ es) l = records L x es l
-records L x (bad n c ∷ es) l = records L x es (record-of L x n c ∷ l)
+records L x es l = foldl (λ l e. record-of L x (e .0) (e .1) ∷ l) l (faults es)
 
 -- what is written inside SOURCE_FILE
 abbrev pub inside : Source → List Event → List Quad
-inside x o = (render x 0 o ([], [])) .1
+inside x o = render x [] o []
 
 -- "outcome, rows covered, counts of events and error records, fuel left", with the lists themselves
 pub record Reading : Type 0 where
@@ -159,28 +149,20 @@ rendered L x s =
 abbrev pub size-of : Limits → Source → ℕ → Choice → ℕ
 size-of L x n c = 4 + length (names-of (form-of L (id-at x n) (text-at x n) c) c)
 
--- the records of the errors that stand written, and of those that are chosen
-abbrev pub said : Limits → Source → List Event → ℕ
-said L x [] = 0
-said L x (opened n ∷ es) = said L x es
-said L x (leaf a n ∷ es) = said L x es
-said L x (closed a n m ∷ es) = said L x es
-said L x (bad n c ∷ es) = size-of L x n c + said L x es
-
+-- the records of errors, and of those that stand written
 abbrev pub held : Limits → Source → List (ℕ × Choice) → ℕ
 held L x [] = 0
 held L x (e ∷ es) = size-of L x (e .0) (e .1) + held L x es
 
+abbrev pub said : Limits → Source → List Event → ℕ
+said L x es = held L x (faults es)
+
 abbrev pub used : Limits → Source → Draft → ℕ × ℕ
 used L x d = (4 * suc (length (d .0)), said L x (d .0) + held L x (d .1))
 
-abbrev pub moments-of : Limits → Source → List Draft → List (ℕ × ℕ)
-moments-of L x [] = []
-moments-of L x (d ∷ ds) = used L x d ∷ moments-of L x ds
-
 -- the last moment is the SOURCE_FILE end event's
 abbrev pub moments : Limits → Source → State → List (ℕ × ℕ)
-moments L x s = (4 * suc (suc (length (s .out))), said L x (s .out)) ∷ moments-of L x (s .drafts)
+moments L x s = (4 * suc (suc (length (s .out))), said L x (s .out)) ∷ map (used L x) (s .drafts)
 
 -- 7 where the events exceed their room, else 8 where the records do, else 0
 abbrev pub exceeds : ℕ → ℕ → ℕ × ℕ → ℕ

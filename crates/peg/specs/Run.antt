@@ -1,7 +1,7 @@
 -- The reader (document 01, "How steps behave"): what a combinator of the module does to the reader's state. Rows are named by how many rows are
 -- left from them on, so a row's name does not change when rows before it are taken away; 0 names the source's end.
 use Prim.Native.Nat.{ℕ, zero, suc}
-use mathlib.Core.List.{List, [], _∷_, _++_, map}
+use mathlib.Core.List.{List, [], _∷_, _++_, map, foldl}
 use mathlib.Core.Bool.{Bool, true, false, _&&_}
 use mathlib.Core.Option.{Option, none, some}
 use lib.Dec.{eqb, ltb}
@@ -62,9 +62,13 @@ pub record State : Type 0 where
 
 -- SETS AND ROWS
 
+-- one of them is so
+abbrev pub any : {A : Type 0} → (A → Bool) → List A → Bool
+any p [] = false
+any p (x ∷ xs) = elim (p x) [ true ↦ true | false ↦ any p xs ]
+
 abbrev pub has : List ℕ → ℕ → Bool
-has [] x = false
-has (y ∷ ys) x = elim (eqb x y) [ true ↦ true | false ↦ has ys x ]
+has ns x = any (eqb x) ns
 
 -- past trivia
 abbrev pub skip : List ℕ → List ℕ
@@ -125,12 +129,16 @@ halted w (stopped v) = stopped v
 abbrev pub halt : Stop → State → State
 halt w s = turn (halted w (s .mode)) s
 
+-- x in state OK, y in any other
+abbrev pub when-ok : {A : Type 0} → A → A → Mode → A
+when-ok x y m = elim m [ ok ↦ x | failed ↦ y | stopped w ↦ y ]
+
 -- a step of the reader. "In Failure or stopped, `expect_d`, `opt`, `not`, `if_next`, `n_or_more`, `then`, `cached`, `alt`, `trivia` do nothing."
 abbrev pub Reader : Type 0
 Reader = State → State
 
 abbrev pub if-ok : Reader → Reader
-if-ok f s = elim (s .mode) [ ok ↦ f s | failed ↦ s | stopped w ↦ s ]
+if-ok f s = when-ok (f s) s (s .mode)
 
 -- TRIVIA, each written as a token
 
@@ -138,18 +146,8 @@ abbrev pub trivia-out : List ℕ → List Event → List Event
 trivia-out [] o = o
 trivia-out (i ∷ is) o = elim (trivial i) [ true ↦ trivia-out is (leaf i (suc (length is)) ∷ o) | false ↦ o ]
 
-abbrev pub gap : Mode → List ℕ → List ℕ
-gap ok r = skip r
-gap failed r = r
-gap (stopped w) r = r
-
-abbrev pub gap-out : Mode → List ℕ → List Event → List Event
-gap-out ok r o = trivia-out r o
-gap-out failed r o = o
-gap-out (stopped w) r o = o
-
 abbrev pub trivia : State → State
-trivia s = mark (put (gap (s .mode) (s .rest)) (gap-out (s .mode) (s .rest) (s .out)) s)
+trivia s = let r = s .rest in mark (put (when-ok (skip r) r (s .mode)) (when-ok (trivia-out r (s .out)) (s .out) (s .mode)) s)
 
 -- ERROR CHOICE
 
@@ -181,8 +179,7 @@ unexpected s = note (s .want) (furthest (length (skip (s .rest))) (s .unwant)) (
 
 -- "A span that already has a pending error gets no second one."
 abbrev pub pending : ℕ → List (ℕ × Choice) → Bool
-pending r [] = false
-pending r (e ∷ es) = elim (eqb r (e .0)) [ true ↦ true | false ↦ pending r es ]
+pending r es = any (λ e. eqb r (e .0)) es
 
 abbrev pub add : ℕ → Choice → List (ℕ × Choice) → List (ℕ × Choice)
 add r e es = elim (pending r es) [ true ↦ es | false ↦ es ++ ((r, e) ∷ []) ]
@@ -223,11 +220,12 @@ unless-optional false s = choose s
 -- "A node closed with an error has kind ERROR at both events."
 abbrev pub finish : Bool → ℕ → ℕ → State → State
 finish o a n s =
-    elim (s .mode) [
-      | ok ↦ emit (closed a n (length (s .rest))) s
-      | failed ↦ emit (closed k.ERROR n (length (s .rest))) (unless-optional o s)
-      | stopped w ↦ emit (closed k.ERROR n (length (s .rest))) (unless-optional o s)
-    ]
+    let m = length (s .rest) in
+    when-ok (emit (closed a n m) s) (emit (closed k.ERROR n m) (unless-optional o s)) (s .mode)
+
+-- `begin`, a body, `end`: "`begin` is not so guarded"
+abbrev pub nodes : ℕ → Bool → ℕ → Reader → Reader
+nodes d o a f s = let t = begin d s in finish o a (length (t .rest)) (f t)
 
 -- RECOVERY
 
@@ -252,7 +250,7 @@ skip-to S s = mark (put (seek S (s .rest)) (seek-out S (s .rest) (s .out)) s)
 
 -- "Its ERROR node costs one fuel. If that begin stops the reader, the skipping still goes on"
 abbrev pub swallow : ℕ → Bool → List ℕ → State → State
-swallow d o S s = let t = begin d s in finish o k.ERROR (length (t .rest)) (skip-to S t)
+swallow d o S s = nodes d o k.ERROR (skip-to S) s
 
 -- "in the second case, with no error pending, the set's names are entered first"
 abbrev pub first-names : List (ℕ × Choice) → List ℕ → State → State
@@ -260,12 +258,10 @@ first-names [] S s = expected (map idOf S) s
 first-names (e ∷ es) S s = s
 
 -- "`recover` chooses anywhere, if the state was Failure or the next row past trivia is not in its set"; "with no rows left but trivia it sets OK and
--- returns"; m is what the state was
+-- returns"; m is what the state was, OK or Failure
 abbrev pub recovered : ℕ → Bool → List ℕ → Next → Mode → State → State
 recovered d o S end m s = s
-recovered d o S (hit a is) ok s = s
-recovered d o S (hit a is) failed s = choose s
-recovered d o S (hit a is) (stopped w) s = s
+recovered d o S (hit a is) m s = when-ok s (choose s) m
 recovered d o S other m s = swallow d o S (choose (first-names (s .chosen) S s))
 
 -- "stopped, it does nothing"
@@ -285,11 +281,8 @@ eat-row N end s = turn failed (expected N s)
 eat-row N other s = turn failed (expected N s)
 eat-row N (hit a is) s = take a is (trivia s)
 
-abbrev pub eat-at : List ℕ → List ℕ → Reader
-eat-at S N s = eat-row N (next S (s .rest)) s
-
 abbrev pub eats : List ℕ → List ℕ → Reader
-eats S N = if-ok (eat-at S N)
+eats S N = if-ok (λ s. eat-row N (next S (s .rest)) s)
 
 -- `not`: "a miss enters nothing"; it goes back always, and what was written until then took its room
 abbrev pub refuse-row : Next → Reader
@@ -297,22 +290,16 @@ refuse-row end s = back s (trivia s)
 refuse-row other s = back s (trivia s)
 refuse-row (hit a is) s = turn failed (unexpected (back s (take a is (trivia s))))
 
-abbrev pub refuse-at : List ℕ → Reader
-refuse-at S s = refuse-row (next S (s .rest)) s
-
 abbrev pub refuses : List ℕ → Reader
-refuses S = if-ok (refuse-at S)
+refuses S = if-ok (λ s. refuse-row (next S (s .rest)) s)
 
 -- behind the last alternative
 abbrev pub fails : Reader
 fails = if-ok (turn failed)
 
 -- `then`
-abbrev pub then-at : Reader → Reader
-then-at f s = f (trivia s)
-
 abbrev pub thens : Reader → Reader
-thens f = if-ok (then-at f)
+thens f = if-ok (λ s. f (trivia s))
 
 -- "`if_next` without its token enters names but does not fail; at the end of rows it does nothing."
 abbrev pub branch : List ℕ → Reader → Next → Reader
@@ -320,21 +307,15 @@ branch N f end s = s
 branch N f other s = expected N s
 branch N f (hit a is) s = f (trivia s)
 
-abbrev pub branch-at : List ℕ → Reader → Reader
-branch-at S f s = branch (map idOf S) f (next S (s .rest)) s
-
 abbrev pub branches : List ℕ → Reader → Reader
-branches S f = if-ok (branch-at S f)
+branches S f = if-ok (λ s. branch (map idOf S) f (next S (s .rest)) s)
 
 -- "A failed `alt` goes back to the bookmark; a stopped one does not.": f, where what came to t from the bookmark s failed
 abbrev pub or-else : Reader → State → State → State
 or-else f s t = elim (t .mode) [ ok ↦ t | failed ↦ f (turn ok (back s t)) | stopped w ↦ t ]
 
-abbrev pub alt-at : Reader → Reader → Reader
-alt-at f g s = or-else g s (f (trivia s))
-
 abbrev pub alts : Reader → Reader → Reader
-alts f g = if-ok (alt-at f g)
+alts f g = if-ok (λ s. or-else g s (f (trivia s)))
 
 -- "`opt` goes back on Failure only"
 abbrev pub opts : Reader → Reader
@@ -349,17 +330,13 @@ abbrev pub loop : Reader → ℕ → Reader
 loop f zero s = s
 loop f (suc n) s = go-on (λ t. loop f n t) s (f (trivia s))
 
-abbrev pub loop-at : Reader → Reader
-loop-at f s = loop f (suc (length (s .rest))) s
-
 abbrev pub loops : Reader → Reader
-loops f = if-ok (loop-at f)
+loops f = if-ok (λ s. loop f (suc (length (s .rest))) s)
 
 -- "`cached` (EXPR, TERM) remembers only failures, by row index at entry. It is exact: nothing is dropped before the item ends. Hits spend no fuel
 -- and enter no names."
 abbrev pub known : List (ℕ × ℕ) → ℕ → ℕ → Bool
-known [] r a = false
-known (e ∷ es) r a = elim (eqb r (e .0) && eqb a (e .1)) [ true ↦ true | false ↦ known es r a ]
+known es r a = any (λ e. eqb r (e .0) && eqb a (e .1)) es
 
 abbrev pub remember : ℕ → ℕ → Reader
 remember r a s = elim (s .mode) [ ok ↦ s | failed ↦ keep ((r, a) ∷ s .cache) s | stopped w ↦ s ]
@@ -368,15 +345,8 @@ abbrev pub memo-row : ℕ → Reader → Bool → Reader
 memo-row a f true s = turn failed s
 memo-row a f false s = remember (length (s .rest)) a (f s)
 
-abbrev pub memo-at : ℕ → Reader → Reader
-memo-at a f s = memo-row a f (known (s .cache) (length (s .rest)) a) s
-
 abbrev pub memos : ℕ → Reader → Reader
-memos a f = if-ok (memo-at a f)
-
--- `begin`, a body, `end`: "`begin` is not so guarded"
-abbrev pub nodes : ℕ → Bool → ℕ → Reader → Reader
-nodes d o a f s = let t = begin d s in finish o a (length (t .rest)) (f t)
+memos a f = if-ok (λ s. memo-row a f (known (s .cache) (length (s .rest)) a) s)
 
 -- a program, given what its productions do; "optional parts (`opt`, `alt`, a repetition's tail)"
 abbrev pub exec : ℕ → (Bool → Production → Reader) → Prog → Bool → Reader
@@ -427,8 +397,7 @@ item-at L other s = stray-item s
 
 -- "Pending errors .. are written as events after their item."
 abbrev pub errors : List (ℕ × Choice) → List Event → List Event
-errors [] o = o
-errors (e ∷ es) o = errors es (bad (e .0) (e .1) ∷ o)
+errors es o = foldl (λ o e. bad (e .0) (e .1) ∷ o) o es
 
 -- "between items it holds position, fuel and outputs only"; and whether it stopped
 abbrev pub flush : State → State
@@ -443,11 +412,7 @@ item L s = let t = trivia s in again (flush (item-at L (sought rule-keywords (t 
 -- n items, or as many as there are; a stopped reader begins none
 abbrev pub items : Limits → ℕ → State → State
 items L zero s = s
-items L (suc n) s =
-    elim (s .rest) [
-      | [] ↦ s
-      | i ∷ is ↦ elim (s .mode) [ ok ↦ items L n (item L s) | failed ↦ s | stopped w ↦ s ]
-    ]
+items L (suc n) s = elim (s .rest) [ [] ↦ s | i ∷ is ↦ if-ok (λ t. items L n (item L t)) s ]
 
 -- the first draft is that of the SOURCE_FILE begin event
 abbrev pub start : List ℕ → ℕ → State

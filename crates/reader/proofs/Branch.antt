@@ -61,7 +61,7 @@ module _ (S : List ℕ) (f : P.Reader) {x : Source} {s : State} {b : Bufs} (F : 
   branch-in e y =
       let m = good S (x .ids) s e in
       retold (P.branches S f) (λ p a n. refl) (λ p. sticky-past p x f (F p)) (λ p. sticky p x .at-ifnext S f (F p)) (λ p a t. sticky p x .at-ifnext S f (F p) a)
-      (λ p a t i j. sym (if-ok-yes (P.branch-at S f) a (t .means i .mode ∙ ap modeOf m) ∙ ap (λ (l : List ℕ). P.branch (idsOf S) f (P.next S l) a) (t .means i .rest) ∙ found (P.next S (drop (s .pos) (x .ids))) (ahead-is S (x .ids) s (P.next S (drop (s .pos) (x .ids))) m refl ∙ e) a))
+      (λ p a t i j. sym (if-ok-yes _ a (t .means i .mode ∙ ap modeOf m) ∙ ap (λ (l : List ℕ). P.branch (idsOf S) f (P.next S l) a) (t .means i .rest) ∙ found (P.next S (drop (s .pos) (x .ids))) (ahead-is S (x .ids) s (P.next S (drop (s .pos) (x .ids))) m refl ∙ e) a))
       (idle w (λ p a t. like-same refl)) y
     where
       found : (z : Next) → hits z ≡ true → (a : P.State) → P.branch (idsOf S) f z a ≡ f (P.trivia a)
@@ -102,7 +102,7 @@ module _ (S : List ℕ) {x : Source} {s : State} (w : Ok (length (x .ids)) s) wh
       record {
         did = λ b v.
             retold (P.branches S (λ a. a)) (λ p a n. refl) (λ p. sticky-expected p x (idsOf S)) (λ p. sticky p x .at-ifnext S (λ a. a) (λ a n. refl)) (λ p a t. sticky p x .at-ifnext S (λ a. a) (λ a n. refl) a)
-            (λ p a t i j. sym (if-ok-yes (P.branch-at S (λ a. a)) a (t .means i .mode ∙ ap modeOf e) ∙ ap (λ (l : List ℕ). P.branch (idsOf S) (λ a. a) (P.next S l) a) (t .means i .rest) ∙ ap (λ (z : Next). P.branch (idsOf S) (λ a. a) z a) q))
+            (λ p a t i j. sym (if-ok-yes _ a (t .means i .mode ∙ ap modeOf e) ∙ ap (λ (l : List ℕ). P.branch (idsOf S) (λ a. a) (P.next S l) a) (t .means i .rest) ∙ ap (λ (z : Next). P.branch (idsOf S) (λ a. a) z a) q))
             (idle v (λ p a t. like-same refl)) (y .did b v);
         ok = y .ok;
         evcap = y .evcap;
@@ -115,7 +115,7 @@ module _ (S : List ℕ) {x : Source} {s : State} (w : Ok (length (x .ids)) s) wh
   pub pass-end : s .mode ≡ 0 → P.next S (drop (s .pos) (x .ids)) ≡ end → Plain (P.branches S (λ a. a)) x s s
   pass-end e q =
       record {
-        did = λ b v. idle v (λ p a t. like-at t (λ n. refl) (sticky p x .at-ifnext S (λ a. a) (λ a n. refl) a) (λ i. like-same (sym (if-ok-yes (P.branch-at S (λ a. a)) a (t .means i .mode ∙ ap modeOf e) ∙ ap (λ (l : List ℕ). P.branch (idsOf S) (λ a. a) (P.next S l) a) (t .means i .rest) ∙ ap (λ (z : Next). P.branch (idsOf S) (λ a. a) z a) q))));
+        did = λ b v. idle v (λ p a t. like-at t (λ n. refl) (sticky p x .at-ifnext S (λ a. a) (λ a n. refl) a) (λ i. like-same (sym (if-ok-yes _ a (t .means i .mode ∙ ap modeOf e) ∙ ap (λ (l : List ℕ). P.branch (idsOf S) (λ a. a) (P.next S l) a) (t .means i .rest) ∙ ap (λ (z : Next). P.branch (idsOf S) (λ a. a) z a) q))));
         ok = w;
         evcap = refl;
         ercap = refl;

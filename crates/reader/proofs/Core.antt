@@ -1,7 +1,7 @@
 -- The relation's first laws: nothing done, one step after another, an event written, a place moved. Assumes nothing.
 use Prim.Native.Nat.{ℕ, zero, suc, _+_, _-_, _*_, _≤_, _<_}
 use mathlib.Core.Path.{_≡_, refl, sym, ap, ap₂, subst, _∙_}
-use mathlib.Core.List.{List, [], _∷_, _++_}
+use mathlib.Core.List.{List, [], _∷_, _++_, map}
 use mathlib.Core.Bool.{Bool, true, false}
 use native.Mathlib.Nat.{le-refl, le-trans}
 use native.Mathlib.Omega.{arith}
@@ -13,7 +13,7 @@ use lib.Seq.{take-take}
 use Rattle.peg.specs.Run as P
 use Rattle.peg.specs.Run.{Event, opened, leaf, closed, bad}
 use Rattle.peg.specs.Buffer.{four, buffer}
-use Rattle.peg.specs.Render.{Source, Rec, records, said, held, used, exceeds, moments-of, over}
+use Rattle.peg.specs.Render.{Source, Rec, records, said, held, used, exceeds, over}
 use Rattle.reader.specs.declared.state.State.{State}
 use Rattle.reader.specs.Bits.{ifb}
 use Rattle.reader.specs.Change.{withPos, withEv, withFull, standing}
@@ -90,7 +90,7 @@ does-like {f} g {x} {s} {r} {b} {b′} h y = record { does = λ p a t. alike (h 
 
 pub over-drafts : (p : Past) (x : Source) (a c : P.State) → a .drafts ≡ c .drafts → overOf p x a ≡ overOf p x c
 unfolding overOf
-over-drafts p x a c e = ap (λ (l : List P.Draft). over (p .event-room) (p .error-room) (moments-of limits x l)) e
+over-drafts p x a c e = ap (λ (l : List P.Draft). over (p .event-room) (p .error-room) (map (used limits x) l)) e
 
 -- an event that brings no record
 abbrev pub Quiet : Event → Type 0

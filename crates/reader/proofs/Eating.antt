@@ -66,7 +66,7 @@ miss-row N (hit k is) h a = let c : _≡_ {A = ℕ} 0 1 = cc in absurd (omega ar
 
 module _ (S N : List ℕ) {x : Source} {s : State} (good : s .mode ≡ 0) where
   eats-is : (z : Next) → P.next S (drop (s .pos) (x .ids)) ≡ z → {p : Past} {b : Bufs} (a : P.State) → Means p x s b a → P.eats S N a ≡ P.eat-row N z a
-  eats-is z q a m = if-ok-yes (P.eat-at S N) a (m .mode ∙ ap modeOf good) ∙ ap (λ (l : List ℕ). P.eat-row N (P.next S l) a) (m .rest) ∙ ap (λ (n : Next). P.eat-row N n a) q
+  eats-is z q a m = if-ok-yes _ a (m .mode ∙ ap modeOf good) ∙ ap (λ (l : List ℕ). P.eat-row N (P.next S l) a) (m .rest) ∙ ap (λ (n : Next). P.eat-row N n a) q
 
   -- no such row
   pub eat-misses : {r : State} {ev : List ℕ} (z : Next) → P.next S (drop (s .pos) (x .ids)) ≡ z → ((a : P.State) → P.eat-row N z a ≡ P.turn failed (P.expected N a)) → s .evcap ≤ length ev → Plain (λ a. P.turn failed (P.expected N a)) x s r → Events (P.eats S N) x s r ev ev
@@ -149,7 +149,7 @@ module _ (S : List ℕ) {x : Source} {s : State} (good : s .mode ≡ 0) where
   refused : (f : P.Reader) {r : State} {b b′ : Bufs} → ((p : Past) → Sticks p x f) → Wf x b s → ((p : Past) (a : P.State) → Means p x s b a → P.refuse-row (P.next S (drop (s .pos) (x .ids))) a ≡ f a) → Did f x s r b b′ → Did (P.refuses S) x s r b b′
   refused f F v e =
       retold (P.refuses S) (λ p a n. refl) F (λ p. sticky p x .at-unless S) (λ p a t. sticky p x .at-unless S a)
-      (λ p a t z z′. let k = t .means z in sym (if-ok-yes (P.refuse-at S) a (k .mode ∙ ap modeOf good) ∙ ap (λ (l : List ℕ). P.refuse-row (P.next S l) a) (k .rest) ∙ e p a k)) (idle v (λ p a t. like-same refl))
+      (λ p a t z z′. let k = t .means z in sym (if-ok-yes _ a (k .mode ∙ ap modeOf good) ∙ ap (λ (l : List ℕ). P.refuse-row (P.next S l) a) (k .rest) ∙ e p a k)) (idle v (λ p a t. like-same refl))
 
   module _ {m : Mark} {q r : State} {ev ev′ : List ℕ} (w : Ok (length (x .ids)) s) (i : m ≡ markOf s) (j : q ≡ gone m r) where
     pub unless-there : (N : List ℕ) (at : ℕ) {u : State} → ahead S (x .ids) s ≡ true → Events (P.eats S N) x s r ev ev′ → Peeked (x .ids) (s .pos) at → (Ok (length (x .ids)) q → Peeked (x .ids) (q .pos) at → Plain P.unexpected x q u) → Events (P.refuses S) x s (withMode 1 u) ev ev′

@@ -10,7 +10,7 @@ use Rattle.kinds.specs.Kinds as k
 use Rattle.kinds.specs.Sets.{idsOf}
 use Rattle.peg.specs.Run as P
 use Rattle.peg.specs.Run.{Mode, ok, failed, stopped, Stop, spent, deep, Next, end, other, hit, Choice}
-use Rattle.peg.specs.Buffer.{Adds, Open}
+use Rattle.peg.specs.Open.{Adds, Open}
 use Rattle.peg.specs.Render.{Source, Rec, said, held, records, flat-records}
 use Rattle.peg.proofs.Buffer.{adding}
 use Rattle.reader.specs.declared.state.State.{State}

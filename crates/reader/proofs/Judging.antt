@@ -18,8 +18,8 @@ pub record Sought (p : ℕ → Bool) (l : List ℕ) (i : ℕ) : Type 0 where
   pub left : any p l ≡ any p (drop i l)
 
 module _ {p : ℕ → Bool} {l : List ℕ} {i : ℕ} (g : Sought p l i) where
-  sought : i < length l → {b : Bool} → p (getD l i 0) ≡ b → any p l ≡ (b || any p (drop (suc i) l))
-  sought h t = g .left ∙ ap (any p) (drop-cons l i 0 h) ∙ ap (λ (b : Bool). b || any p (drop (suc i) l)) t
+  sought : i < length l → {b : Bool} → p (getD l i 0) ≡ b → any p l ≡ elim b [ true ↦ true | false ↦ any p (drop (suc i) l) ]
+  sought h t = g .left ∙ ap (any p) (drop-cons l i 0 h) ∙ ap (λ (b : Bool). elim b [ true ↦ true | false ↦ any p (drop (suc i) l) ]) t
 
   pub sought-here : i < length l → p (getD l i 0) ≡ true → true ≡ any p l
   sought-here h t = sym (sought h t)

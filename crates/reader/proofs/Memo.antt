@@ -16,22 +16,10 @@ use Rattle.reader.specs.Means.{Bufs, bufs, Past, Means, Stands, modeOf, 
 use Rattle.reader.specs.Did.{Placed, Wf, Did}
 use Rattle.reader.proofs.Core.{bare, Like, like-same, like-trans, like-at, Sticky, alike, idle}
 use Rattle.reader.proofs.Sticky.{sticky}
+use Rattle.reader.proofs.Next.{if-ok-yes, if-ok-no}
 use Rattle.reader.proofs.Bits.{Memo, kindOf, bitOf, bit-row, cached-at, cached-more}
 
 -- the definition's choices, by the code's mode
-module _ (g : P.Reader) (a : P.State) where
-  abbrev if-mode : Mode → P.State
-  if-mode m = elim m [ ok ↦ g a | failed ↦ a | stopped w ↦ a ]
-
-  pub if-ok-yes : a .mode ≡ ok → P.if-ok g a ≡ g a
-  if-ok-yes e = ap if-mode e
-
-  pub if-ok-no : (n : ℕ) → (n ≡ 0 → ⊥) → a .mode ≡ modeOf n → P.if-ok g a ≡ a
-  if-ok-no zero h e = absurd (h refl)
-  if-ok-no (suc zero) h e = ap if-mode e
-  if-ok-no (suc (suc zero)) h e = ap if-mode e
-  if-ok-no (suc (suc (suc n))) h e = ap if-mode e
-
 module _ (r k : ℕ) (a : P.State) where
   abbrev remembering : Mode → P.State
   remembering m = elim m [ ok ↦ a | failed ↦ P.keep ((r, k) ∷ a .cache) a | stopped w ↦ a ]
@@ -102,7 +90,7 @@ module _ (t : Memo) (f : P.Reader) (sticks : (p : Past) (x : Source) (a : P.Stat
 
   module _ {x : Source} {s : State} {b : Bufs} (w : Wf x b s) where
     pub memo-idle : (s .mode ≡ 0 → ⊥) → Did (P.memos (kindOf t) f) x s s b b
-    memo-idle h = idle w (λ p a u. like-at u (λ n. refl) (sticky-memos p x a) (λ z. like-same (sym (if-ok-no (P.memo-at (kindOf t) f) a (s .mode) h (u .means z .mode)))))
+    memo-idle h = idle w (λ p a u. like-at u (λ n. refl) (sticky-memos p x a) (λ z. like-same (sym (if-ok-no _ (s .mode) a h (u .means z .mode)))))
 
     -- in good order, the row's bit is v
     module _ (good : s .mode ≡ 0) {v : Bool} (seen : v ≡ bitAt (b .scratch) (bitOf t (s .pos))) where
@@ -112,7 +100,7 @@ module _ (t : Memo) (f : P.Reader) (sticks : (p : Past) (x : Source) (a : P.Stat
       at-row : {p : Past} {a : P.State} → Means p x s b a → P.memo-row (kindOf t) f v a ≡ P.memos (kindOf t) f a
       at-row {p} {a} m =
           sym
-          (if-ok-yes (P.memo-at (kindOf t) f) a (m .mode ∙ ap modeOf good)
+          (if-ok-yes _ a (m .mode ∙ ap modeOf good)
           ∙ ap (λ (c : Bool). P.memo-row (kindOf t) f c a) (ap (λ (i : ℕ). P.known (a .cache) i (kindOf t)) (left m) ∙ sym (cached-at (m .cache) t (s .pos) (w .0 .0 .here)) ∙ sym seen))
 
       by-row : {g : P.Reader} {q : State} {b′ : Bufs} (c : Bool) → v ≡ c → Did g x s q b b′ → ((p : Past) (a : P.State) → Sticky p x a (g a)) → ((p : Past) (a : P.State) → Stands p x s b a → Means p x s b a → Like p x (g a) (P.memo-row (kindOf t) f c a)) → Did (P.memos (kindOf t) f) x s q b b′

@@ -16,13 +16,14 @@ use Rattle.peg.specs.Run.{Mode, ok, failed, stopped, Next, end, other, hit}
 use Rattle.reader.specs.Means.{modeOf}
 use Rattle.reader.specs.Did.{Peeked}
 
-pub if-ok-yes : (f : P.Reader) (a : P.State) → a .mode ≡ ok → P.if-ok f a ≡ f a
-if-ok-yes f a e = ap (λ (m : Mode). elim m [ ok ↦ f a | failed ↦ a | stopped w ↦ a ]) e
+-- what stands behind `if-ok`, by the code's mode: r where it is 0
+pub if-ok-yes : (r a : P.State) → a .mode ≡ ok → P.if-ok (λ _. r) a ≡ r
+if-ok-yes r a e = ap (λ (m : Mode). elim m [ ok ↦ r | failed ↦ a | stopped w ↦ a ]) e
 
-pub if-ok-no : (f : P.Reader) (n : ℕ) (a : P.State) → (n ≡ 0 → ⊥) → a .mode ≡ modeOf n → P.if-ok f a ≡ a
-if-ok-no f n a h e = ap (λ (m : Mode). elim m [ ok ↦ f a | failed ↦ a | stopped w ↦ a ]) e ∙ go n h
+pub if-ok-no : (r : P.State) (n : ℕ) (a : P.State) → (n ≡ 0 → ⊥) → a .mode ≡ modeOf n → P.if-ok (λ _. r) a ≡ a
+if-ok-no r n a h e = ap (λ (m : Mode). elim m [ ok ↦ r | failed ↦ a | stopped w ↦ a ]) e ∙ go n h
   where
-    go : (n : ℕ) → (n ≡ 0 → ⊥) → elim (modeOf n) [ ok ↦ f a | failed ↦ a | stopped w ↦ a ] ≡ a
+    go : (n : ℕ) → (n ≡ 0 → ⊥) → elim (modeOf n) [ ok ↦ r | failed ↦ a | stopped w ↦ a ] ≡ a
     go zero h = absurd (h refl)
     go (suc zero) h = refl
     go (suc (suc zero)) h = refl

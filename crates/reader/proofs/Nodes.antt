@@ -14,7 +14,8 @@ use lib.Seq.{take-take, take-set-lt, take-set-le}
 use Rattle.peg.specs.Run as P
 use Rattle.peg.specs.Run.{Event, opened, leaf, closed, bad, Mode, ok, failed, stopped, Stop, spent, deep}
 use Rattle.peg.specs.Render.{Source, starts-at, ends-at, span-end}
-use Rattle.peg.specs.Buffer.{four, patch, buffer, Open}
+use Rattle.peg.specs.Buffer.{four, patch, buffer}
+use Rattle.peg.specs.Open.{Open}
 use Rattle.peg.proofs.Buffer.{buffer-opened, buffer-shut}
 use Rattle.reader.specs.declared.state.State.{State}
 use Rattle.reader.specs.Change.{withMode, withFuel}

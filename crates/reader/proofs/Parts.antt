@@ -12,7 +12,7 @@ use lib.ListN.{length, take, drop, length-drop}
 use lib.Seq.{take-take}
 use Rattle.peg.specs.Run as P
 use Rattle.peg.specs.Run.{Mode, ok, failed, stopped, Stop, spent, deep}
-use Rattle.peg.specs.Buffer.{Adds, Open}
+use Rattle.peg.specs.Open.{Adds, Open}
 use Rattle.peg.specs.Render.{Source}
 use Rattle.peg.proofs.Buffer.{begun-open}
 use Rattle.reader.specs.declared.state.State.{State}
@@ -40,7 +40,7 @@ retold {g} {h} f {x} {s} {q} {r} {b} {b₁} {b₂} G H F K e y z =
 
 -- nothing is done where the state is not in good order
 pub not-ok : (f : P.Reader) {x : Source} {s : State} {b : Bufs} → ((p : Past) → Sticks p x (P.if-ok f)) → Wf x b s → (s .mode ≡ 0 → ⊥) → Did (P.if-ok f) x s s b b
-not-ok f {x} {s} F w n = idle w (λ p a t. like-at t (λ i. refl) (F p a) (λ z. like-same (sym (if-ok-no f (s .mode) a n (t .means z .mode)))))
+not-ok f {x} {s} F w n = idle w (λ p a t. like-at t (λ i. refl) (F p a) (λ z. like-same (sym (if-ok-no (f a) (s .mode) a n (t .means z .mode)))))
 
 -- a mode is set
 pub turned : (n : ℕ) (m : Mode) {f : P.Reader} {x : Source} {s r : State} {b b′ : Bufs} → m ≡ modeOf n → Did f x s r b b′ → Did (λ a. P.turn m (f a)) x s (withMode n r) b b′
@@ -108,7 +108,7 @@ or-else-back g a t e = λ i. elim (e i) [ ok ↦ t | failed ↦ g (P.turn ok (P.
 
 module _ (f g : P.Reader) {x : Source} {s r : State} {b b′ : Bufs} (F : (p : Past) → Sticks p x f) (G : (p : Past) → Sticks p x g) (good : s .mode ≡ 0) (y : Did (λ a. f (P.trivia a)) x s r b b′) where
   alts-is : (p : Past) (a : P.State) → Means p x s b a → P.alts f g a ≡ P.or-else g a (f (P.trivia a))
-  alts-is p a m = if-ok-yes (P.alt-at f g) a (m .mode ∙ ap modeOf good)
+  alts-is p a m = if-ok-yes _ a (m .mode ∙ ap modeOf good)
 
   sticky-here : (p : Past) (a : P.State) → Means p x s b a → Sticky p x (f (P.trivia a)) (P.alts f g a)
   sticky-here p a m = subst (λ (c : P.State). Sticky p x (f (P.trivia a)) c) (sym (alts-is p a m)) (sticky-or-else p x g (G p) a (f (P.trivia a)))
@@ -249,7 +249,7 @@ repeats f {x} {s} {r} {b} k F w q good y =
     (λ p a t i j.
     let m = t .means i in
     let l : k ≡ suc (length (a .rest)) = q ∙ add-one _ ∙ ap suc (sym (ap length (m .rest) ∙ length-drop (s .pos) (x .ids))) in
-    sym (if-ok-yes (P.loop-at f) a (m .mode ∙ ap modeOf good) ∙ ap (λ (n : ℕ). P.loop f n a) (sym l)))
+    sym (if-ok-yes _ a (m .mode ∙ ap modeOf good) ∙ ap (λ (n : ℕ). P.loop f n a) (sym l)))
     (idle w (λ p a t. like-same refl)) y
 
 -- a node: begun, its body, ended
@@ -286,4 +286,4 @@ halts {f} g {x} {s} {r} F G e n y = then y (idle (y .wf) (λ p a t. like-at t (�
 -- `then`, in good order
 pub then-ok : (f : P.Reader) {x : Source} {s r : State} {b b′ : Bufs} → ((p : Past) → Sticks p x f) → s .mode ≡ 0 → Wf x b s → Did (λ a. f (P.trivia a)) x s r b b′ → Did (P.thens f) x s r b b′
 then-ok f {x} {s} F good w y =
-    retold (P.thens f) (λ p a n. refl) (λ p. sticky-past p x f (F p)) (λ p. sticky p x .at-then f (F p)) (λ p a m. sticky p x .at-then f (F p) a) (λ p a t i j. sym (if-ok-yes (P.then-at f) a (t .means i .mode ∙ ap modeOf good))) (idle w (λ p a t. like-same refl)) y
+    retold (P.thens f) (λ p a n. refl) (λ p. sticky-past p x f (F p)) (λ p. sticky p x .at-then f (F p)) (λ p a m. sticky p x .at-then f (F p) a) (λ p a t i j. sym (if-ok-yes _ a (t .means i .mode ∙ ap modeOf good))) (idle w (λ p a t. like-same refl)) y

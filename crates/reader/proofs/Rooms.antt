@@ -12,7 +12,7 @@ use lib.Seq.{length-take-le}
 use Rattle.peg.specs.Run as P
 use Rattle.peg.specs.Run.{Event, opened, leaf, closed, bad, Choice, Limits}
 use Rattle.peg.specs.Buffer.{buffer}
-use Rattle.peg.specs.Render.{Source, Rec, record-of, records, flat-records, said, held, used, moments-of, exceeds}
+use Rattle.peg.specs.Render.{Source, Rec, record-of, records, flat-records, said, held, used, exceeds}
 use Rattle.peg.proofs.Buffer.{buffer-length}
 use Rattle.reader.specs.declared.state.State.{State}
 use Rattle.reader.specs.Means.{limits, Bufs, Past, recorded, Means, Stands, overOf}

@@ -12,6 +12,7 @@ use Rattle.peg.specs.Render.{Source}
 use Rattle.peg.proofs.Induct.{Kept, exec-kept, run-kept}
 use Rattle.peg.proofs.Order.{Order, ordered, begin-up, finish-up}
 use Rattle.kinds.specs.Kinds as k
+use Rattle.peg.proofs.Gap.{gap, gap-out}
 use Rattle.reader.specs.Means.{Past, overOf}
 use Rattle.reader.proofs.Core.{Sticky, sticky-mark}
 
@@ -24,7 +25,7 @@ module _ (p : Past) (x : Source) where
 
   pub sticky-trivia : Sticks P.trivia
   unfolding overOf
-  sticky-trivia a = sticky-mark p x (P.put (P.gap (a .mode) (a .rest)) (P.gap-out (a .mode) (a .rest) (a .out)) a)
+  sticky-trivia a = sticky-mark p x (P.put (gap (a .mode) (a .rest)) (gap-out (a .mode) (a .rest) (a .out)) a)
 
   pub sticky-take : (i : ℕ) (is : List ℕ) → Sticks (P.take i is)
   unfolding overOf

@@ -7,7 +7,7 @@ use native.Mathlib.Nat.{le-refl, le-trans, le-of-eq}
 use native.Mathlib.Omega.{arith}
 use native.Mathlib.Numerals.{add-one, sub-one}
 use lib.Dec.{eqb}
-use lib.ListN.{length, getD, take, drop, set, replicate, length-set, length-append, length-drop, drop-of-length-le}
+use lib.ListN.{length, getD, take, drop, set, length-set, length-append, length-drop, drop-of-length-le}
 use lib.Seq.{take-take, drop-cons, length-take-le}
 use Rattle.kinds.specs.Sets.{trivial}
 use Rattle.peg.specs.Run as P
@@ -15,6 +15,7 @@ use Rattle.peg.specs.Run.{Event, opened, leaf, closed, bad, Mode, ok, failed, s
 use Rattle.peg.specs.Render.{Source, starts-at, ends-at, span-end, said, held, used}
 use Rattle.peg.specs.Buffer.{four, buffer}
 use Rattle.peg.proofs.Buffer.{buffer-leaf, buffer-opened}
+use Rattle.peg.proofs.Gap.{gap, gap-out}
 use Rattle.reader.specs.declared.state.State.{State}
 use Rattle.reader.specs.Change.{withPos, withMode, withFuel, withEv, withFull, standing}
 use Rattle.reader.specs.Means.{limits, Bufs, bufs, Past, source, Means, Stands, Lines, modeOf, overOf}
@@ -81,7 +82,7 @@ out-more (i ∷ is) o = go (trivial i) (out-more is (leaf i (suc (length is)) �
 
 -- what is written when trivia are skipped in good order
 trivia-ok : (a : P.State) (r : List ℕ) → a .mode ≡ ok → a .rest ≡ r → P.trivia a ≡ P.mark (P.put (P.skip r) (P.trivia-out r (a .out)) a)
-trivia-ok a r e f = λ i. P.mark (P.put (P.gap (e i) (f i)) (P.gap-out (e i) (f i) (a .out)) a)
+trivia-ok a r e f = λ i. P.mark (P.put (gap (e i) (f i)) (gap-out (e i) (f i) (a .out)) a)
 
 -- the same with the first row taken up before
 pub trivia-step : {p : Past} {x : Source} {s : State} {b : Bufs} {a : P.State} (i : ℕ) (is : List ℕ) → Wf x b s → Stands p x s b a → (s .full ≡ 0 → (a .mode ≡ ok) × (a .rest ≡ i ∷ is)) → trivial i ≡ true → Like p x (P.trivia (P.take i is a)) (P.trivia a)
@@ -114,9 +115,9 @@ trivia-end a m r = trivia-ok a [] m r ∙ (λ k. P.mark (P.put (sym r k) (a .out
 
 pub trivia-not : (n : ℕ) (a : P.State) → (n ≡ 0 → ⊥) → a .mode ≡ modeOf n → P.trivia a ≡ P.mark a
 trivia-not zero a h m = absurd (h refl)
-trivia-not (suc zero) a h m = λ i. P.mark (P.put (P.gap (m i) (a .rest)) (P.gap-out (m i) (a .rest) (a .out)) a)
-trivia-not (suc (suc zero)) a h m = λ i. P.mark (P.put (P.gap (m i) (a .rest)) (P.gap-out (m i) (a .rest) (a .out)) a)
-trivia-not (suc (suc (suc n))) a h m = λ i. P.mark (P.put (P.gap (m i) (a .rest)) (P.gap-out (m i) (a .rest) (a .out)) a)
+trivia-not (suc zero) a h m = λ i. P.mark (P.put (gap (m i) (a .rest)) (gap-out (m i) (a .rest) (a .out)) a)
+trivia-not (suc (suc zero)) a h m = λ i. P.mark (P.put (gap (m i) (a .rest)) (gap-out (m i) (a .rest) (a .out)) a)
+trivia-not (suc (suc (suc n))) a h m = λ i. P.mark (P.put (gap (m i) (a .rest)) (gap-out (m i) (a .rest) (a .out)) a)
 
 -- a loop that takes up rows, from s₀ to s; g is the whole of it in the definition, and from any place on the rest of it
 pub record Taking (g : P.Reader) (x : Source) (s₀ s : State) (ev₀ ev : List ℕ) : Type 0 where
@@ -227,11 +228,3 @@ skipping pos ev cap full ev₀ l h k = record { of = λ bytes s m w. taking P.tr
 pub skips : {ids ends : List ℕ} {pos ev cap full at to over : ℕ} {ev₀ ev₁ : List ℕ} → Skipping ids ends pos ev cap full at to over ev₀ ev₁ → (st : ℕ) {e f : ℕ} {ev₂ : List ℕ} → at < length ids → trivial (getD ids at 0) ≡ true → st ≡ getD (0 ∷ ends) at 0
     → Penned (four 2 (getD ids at 0) st (getD ends at 0)) to cap over e f ev₁ ev₂ → Skipping ids ends pos ev cap full (at + 1) e f ev₀ ev₂
 skips k st h y q u = record { of = λ bytes s m w. trivia-on (k .of bytes s m w) m st h y q (put-of _ u); lines = k .lines; fits = u .fits; room = omega (arith, k .room, u .long); long = u .long ∙ k .long }
-
--- a state that may stand anywhere, for steps that take numbers: what they promise of every such state holds of this one
-abbrev pub at-rest : State
-at-rest = record { pos = 0; fuel = 0; mode = 0; ev = 0; evcap = 0; er = 0; ercap = 0; item = 0; first = 0; far = 0; want = 0; unwant = 0; full = 0; count = 0; names = replicate 96 0 }
-
-pub rest-ok : (n pos ev cap full : ℕ) → pos ≤ n → ev ≤ cap → Ok n (standing pos ev cap full at-rest)
-rest-ok n pos ev cap full h e =
-    (record { here = h; since = omega arith; far-in = omega arith; want-in = omega arith; want-since = λ z. absurd (z refl); unwant-in = omega arith; unwant-since = λ z. absurd (z refl) }, record { few = omega arith; long = refl; below = tt; distinct = tt }, record { events = e; since = le-refl 0; errors = le-refl 0 })

@@ -7,7 +7,7 @@ use lib.Dec.{eqb, ltb}
 use lib.ListN.{length, take, drop}
 use Rattle.kinds.specs.Sets.{setOf, idsOf}
 use Rattle.peg.specs.Run as P
-use Rattle.peg.specs.Buffer.{Open}
+use Rattle.peg.specs.Open.{Open}
 use Rattle.peg.specs.Render.{Source}
 use Rattle.reader.specs.declared.state.State.{State}
 use Rattle.reader.specs.declared.state.Place.{Place}

@@ -1,14 +1,14 @@
 -- What the state and the lent lists stand for in the definition.
 use Prim.Native.Nat.{ℕ, zero, suc, _+_, _-_, _*_, _≤_, _<_}
 use mathlib.Core.Path.{_≡_}
-use mathlib.Core.List.{List, [], _∷_, _++_}
+use mathlib.Core.List.{List, [], _∷_, _++_, map}
 use mathlib.Core.Bool.{Bool, true, false}
 use mathlib.Core.Option.{Option, none, some}
 use lib.ListN.{length, getD, take, drop}
 use Rattle.peg.specs.Run as P
 use Rattle.peg.specs.Run.{Event, Choice, Mode, ok, failed, stopped, Stop, spent, deep, Limits}
 use Rattle.peg.specs.Buffer.{buffer}
-use Rattle.peg.specs.Render.{Source, Rec, record-of, records, flat-records, moments-of, over}
+use Rattle.peg.specs.Render.{Source, Rec, record-of, records, flat-records, over, used}
 use Rattle.reader.specs.declared.state.State.{State}
 use Rattle.reader.specs.Bits.{Cached}
 
@@ -95,7 +95,7 @@ pub record Means (p : Past) (x : Source) (s : State) (b : Bufs) (a : P.State) : 
 
 -- which room was exceeded first so far, 7 or 8, or 0
 unfoldable pub overOf : Past → Source → P.State → ℕ
-overOf p x a = over (p .event-room) (p .error-room) (moments-of limits x (a .drafts))
+overOf p x a = over (p .event-room) (p .error-room) (map (used limits x) (a .drafts))
 
 -- the state stands for a: until a room is exceeded it means a, and from then on it only knows which room
 pub record Stands (p : Past) (x : Source) (s : State) (b : Bufs) (a : P.State) : Type 0 where

@@ -1,6 +1,5 @@
 USES = """use native.Mathlib.Omega.{arith}
 use Rattle.kinds.specs.Sets.{setOf}
-use Rattle.peg.specs.Run as P
 use Rattle.reader.specs.Means.{source}
 use Rattle.reader.specs.Did.{namesOf}
 use Rattle.reader.proofs.Sticky.{sticky}
@@ -11,7 +10,7 @@ N = "(namesOf ({args} .set) ({args} .label))"
 X = "(source bytes ({args} .ids .now) ({args} .ends .now))"
 NONE = "({eat-at} .ensures .none _ ({at} .given .1))"
 ANS = {
-    "returns": f"λ bytes. not-okE (P.eat-at {S} {N}) (λ p. sticky p {X} .at-eat {S} {N}) ({{pre}} .1) ({{pre}} .2) ({{if1}} .taken)",
+    "returns": f"λ bytes. not-okE _ (λ p. sticky p {X} .at-eat {S} {N}) ({{pre}} .1) ({{pre}} .2) ({{if1}} .taken)",
     "eat-at-requires": "({pre} .0, {pre} .1 .0 .here, {pre} .1 .2 .events, {pre} .2)",
     "returns-2": f"λ bytes. {{eat-at}} .ensures .row _ ({{past}} .given .1) {N} bytes ({{args}} .self) ({{if1}} .left) ({{pre}} .1)",
     "miss-requires": f"({{pre}} .1 .1, {{pre}} .3, omega (arith, {NONE} .1 .within, {{pre}} .0 .few))",

@@ -6,15 +6,14 @@ use lib.ListN.{length}
 use Rattle.kinds.specs.Sets.{setOf}
 use Rattle.reader.specs.Did.{hits}
 use Rattle.reader.proofs.Next.{next-hit, next-other, next-end}
-use Rattle.reader.proofs.Core.{put-of}
-use Rattle.reader.proofs.Taken.{at-rest, rest-ok}
+use Rattle.reader.proofs.Core.{put-of, blank, ok-blank}
 use Rattle.reader.proofs.Eating.{ate-row, ate-none, eat-takes}
 """
 S = "(setOf ({args} .set))"
 PEEKED = "({peek} .ensures)"
 WITHIN = "omega (arith, {pre} .0 .level, {if1} .left)"
 TOLD = "∙ {matched} .ensures"
-PAST = "({skip-trivia} .ensures [] at-rest refl (rest-ok (length ({args} .ids .now)) ({args} .pos) ({args} .ev) ({args} .cap) ({args} .full) ({pre} .1) ({pre} .2)))"
+PAST = "({skip-trivia} .ensures [] blank refl (ok-blank (length ({args} .ids .now)) ({args} .pos) ({args} .ev) ({args} .cap) ({args} .full) ({pre} .1) ({pre} .2)))"
 ANS = {
     "peek-requires": "{pre} .1",
     "returns": f"ate-none _ refl {PEEKED} (ap hits (next-end {S} {PEEKED} ({{if1}} .taken)))",

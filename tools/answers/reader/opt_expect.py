@@ -11,7 +11,7 @@ F=f'(P.eats {S} (idsOf {S}))'
 X='(source bytes ({args} .ids .now) ({args} .ends .now))'
 ST=f'(λ p. sticky p {X} .at-eat {S} (idsOf {S}))'
 T='(thenE ({trivia} .ensures bytes) ({expect} .ensures bytes))'
-ANS={'returns':f'λ bytes. not-okE (P.alt-at {F} (λ t. t)) (λ p. sticky p {X} .at-opt {F} (sticky p {X} .at-eat {S} (idsOf {S}))) ({{pre}} .1) ({{pre}} .2) ({{if1}} .taken)',
+ANS={'returns':f'λ bytes. not-okE _ (λ p. sticky p {X} .at-opt {F} (sticky p {X} .at-eat {S} (idsOf {S}))) ({{pre}} .1) ({{pre}} .2) ({{if1}} .taken)',
 'trivia-requires':'{pre}',
 'expect-requires':'({pre} .0, {trivia} .ensures [] .ok, {trivia} .ensures [] .fits)',
 'returns-2':f'λ bytes. optE-back {F} {ST} ({{if1}} .left) ({{pre}} .1) {T} ({{mark}} .ensures) ({{rewind}} .ensures) ({{if2}} .taken)',

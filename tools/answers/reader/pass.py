@@ -10,7 +10,7 @@ use mathlib.Core.Path.{refl}
 '''
 S='(setOf ({args} .set))'
 X='(source bytes ({args} .ids .now) ends)'
-ANS={'returns':f'λ bytes ends e. not-okP (P.branch-at {S} (λ a. a)) (λ p. sticky p {X} .at-ifnext {S} (λ a. a) (λ a n. refl)) ({{pre}} .1) ({{if1}} .taken)',
+ANS={'returns':f'λ bytes ends e. not-okP _ (λ p. sticky p {X} .at-ifnext {S} (λ a. a) (λ a n. refl)) ({{pre}} .1) ({{if1}} .taken)',
 'peek-requires':'{pre} .1 .0 .here',
 'returns-2':f'λ bytes ends e. pass-end {S} ({{pre}} .1) ({{if1}} .left) (next-end {S} ({{peek}} .ensures) ({{if2}} .taken))',
 'expected-requires':'({pre} .1 .1, tt, omega (arith, {pre} .0, {if2} .left))',

@@ -10,7 +10,7 @@ use Rattle.reader.proofs.Eating.{not-okE, unless-there, unless-none}
 S='(setOf ({args} .set))'
 X='(source bytes ({args} .ids .now) ({args} .ends .now))'
 B='({if1} .left) ({pre} .1) ({mark} .ensures)'
-ANS={'returns':f'λ bytes. not-okE (P.refuse-at {S}) (λ p. sticky p {X} .at-unless {S}) ({{pre}} .1) ({{pre}} .2) ({{if1}} .taken)',
+ANS={'returns':f'λ bytes. not-okE _ (λ p. sticky p {X} .at-unless {S}) ({{pre}} .1) ({{pre}} .2) ({{if1}} .taken)',
 'sees-requires':'{pre} .1',
 'trivia-requires':'{pre}',
 'returns-2':f'λ bytes. unless-none {S} {B} ({{rewind}} .ensures) (sym ({{sees}} .ensures) ∙ not-yes _ ({{if2}} .taken)) ({{trivia}} .ensures bytes)',

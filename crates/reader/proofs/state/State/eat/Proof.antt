@@ -14,7 +14,7 @@ use Rattle.reader.proofs.state.State.miss.Reads as miss-reads
 use Rattle.reader.proofs.steps.eat_at.Reads as eat-at-reads
 
 returns : tie.Need-returns
-returns c = λ bytes. not-okE (P.eat-at (setOf (c .before .before .before .before .before .args .set)) (namesOf (c .before .before .before .before .before .args .set) (c .before .before .before .before .before .args .label))) (λ p. sticky p (source bytes (c .before .before .before .before .before .args .ids .now) (c .before .before .before .before .before .args .ends .now)) .at-eat (setOf (c .before .before .before .before .before .args .set)) (namesOf (c .before .before .before .before .before .args .set) (c .before .before .before .before .before .args .label))) (c .before .before .before .before .before .pre .1) (c .before .before .before .before .before .pre .2) (c .if1 .taken)
+returns c = λ bytes. not-okE _ (λ p. sticky p (source bytes (c .before .before .before .before .before .args .ids .now) (c .before .before .before .before .before .args .ends .now)) .at-eat (setOf (c .before .before .before .before .before .args .set)) (namesOf (c .before .before .before .before .before .args .set) (c .before .before .before .before .before .args .label))) (c .before .before .before .before .before .pre .1) (c .before .before .before .before .before .pre .2) (c .if1 .taken)
 
 eat-at-requires : tie.Need-eat-at-requires
 eat-at-requires c κs = (c .before .before .before .before .before .before .pre .0, c .before .before .before .before .before .before .pre .1 .0 .here, c .before .before .before .before .before .before .pre .1 .2 .events, c .before .before .before .before .before .before .pre .2)

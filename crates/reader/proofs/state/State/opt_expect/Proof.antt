@@ -16,7 +16,7 @@ use Rattle.reader.proofs.state.State.rewind.Reads as rewind-reads
 use Rattle.reader.proofs.state.State.trivia.Reads as trivia-reads
 
 returns : tie.Need-returns
-returns c = λ bytes. not-okE (P.alt-at (P.eats (setOf (c .before .before .before .before .before .args .set)) (idsOf (setOf (c .before .before .before .before .before .args .set)))) (λ t. t)) (λ p. sticky p (source bytes (c .before .before .before .before .before .args .ids .now) (c .before .before .before .before .before .args .ends .now)) .at-opt (P.eats (setOf (c .before .before .before .before .before .args .set)) (idsOf (setOf (c .before .before .before .before .before .args .set)))) (sticky p (source bytes (c .before .before .before .before .before .args .ids .now) (c .before .before .before .before .before .args .ends .now)) .at-eat (setOf (c .before .before .before .before .before .args .set)) (idsOf (setOf (c .before .before .before .before .before .args .set))))) (c .before .before .before .before .before .pre .1) (c .before .before .before .before .before .pre .2) (c .if1 .taken)
+returns c = λ bytes. not-okE _ (λ p. sticky p (source bytes (c .before .before .before .before .before .args .ids .now) (c .before .before .before .before .before .args .ends .now)) .at-opt (P.eats (setOf (c .before .before .before .before .before .args .set)) (idsOf (setOf (c .before .before .before .before .before .args .set)))) (sticky p (source bytes (c .before .before .before .before .before .args .ids .now) (c .before .before .before .before .before .args .ends .now)) .at-eat (setOf (c .before .before .before .before .before .args .set)) (idsOf (setOf (c .before .before .before .before .before .args .set))))) (c .before .before .before .before .before .pre .1) (c .before .before .before .before .before .pre .2) (c .if1 .taken)
 
 mark-requires : tie.Need-mark-requires
 mark-requires c κs = search needs

@@ -16,7 +16,7 @@ use Rattle.reader.proofs.rows.peek.Reads as peek-reads
 use Rattle.reader.proofs.state.State.expected.Reads as expected-reads
 
 returns : tie.Need-returns
-returns c = λ bytes ends e. not-okP (P.branch-at (setOf (c .before .before .before .args .set)) (λ a. a)) (λ p. sticky p (source bytes (c .before .before .before .args .ids .now) ends) .at-ifnext (setOf (c .before .before .before .args .set)) (λ a. a) (λ a n. refl)) (c .before .before .before .pre .1) (c .if1 .taken)
+returns c = λ bytes ends e. not-okP _ (λ p. sticky p (source bytes (c .before .before .before .args .ids .now) ends) .at-ifnext (setOf (c .before .before .before .args .set)) (λ a. a) (λ a n. refl)) (c .before .before .before .pre .1) (c .if1 .taken)
 
 peek-requires : tie.Need-peek-requires
 peek-requires c κs = c .before .before .before .pre .1 .0 .here

@@ -20,7 +20,7 @@ use Rattle.reader.proofs.state.State.trivia.Reads as trivia-reads
 use Rattle.reader.proofs.state.State.unexpected.Reads as unexpected-reads
 
 returns : tie.Need-returns
-returns c = λ bytes. not-okE (P.refuse-at (setOf (c .before .before .before .before .before .args .set))) (λ p. sticky p (source bytes (c .before .before .before .before .before .args .ids .now) (c .before .before .before .before .before .args .ends .now)) .at-unless (setOf (c .before .before .before .before .before .args .set))) (c .before .before .before .before .before .pre .1) (c .before .before .before .before .before .pre .2) (c .if1 .taken)
+returns c = λ bytes. not-okE _ (λ p. sticky p (source bytes (c .before .before .before .before .before .args .ids .now) (c .before .before .before .before .before .args .ends .now)) .at-unless (setOf (c .before .before .before .before .before .args .set))) (c .before .before .before .before .before .pre .1) (c .before .before .before .before .before .pre .2) (c .if1 .taken)
 
 mark-requires : tie.Need-mark-requires
 mark-requires c κs = search needs
