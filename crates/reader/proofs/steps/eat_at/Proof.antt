@@ -5,8 +5,7 @@ use lib.ListN.{length}
 use Rattle.kinds.specs.Sets.{setOf}
 use Rattle.reader.specs.Did.{hits}
 use Rattle.reader.proofs.Next.{next-hit, next-other, next-end}
-use Rattle.reader.proofs.Core.{put-of}
-use Rattle.reader.proofs.Taken.{at-rest, rest-ok}
+use Rattle.reader.proofs.Core.{put-of, blank, ok-blank}
 use Rattle.reader.proofs.Eating.{ate-row, ate-none, eat-takes}
 use borrow.Author.Needs.{needs}
 use Rattle.reader.proofs.steps.eat_at.Statement.{statement}
@@ -56,7 +55,7 @@ shared-slice-read-end : tie.Need-shared-slice-read-end
 shared-slice-read-end c = omega (arith, c .before .before .before .before .before .before .before .before .before .before .before .before .before .before .before .before .pre .0 .level, c .before .before .before .before .before .before .before .before .before .before .before .if1 .left)
 
 write-requires : tie.Need-write-requires
-write-requires c κs = ((c .before .before .before .before .before .skip-trivia .ensures [] at-rest refl (rest-ok (length (c .before .before .before .before .before .before .before .before .before .before .before .before .before .before .before .before .before .args .ids .now)) (c .before .before .before .before .before .before .before .before .before .before .before .before .before .before .before .before .before .args .pos) (c .before .before .before .before .before .before .before .before .before .before .before .before .before .before .before .before .before .args .ev) (c .before .before .before .before .before .before .before .before .before .before .before .before .before .before .before .before .before .args .cap) (c .before .before .before .before .before .before .before .before .before .before .before .before .before .before .before .before .before .args .full) (c .before .before .before .before .before .before .before .before .before .before .before .before .before .before .before .before .before .pre .1) (c .before .before .before .before .before .before .before .before .before .before .before .before .before .before .before .before .before .pre .2))) .ok .2 .events, (c .before .before .before .before .before .skip-trivia .ensures [] at-rest refl (rest-ok (length (c .before .before .before .before .before .before .before .before .before .before .before .before .before .before .before .before .before .args .ids .now)) (c .before .before .before .before .before .before .before .before .before .before .before .before .before .before .before .before .before .args .pos) (c .before .before .before .before .before .before .before .before .before .before .before .before .before .before .before .before .before .args .ev) (c .before .before .before .before .before .before .before .before .before .before .before .before .before .before .before .before .before .args .cap) (c .before .before .before .before .before .before .before .before .before .before .before .before .before .before .before .before .before .args .full) (c .before .before .before .before .before .before .before .before .before .before .before .before .before .before .before .before .before .pre .1) (c .before .before .before .before .before .before .before .before .before .before .before .before .before .before .before .before .before .pre .2))) .fits)
+write-requires c κs = ((c .before .before .before .before .before .skip-trivia .ensures [] blank refl (ok-blank (length (c .before .before .before .before .before .before .before .before .before .before .before .before .before .before .before .before .before .args .ids .now)) (c .before .before .before .before .before .before .before .before .before .before .before .before .before .before .before .before .before .args .pos) (c .before .before .before .before .before .before .before .before .before .before .before .before .before .before .before .before .before .args .ev) (c .before .before .before .before .before .before .before .before .before .before .before .before .before .before .before .before .before .args .cap) (c .before .before .before .before .before .before .before .before .before .before .before .before .before .before .before .before .before .args .full) (c .before .before .before .before .before .before .before .before .before .before .before .before .before .before .before .before .before .pre .1) (c .before .before .before .before .before .before .before .before .before .before .before .before .before .before .before .before .before .pre .2))) .ok .2 .events, (c .before .before .before .before .before .skip-trivia .ensures [] blank refl (ok-blank (length (c .before .before .before .before .before .before .before .before .before .before .before .before .before .before .before .before .before .args .ids .now)) (c .before .before .before .before .before .before .before .before .before .before .before .before .before .before .before .before .before .args .pos) (c .before .before .before .before .before .before .before .before .before .before .before .before .before .before .before .before .before .args .ev) (c .before .before .before .before .before .before .before .before .before .before .before .before .before .before .before .before .before .args .cap) (c .before .before .before .before .before .before .before .before .before .before .before .before .before .before .before .before .before .args .full) (c .before .before .before .before .before .before .before .before .before .before .before .before .before .before .before .before .before .pre .1) (c .before .before .before .before .before .before .before .before .before .before .before .before .before .before .before .before .before .pre .2))) .fits)
 
 add-t16 : tie.Need-add-t16
 add-t16 c = omega (arith, c .before .before .before .before .before .before .before .before .before .before .before .before .before .before .before .before .before .before .before .before .pre .0 .few, c .before .before .before .before .before .before .before .before .before .before .before .before .before .before .before .if1 .left)

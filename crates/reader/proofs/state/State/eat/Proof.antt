@@ -1,6 +1,5 @@
 use native.Mathlib.Omega.{arith}
 use Rattle.kinds.specs.Sets.{setOf}
-use Rattle.peg.specs.Run as P
 use Rattle.reader.specs.Means.{source}
 use Rattle.reader.specs.Did.{namesOf}
 use Rattle.reader.proofs.Sticky.{sticky}
