@@ -6,6 +6,8 @@ use kinds::kind;
 use reader::cache::seen;
 use reader::names::Label;
 use reader::state::State;
+use reader::state::begun;
+use reader::state::closed;
 use reader::state::skip_trivia;
 use reader::steps::Eaten;
 use reader::steps::eat_at;
@@ -287,7 +289,7 @@ fn exec(
     s
 }
 
-// A production: a node around what its line reads.
+// A production: a node around what its line reads. It is begun and closed in place, and handed over only where `end` has an error to choose.
 fn node(
     kind: u32,
     line: usize,
@@ -305,7 +307,23 @@ fn node(
     requires { ⌜ Rows (source (now src) (now ids) (now ends)) × Wf (source (now src) (now ids) (now ends)) (bufs (now events) (now errors) (now scratch)) s × Line kind line × Lent (now table) ⌝ }
     ensures { λ r. ⌜ Did (P.run d optional (production kind)) (source (now (src .entry)) (now (ids .entry)) (now (ends .entry))) s r (bufs (now (events .entry)) (now (errors .entry)) (now (scratch .entry))) (bufs (now (events .exit)) (now (errors .exit)) (now (scratch .exit))) ⌝ }
 {
-    s = s.begin(d, ids, ends, events);
+    let start = begun(
+        s.pos,
+        s.fuel,
+        s.mode,
+        s.ev,
+        s.evcap,
+        s.full,
+        d,
+        ids,
+        ends,
+        events,
+    );
+    s.pos = start.pos;
+    s.fuel = start.fuel;
+    s.mode = start.mode;
+    s.ev = start.ev;
+    s.full = start.full;
     let from = s.pos;
     let at = s.ev;
     if d == 0 {
@@ -324,6 +342,28 @@ fn node(
         scratch,
         table,
     );
+    if s.mode == 0 {
+        let pen = closed(kind, from, s.pos, at, s.ev, s.evcap, s.full, ends, events);
+        s.ev = pen.ev;
+        s.full = pen.full;
+        return s;
+    }
+    if optional {
+        let pen = closed(
+            kind::ERROR,
+            from,
+            s.pos,
+            at,
+            s.ev,
+            s.evcap,
+            s.full,
+            ends,
+            events,
+        );
+        s.ev = pen.ev;
+        s.full = pen.full;
+        return s;
+    }
     s.end(kind, from, at, optional, src, ids, ends, events, errors)
 }
 

@@ -10,6 +10,7 @@ use Rattle.peg.specs.Prog as G
 use Rattle.reader.specs.Means.{source}
 use Rattle.reader.proofs.Lists.{not-yes, not-no}
 use Rattle.reader.proofs.Sticky.{sticky-exec}
+use Rattle.reader.proofs.Ends.{ends-ok, ends-optional}
 use Rattle.reader.proofs.Eating.{eat-missed, fails-after}
 use Rattle.reader.proofs.Furthest.{expected-nearer}
 use Rattle.grammar.specs.Table.{prog, production, reads}
@@ -22,8 +23,8 @@ ROWS, WF, LENT = "({pre} .1 .0)", "({pre} .1 .1)", "{pre} .1 .3"
 FROM = f"(from (source ({{args}} .src .now) ({{args}} .ids .now) ({{args}} .ends .now)) ({{args}} .s) ({{args}} .events .now) ({{args}} .errors .now) ({{args}} .scratch .now) {WF})"
 PART = "(prog ({args} .p))"
 # where a callee has the events among its parameters; errors and scratch follow, where it has them
-EVENTS = {"trivia": 3, "skip-trivia": 6, "eat-at": 7, "step": 8, "begin": 4, "end": 8, "exec": 7, "node": 8, "cached": 8, "many": 6}
-LISTS = {"trivia": 1, "skip-trivia": 1, "eat-at": 1, "step": 2, "begin": 1, "end": 2}
+EVENTS = {"trivia": 3, "skip-trivia": 6, "eat-at": 7, "step": 8, "begun": 9, "closed": 8, "end": 8, "exec": 7, "node": 8, "cached": 8, "many": 6}
+LISTS = {"trivia": 1, "skip-trivia": 1, "eat-at": 1, "step": 2, "begun": 1, "closed": 1, "end": 2}
 # what each function's measure adds to 4,096 times the depth that is left
 DEPTH = {"exec": 2, "many": 2, "node": 3, "cached": 3}
 LEVEL = {"exec": "8 * a .0 + 2", "many": "8 * a .0 + 4", "node": "0", "cached": "1"}
@@ -73,18 +74,33 @@ MANY = {
     "returns-3": f"turns-over {INV} ({{loop-test}} .left)",
 }
 
-OPENS = f"(production ({{args}} .kind)) ({{args}} .kind) ({{pre}} .1 .2 .known) {O} {D} ({{args}} .events .now) ({{args}} .errors .now) ({{args}} .scratch .now) {WF} ({{begin}} .ensures {S})"
+OPENS = f"(production ({{args}} .kind)) ({{args}} .kind) ({{pre}} .1 .2 .known) {O} {D} ({{args}} .events .now) ({{args}} .errors .now) ({{args}} .scratch .now) {WF} ({{begun}} .ensures {S} ({{args}} .s) ({WF} .0))"
 LINE = f"(is-line ({D} - 1) {O} ({{pre}} .1 .2) ({{exec}} .ensures))"
+CLOSING = f"(closing {OPENS} ({{exec}} .ensures) {ROWS})"
+CLOSES = f"(omega (arith, {ROWS} .lines .level, {CLOSING} .1 .0 .here), {CLOSING} .4, {CLOSING} .1 .2 .events, {CLOSING} .2, {CLOSING} .5)"
+
+
+def shut(call, ends, way):
+    """The node is closed in place, which ends it as the law says."""
+    return f"made {OPENS} ({{if1}} .left) {LINE} (λ w. {ends} {O} ({{args}} .kind) _ _ {way} ({{{call}}} .ensures ({{exec}} .result) {S} ({{args}} .ids .now) _ _ ({ROWS} .lines) w))"
+
+
 NODE = {
-    "begin-requires": f"asksE {FROM} {ROWS}",
+    "begun-requires": f"({ROWS} .lines, {WF} .0 .0 .here, {WF} .0 .2 .events, {WF} .1 .events)",
     "end-requires": f"closing {OPENS} (begun {OPENS}) {ROWS}",
-    **lengths(["end", "begin"]),
+    **lengths(["end", "begun"]),
     "returns": f"none-made {OPENS} ({{if1}} .taken) ({{end}} .ensures _)",
     "sub-exec": "omega (arith, {if1} .left)",
     "exec-requires": falls(f"(begun {OPENS})", "{pre} .1 .2 .inside", "{if1} .left", "{pre} .1 .2 .inside .1"),
-    "end-requires-2": f"closing {OPENS} ({{exec}} .ensures) {ROWS}",
-    **lengths(["end2", "exec", "begin"], 3),
-    "returns-2": f"made {OPENS} ({{if1}} .left) {LINE} ({{end2}} .ensures _)",
+    "closed-requires": CLOSES,
+    **lengths(["closed", "exec", "begun"], 3),
+    "returns-2": shut("closed", "ends-ok", "({if2} .taken)"),
+    "closed-requires-2": CLOSES,
+    **lengths(["closed2", "exec", "begun"], 6),
+    "returns-3": shut("closed2", "ends-optional", "({if3} .taken) ({if2} .left)"),
+    "end-requires-2": CLOSING,
+    **lengths(["end2", "exec", "begun"], 9),
+    "returns-4": f"made {OPENS} ({{if1}} .left) {LINE} ({{end2}} .ensures _)",
 }
 
 KNOWN = f"{D} {O} (production ({{args}} .kind)) ({{pre}} .1 .2 .known) {FROM} ({{bit-of}} .ensures)"
