@@ -275,15 +275,6 @@ impl State {
         self
     }
 
-    pub fn charge(mut self, d: usize) -> Self
-        ensures { λ r. ⌜ ((x : Source) → Ok (length (x .ids)) self → Plain (λ a. P.charge d (a .fuel) a) x self r) ⌝ }
-    {
-        let paid = charged(self.fuel, self.mode, d);
-        self.fuel = paid.fuel;
-        self.mode = paid.mode;
-        self
-    }
-
     pub fn begin(mut self, d: usize, ids: &[u32], ends: &[u32], events: &mut [u32]) -> Self
         requires { ⌜ Lines (now ids) (now ends) × Ok (length (now ids)) self × (self .evcap ≤ length (now events)) ⌝ }
         ensures { λ r. ⌜ ((bytes : List ℕ) → Began d (source bytes (now (ids .entry)) (now (ends .entry))) self r (now (events .entry)) (now (events .exit))) ⌝ }

@@ -1,1 +1,0 @@
-ANS = {"returns": "λ x w. {charged} .ensures x ({args} .self) w"}
