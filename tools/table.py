@@ -4,7 +4,8 @@
 A line is built of the module's combinators. A row of the table is a combinator and up to three operands, which are a set and a name, a
 kind and the row of its line, or rows that stand before it: one number, in octal the combinator's digits and three digits for each
 operand. The third operand of a row, production, repetition, `not` or `recover` is the row of what follows it, 0 where nothing does, so
-row 0 is never read. Parts that are the same, with what follows them, share a row."""
+row 0 is never read. The third operand of alternatives is 1 where the first of them does nothing unless a row of its first set is there.
+Parts that are the same, with what follows them, share a row."""
 import re
 import sys
 from pathlib import Path
@@ -128,6 +129,16 @@ END = ("Eat", 0, 0, 0)
 rows, known, sections, lines = [END], {}, [], {}
 
 
+def guarded(part):
+    """Whether the part does nothing but in good order."""
+    return all(map(guarded, part[1:])) if part[0] == "Seq" else part[0] not in ("Node", "Recover")
+
+
+def led(part):
+    """Whether the part does nothing unless a row of its first set is there."""
+    return part[0] == "Eat" or part[0] == "Seq" and part[1][0] == "Eat" and guarded(part[2])
+
+
 def row(part, then=0):
     """The row of the part and the row of what follows it, which may be one that is there."""
     op, rest = part[0], part[1:]
@@ -143,8 +154,12 @@ def row(part, then=0):
         r = (op, row(rest[0]), 0, then)
     elif op == "When":
         r = (op, SET[rest[0]], row(rest[1]), 0)
-    elif op in ("Seq", "Alt"):
+    elif op == "Seq":
         r = (op, row(rest[0]), row(rest[1]), 0)
+    elif op == "Alt":
+        r = (op, row(rest[0]), row(rest[1]), int(led(rest[0])))
+    elif op in ("Opt", "Last"):
+        r = (op, row(rest[0]), 0, int(led(rest[0])))
     else:
         r = (op, row(rest[0]), 0, 0)
     if r not in known:

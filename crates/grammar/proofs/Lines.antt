@@ -8,10 +8,12 @@ use native.Mathlib.Omega.{arith}
 use native.Mathlib.Nat.{le-refl}
 use native.Mathlib.Decide.{ℕ-discrete}
 use borrow.Author.Tests.{eqb-true, ltb-true, eq-eqb, ne-eqb}
-use lib.Dec.{eqb, ltb}
+use lib.Dec.{eqb, ltb, T}
 use lib.ListN.{length, getD, List·getD-eq-default}
 use Rattle.kinds.specs.Kinds as k
-use Rattle.kinds.specs.Sets.{setOf}
+use Rattle.kinds.specs.Sets.{setOf, pick}
+use Rattle.kinds.specs.Answers.{matchedOf}
+use Rattle.kinds.specs.declared.answer.Matched.the-variants as m
 use Rattle.kinds.proofs.Tables.{both, both-left, both-right, all, all-sound}
 use Rattle.peg.specs.Prog.{Prog}
 use Rattle.peg.specs.Prog as G
@@ -25,15 +27,19 @@ use Rattle.reader.specs.declared.names.Label.the-variants.{Ids, As}
 use Rattle.reader.specs.declared.state.Mark.{Mark}
 use Rattle.reader.specs.Change.{markOf, gone, withMode}
 use Rattle.reader.specs.Means.{limits, Bufs, bufs}
-use Rattle.reader.specs.Did.{Wf, Did, Events, Plain, Proper, namesOf, ahead}
+use Rattle.reader.specs.Did.{Wf, Did, Events, Plain, Proper, Peeked, namesOf, hits, ahead}
 use Rattle.reader.proofs.Core as core
+use Rattle.grammar.proofs.Exec.{guarded}
 use Rattle.grammar.proofs.Cycle.{from, plus, plusE, stops, thence, Tries, tries, tried, again, tried-last, lost-back, lost-on, waives, waived-back, waived-on, enters, passes}
 use Rattle.reader.specs.Bits.{ifb}
 use Rattle.grammar.specs.declared.parts.Part.{Part}
 use Rattle.grammar.specs.declared.parts.Part.the-variants.{Eat, Step, Node, Memo, Seq, Then, When, Many, Try}
 use Rattle.reader.proofs.Branch as branch
+use Rattle.reader.proofs.Next.{next-other, next-end}
+use Rattle.grammar.specs.declared.parts.First.{First}
+use Rattle.grammar.specs.declared.parts.First.the-variants.{Unknown, Missed}
 use Rattle.grammar.specs.Rows.{rows, size, item}
-use Rattle.grammar.specs.Table.{Lent, Row, rowOf, split, labelOf, stepOf, stepping, reads, follows, followed, made, partOf, production, progOf, prog, Line, Cached}
+use Rattle.grammar.specs.Table.{Lent, Row, Missing, Foretold, missedOf, rowOf, split, labelOf, stepOf, stepping, reads, follows, followed, made, partOf, production, progOf, prog, Line, Cached}
 
 -- the code's rows are the definition's
 pub rows-lent : Lent rows
@@ -58,9 +64,9 @@ module _ (i : ℕ) {r : ℕ} (e : r ≡ rowOf i) where
   pub row-of : (m : ℕ) → r / 0o1_000_000_000 ≡ m → made m first second third ≡ partOf i
   row-of m h = sym (ap (λ (c : ℕ). made c first second third) h) ∙ whole
 
-  pub row-else : 9 ≤ r / 0o1_000_000_000 → Try (r / 0o1_000_000_000) first second ≡ partOf i
+  pub row-else : 9 ≤ r / 0o1_000_000_000 → Try (r / 0o1_000_000_000) first second third ≡ partOf i
   row-else h =
-      sym (List·getD-eq-default (Eat first second third ∷ Step 1 first third ∷ Step 2 first third ∷ Node first second third ∷ Memo first second third ∷ Seq first second ∷ Then first ∷ When first second ∷ Many first third ∷ []) (Try (r / 0o1_000_000_000) first second) h)
+      sym (List·getD-eq-default (Eat first second third ∷ Step 1 first third ∷ Step 2 first third ∷ Node first second third ∷ Memo first second third ∷ Seq first second ∷ Then first ∷ When first second ∷ Many first third ∷ []) (Try (r / 0o1_000_000_000) first second third) h)
       ∙ whole
 
 -- a number that is none of those before
@@ -99,6 +105,18 @@ abbrev pub either : Bool → Bool → Bool
 either true b = true
 either false b = b
 
+-- does nothing unless a row of its first set is there
+abbrev pub leads : Part → Bool
+leads (Eat s n k) = either (eqb k 0) (guarded (prog k))
+leads (Step n s k) = false
+leads (Node a l k) = false
+leads (Memo a l k) = false
+leads (Seq j h) = false
+leads (Then j) = false
+leads (When s j) = false
+leads (Many j k) = false
+leads (Try n j h f) = false
+
 -- the rows that a row names stand before it, and but for what follows they are read; a name is one, a production's kind and line belong together
 abbrev pub sound : ℕ → Part → Bool
 sound i (Eat s n j) = both (ltb n 86) (ltb j i)
@@ -109,7 +127,7 @@ sound i (Seq j h) = both (both (ltb 0 j) (ltb j i)) (both (ltb 0 h) (ltb h i))
 sound i (Then j) = both (ltb 0 j) (ltb j i)
 sound i (When s j) = both (ltb 0 j) (ltb j i)
 sound i (Many j h) = both (both (ltb 0 j) (ltb j i)) (ltb h i)
-sound i (Try n j h) = both (both (ltb 0 j) (ltb j i)) (either (eqb n 9) (either (eqb n 10) (both (ltb 0 h) (ltb h i))))
+sound i (Try n j h f) = both (both (ltb 0 j) (ltb j i)) (both (ltb h i) (both (either (both (eqb n 9) (eqb h 0)) (either (both (eqb n 10) (eqb h 0)) (both (eqb n 11) (ltb 0 h)))) (either (eqb f 0) (leads (partOf j)))))
 
 tested : all (λ i. sound (suc i) (partOf (suc i))) (size - 1) ≡ true
 unfolding prog partOf rowOf production productions kind
@@ -118,6 +136,10 @@ tested = refl
 -- a row before another
 abbrev pub Before : ℕ → ℕ → Type 0
 Before j i = (0 < j) × (j < i)
+
+-- an optional part, the last alternative, or one before others
+abbrev pub How : ℕ → ℕ → Type 0
+How n h = ((n ≡ 9) × (h ≡ 0)) ⊎ (((n ≡ 10) × (h ≡ 0)) ⊎ ((n ≡ 11) × (0 < h)))
 
 abbrev pub Sound : ℕ → Part → Type 0
 Sound i (Eat s n j) = (n < 86) × (j < i)
@@ -128,7 +150,7 @@ Sound i (Seq j h) = Before j i × Before h i
 Sound i (Then j) = Before j i
 Sound i (When s j) = Before j i
 Sound i (Many j h) = Before j i × (h < i)
-Sound i (Try n j h) = Before j i × ((n ≡ 9 → ⊥) → (n ≡ 10 → ⊥) → Before h i)
+Sound i (Try n j h f) = Before j i × (h < i) × How n h × ((f ≡ 0 → ⊥) → leads (partOf j) ≡ true)
 
 two-facts : {A B : Type 0} {a b : Bool} → (a ≡ true → A) → (b ≡ true → B) → both a b ≡ true → A × B
 two-facts {A} {B} {a} {b} f g t = (f (both-left a b t), g (both-right a b t))
@@ -146,8 +168,19 @@ cached a t = go (ℕ-discrete a k.EXPR)
 between : (a j i : ℕ) → both (ltb a j) (ltb j i) ≡ true → (a < j) × (j < i)
 between a j i t = two-facts (ltb-true a j) (ltb-true j i) t
 
-others-real : (n h i : ℕ) → either (eqb n 9) (either (eqb n 10) (both (ltb 0 h) (ltb h i))) ≡ true → (n ≡ 9 → ⊥) → (n ≡ 10 → ⊥) → Before h i
-others-real n h i t a b = between 0 h i (sym (ap₂ (λ (c d : Bool). either c (either d (both (ltb 0 h) (ltb h i)))) (ne-eqb n 9 a) (ne-eqb n 10 b)) ∙ t)
+other : {A : Type 0} {a b : Bool} → either a b ≡ true → (b ≡ true → A) → (a ≡ true → ⊥) → A
+other {a = true} t f n = absurd (n refl)
+other {a = false} t f n = f t
+
+one-of-two : {A B : Type 0} {a b : Bool} → (a ≡ true → A) → (b ≡ true → B) → either a b ≡ true → A ⊎ B
+one-of-two {a = true} f g t = inl (f refl)
+one-of-two {a = false} f g t = inr (g t)
+
+how-so : (n h : ℕ) → either (both (eqb n 9) (eqb h 0)) (either (both (eqb n 10) (eqb h 0)) (both (eqb n 11) (ltb 0 h))) ≡ true → How n h
+how-so n h t = one-of-two (two-facts (eqb-true n 9) (eqb-true h 0)) (λ u. one-of-two (two-facts (eqb-true n 10) (eqb-true h 0)) (two-facts (eqb-true n 11) (ltb-true 0 h)) u) t
+
+led-so : (f : ℕ) {c : Bool} → either (eqb f 0) c ≡ true → (f ≡ 0 → ⊥) → c ≡ true
+led-so f t q = other t (λ e. e) (λ e. q (eqb-true f 0 e))
 
 sound-so : (i : ℕ) (p : Part) → sound i p ≡ true → Sound i p
 sound-so i (Eat s n j) t = two-facts (ltb-true n 86) (ltb-true j i) t
@@ -158,7 +191,7 @@ sound-so i (Seq j h) t = two-facts (between 0 j i) (between 0 h i) t
 sound-so i (Then j) t = between 0 j i t
 sound-so i (When s j) t = between 0 j i t
 sound-so i (Many j h) t = two-facts (between 0 j i) (ltb-true h i) t
-sound-so i (Try n j h) t = two-facts (between 0 j i) (others-real n h i) t
+sound-so i (Try n j h f) t = let u = three-facts (between 0 j i) (ltb-true h i) (two-facts (how-so n h) (led-so f)) t in (u .0, u .1, u .2 .0, u .2 .1)
 
 pub row-sound : (i : ℕ) → Row i → {p : Part} → p ≡ partOf i → Sound i p
 row-sound zero r e = absurd (omega (arith, r .0))
@@ -174,7 +207,7 @@ called f (Seq j h) = prog 0
 called f (Then j) = prog 0
 called f (When s j) = prog 0
 called f (Many j h) = prog 0
-called f (Try n j h) = prog 0
+called f (Try n j h k) = prog 0
 
 abbrev lineOf : Part → Prog
 lineOf = called (λ a j. prog j)
@@ -250,6 +283,9 @@ module _ (d : ℕ) (o : Bool) {x : Source} {s z : State} {b b₂ : Bufs} where
 
   pub follows-row : (i : ℕ) → 0 < i → Did (follows d o i) x s z b b₂ → Did (reads d o (prog i)) x s z b b₂
   follows-row i h y = subst (λ (c : Bool). Did (ifb c (λ a. a) (reads d o (prog i))) x s z b b₂) (ne-eqb i 0 (λ e. omega (arith, h, e))) y
+
+  pub follows-none : (i : ℕ) → i ≡ 0 → Did (follows d o i) x s z b b₂ → Did (λ a. a) x s z b b₂
+  follows-none i h y = subst (λ (c : Bool). Did (ifb c (λ a. a) (reads d o (prog i))) x s z b b₂) (eq-eqb i 0 h) y
 
   -- a row is read, and what follows it
   pub row-goes : (i : ℕ) → i < size → {p : Part} → p ≡ partOf i → (k : ℕ) (q : Prog) → progOf prog p ≡ followed prog k q → {r : State} {b′ : Bufs} → Did (reads d o q) x s r b b′ → Did (follows d o k) x r z b′ b₂ → Did (reads d o (prog i)) x s z b b₂
@@ -338,7 +374,7 @@ module _ (d : ℕ) (o : Bool) (i : ℕ) (h : i < size) {x : Source} {s : State} 
   when-goes {S} {p} e f sees n t z c y = is-row d o i h e (enters still d o (setOf S) (prog p) sees n (plus (plusE still t) (follows-row d o p f y)))
 
   -- alternatives: by how they go on where the first fails
-  module _ {n p q : ℕ} (e : Try n p q ≡ partOf i) where
+  module _ {n p q f : ℕ} (e : Try n p q f ≡ partOf i) where
     as-opt : n ≡ 9 → {z : State} {b : Bufs} → Did (reads d o (G.opt (prog p))) x s z (bufs ev er sc) b → Did (reads d o (prog i)) x s z (bufs ev er sc) b
     as-opt k {z} {b} y = is-row d o i h e (subst (λ (c : Bool). Did (reads d o (ifb c (G.opt (prog p)) (ifb (eqb n 10) (G.last (prog p)) (G._/_ (prog p) (prog q))))) x s z (bufs ev er sc) b) (sym (eq-eqb n 9 k)) y)
 
@@ -370,14 +406,50 @@ module _ (d : ℕ) (o : Bool) (i : ℕ) (h : i < size) {x : Source} {s : State} 
           by-how (waives d o (prog p) still good mark y (waived-on m r k)) (tried-last (tries d o (G.last (prog p)) still good mark) y (lost-on m r k))
           (tried (tries d o (G._/_ (prog p) (prog q)) still good mark) y k)
 
-      pub try-opt : r .mode ≡ 1 → n ≡ 9 → {z : State} → z ≡ withMode 0 (gone m r) → Did (reads d o (prog i)) x s z (bufs ev er sc) b
-      try-opt k j f = as-opt j (waives d o (prog p) still good mark y (f ∙ waived-back m r k))
+      -- it failed: what is read then is nothing, in good order or, behind the last, failed; or the others
+      module _ (k : r .mode ≡ 1) {c : ℕ} (g : c ≡ missedOf n) where
+        turned : {a : Bool} → eqb n 10 ≡ a → withMode c (gone m r) ≡ withMode (ifb a 1 0) (gone m r)
+        turned u = ap (λ (a : ℕ). withMode a (gone m r)) (g ∙ ap (λ (a : Bool). ifb a 1 0) u)
 
-      pub try-last : r .mode ≡ 1 → (n ≡ 9 → ⊥) → n ≡ 10 → {z : State} → z ≡ gone m r → Did (reads d o (prog i)) x s z (bufs ev er sc) b
-      try-last k j l f = as-last j l (tried-last (tries d o (G.last (prog p)) still good mark) y (f ∙ lost-back m r k))
+        pub try-fails : How n q → Left d o x s (bufs ev er sc) i q (withMode c (gone m r)) b
+        try-fails (inl h) z u w = as-opt (h .0) (core.then (waives d o (prog p) still good mark y (turned (ne-eqb n 10 (λ j. omega (arith, h .0, j))) ∙ waived-back m r k)) (follows-none d o q (h .1) w))
+        try-fails (inr (inl h)) z u w =
+            as-last (λ j. omega (arith, h .0, j)) (h .0) (core.then (tried-last (tries d o (G.last (prog p)) still good mark) y (turned (eq-eqb n 10 (h .0)) ∙ ap (λ (a : ℕ). withMode a (gone m r)) (sym k) ∙ lost-back m r k)) (follows-none d o q (h .1) w))
+        try-fails (inr (inr h)) z u w = as-alt (λ j. omega (arith, h .0, j)) (λ j. omega (arith, h .0, j)) (again (tries d o (G._/_ (prog p) (prog q)) still good mark) y k (turned (ne-eqb n 10 (λ j. omega (arith, h .0, j)))) .go (follows-row d o q (h .1) w))
 
-      pub others : r .mode ≡ 1 → {z : State} → z ≡ withMode 0 (gone m r) → Tries (λ a. reads d o (G._/_ (prog p) (prog q)) a) d o (prog q) x s z m (bufs ev er sc) b
-      others k f = again (tries d o (G._/_ (prog p) (prog q)) still good mark) y k f
+        pub failed-wf : Wf x b (withMode c (gone m r))
+        failed-wf = again (tries d o (G._/_ (prog p) (prog q)) still good mark) y k refl .here .wf
 
-      pub try-others : (n ≡ 9 → ⊥) → (n ≡ 10 → ⊥) → 0 < q → (k : r .mode ≡ 1) → {z : State} → z ≡ withMode 0 (gone m r) → Left d o x s (bufs ev er sc) i q z b
-      try-others j l g k f z c w = as-alt j l (others k f .go (follows-row d o q g w))
+-- what is left of a line does nothing where its first row was missed
+module _ (d : ℕ) (o : Bool) {x : Source} {s : State} {b : Bufs} (w : Did (λ a. a) x s s b b) (n : s .mode ≡ 0 → ⊥) where
+  rest-idle : (k : ℕ) → either (eqb k 0) (guarded (prog k)) ≡ true → Did (follows d o k) x s s b b
+  rest-idle k t = go (eqb k 0) t
+    where
+      go : (c : Bool) → either c (guarded (prog k)) ≡ true → Did (ifb c (λ a. a) (reads d o (prog k))) x s s b b
+      go true u = w
+      go false u = stops w d o (prog k) (subst T (sym u) tt) n
+
+-- a part whose first row is missed fails at once, all names N entered or those of its label
+module _ (d : ℕ) (p : ℕ) (h : p < size) {led pos at : ℕ} {set name : ℕ} {x : Source} {s r : State} {ev er sc : List ℕ} (w : Wf x (bufs ev er sc) s) (f : Missing led p pos (x .ids) set name at) (g : leads (partOf p) ≡ true) (n : r .mode ≡ 1) where
+  pub first-missed : (l : Label) → l ≡ labelOf name → Events (P.eats (setOf set) (namesOf set l)) x s r ev ev → Did (reads d true (prog p)) x s r (bufs ev er sc) (bufs ev er sc)
+  first-missed l q v =
+      let y = plusE (from x s ev er sc w) v in
+      eat-fails d true p h ev er sc w (f .row) l q v r (bufs ev er sc) (rest-idle d true (from x r ev er sc (y .wf)) (λ z. omega (arith, n, z)) (f .next) (ap leads (f .row) ∙ g))
+
+-- what is told of a part's first row
+abbrev MissingOf : ℕ → ℕ → ℕ → List ℕ → First → Type 0
+MissingOf led p pos ids Unknown = Unit
+MissingOf led p pos ids (Missed set name at) = Missing led p pos ids set name at
+
+pub unforetold : (led p pos : ℕ) (ids : List ℕ) → Foretold led p pos ids Unknown
+unforetold led p pos ids = record { missed = λ set name at e. absurd (subst (λ (z : First). elim z as (λ _. Type 0) [ Unknown ↦ Unit | Missed a b c ↦ ⊥ ]) e tt) }
+
+pub foretold : {led p pos : ℕ} {ids : List ℕ} {set name at : ℕ} → Missing led p pos ids set name at → Foretold led p pos ids (Missed set name at)
+foretold {led} {p} {pos} {ids} m = record { missed = λ s n a e. subst (MissingOf led p pos ids) e m }
+
+module _ {led p pos : ℕ} {ids : List ℕ} {set name next at : ℕ} (a : led ≡ 0 → ⊥) (e : Eat set name next ≡ partOf p) (q : Peeked ids pos at) where
+  pub missing-end : length ids ≤ at → Missing led p pos ids set name at
+  missing-end h = record { asked = a; next = next; row = e; peeked = q; none = ap hits (next-end (setOf set) q h) }
+
+  pub missing-other : at < length ids → m.Nothing ≡ matchedOf (pick (setOf set) (getD ids at 0)) → Missing led p pos ids set name at
+  missing-other h t = record { asked = a; next = next; row = e; peeked = q; none = ap hits (next-other (setOf set) q h t) }

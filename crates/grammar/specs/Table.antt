@@ -5,7 +5,7 @@ use mathlib.Core.Bool.{Bool, true, false}
 use mathlib.Core.Logic.{_⊎_}
 use mathlib.Core.List.{List, [], _∷_}
 use lib.Dec.{eqb}
-use lib.ListN.{length, getD}
+use lib.ListN.{length, getD, drop}
 use Rattle.kinds.specs.Kinds as k
 use Rattle.kinds.specs.Sets.{setOf}
 use Rattle.peg.specs.Prog.{Prog, Production, eat, unless, ifnext, opt, many, then, _⨟_, last, recover, node, memo, RULE-DECL}
@@ -16,15 +16,17 @@ use Rattle.peg.proofs.Every.{productions}
 use Rattle.reader.specs.declared.names.Label.{Label}
 use Rattle.reader.specs.declared.names.Label.the-variants.{Ids, As}
 use Rattle.reader.specs.Bits.{ifb}
-use Rattle.reader.specs.Did.{namesOf}
+use Rattle.reader.specs.Did.{namesOf, Peeked, hits}
 use Rattle.grammar.specs.declared.parts.Part.{Part}
 use Rattle.grammar.specs.declared.parts.Part.the-variants.{Eat, Step, Node, Memo, Seq, Then, When, Many, Try}
+use Rattle.grammar.specs.declared.parts.First.{First}
+use Rattle.grammar.specs.declared.parts.First.the-variants.{Unknown, Missed}
 use Rattle.grammar.specs.Rows.{rows, size}
 
 -- the combinator's number and its operands
 abbrev pub made : ℕ → ℕ → ℕ → ℕ → Part
 made n a b c =
-    getD (Eat a b c ∷ Step 1 a c ∷ Step 2 a c ∷ Node a b c ∷ Memo a b c ∷ Seq a b ∷ Then a ∷ When a b ∷ Many a c ∷ []) n (Try n a b)
+    getD (Eat a b c ∷ Step 1 a c ∷ Step 2 a c ∷ Node a b c ∷ Memo a b c ∷ Seq a b ∷ Then a ∷ When a b ∷ Many a c ∷ []) n (Try n a b c)
 
 unfoldable pub rowOf : ℕ → ℕ
 rowOf i = getD rows i 0
@@ -67,7 +69,7 @@ progOf g (Seq i j) = g i ⨟ g j
 progOf g (Then i) = then (g i)
 progOf g (When s i) = ifnext (setOf s) (g i)
 progOf g (Many i k) = followed g k (many (g i))
-progOf g (Try n i j) = ifb (eqb n 9) (opt (g i)) (ifb (eqb n 10) (last (g i)) (G._/_ (g i) (g j)))
+progOf g (Try n i j f) = ifb (eqb n 9) (opt (g i)) (ifb (eqb n 10) (last (g i)) (G._/_ (g i) (g j)))
 
 -- no part holds others more than 40 deep
 abbrev decode : ℕ → ℕ → Prog
@@ -105,3 +107,18 @@ Cached a = (a ≡ k.EXPR) ⊎ (a ≡ k.TERM)
 
 abbrev pub Bit : ℕ → ℕ → ℕ → Type 0
 Bit a p i = ((a ≡ k.EXPR) × (i ≡ 2 * p)) ⊎ ((a ≡ k.TERM) × (i ≡ 2 * p + 1))
+
+-- how a state is where an alternative failed: the last one fails all of them
+abbrev pub missedOf : ℕ → ℕ
+missedOf n = ifb (eqb n 10) 1 0
+
+-- a part whose first row is missed: the row of the table says what it is, and at is the row that stands there
+pub record Missing (led p pos : ℕ) (ids : List ℕ) (set name at : ℕ) : Type 0 where
+  pub asked : led ≡ 0 → ⊥
+  pub next : ℕ
+  pub row : Eat set name next ≡ partOf p
+  pub peeked : Peeked ids pos at
+  pub none : hits (P.next (setOf set) (drop pos ids)) ≡ false
+
+pub record Foretold (led p pos : ℕ) (ids : List ℕ) (r : First) : Type 0 where
+  pub missed : (set name at : ℕ) → r ≡ Missed set name at → Missing led p pos ids set name at

@@ -2,9 +2,12 @@
 // may still be opened, and within a line the row of the table.
 use crate::table::ITEM;
 use crate::table::ROWS;
+use kinds::Matched;
 use kinds::kind;
+use kinds::matched;
 use reader::cache::seen;
 use reader::names::Label;
+use reader::rows::peek;
 use reader::state::State;
 use reader::state::begun;
 use reader::state::closed;
@@ -24,7 +27,7 @@ ghost use Rattle.peg.specs.Run as P;
 ghost use Rattle.reader.specs.Means.{limits, source, bufs, Rows};
 ghost use Rattle.reader.specs.Did.{Ok, Wf, Did, Both, ahead};
 ghost use Rattle.grammar.specs.Rows.{size};
-ghost use Rattle.grammar.specs.Table.{Lent, Row, partOf, labelOf, stepping, prog, production, reads, Line, Cached, Bit};
+ghost use Rattle.grammar.specs.Table.{Lent, Row, Foretold, missedOf, partOf, labelOf, stepping, prog, production, reads, Line, Cached, Bit};
 
 // `not`, beside `recover`.
 const UNLESS: u32 = 1;
@@ -32,9 +35,7 @@ const UNLESS: u32 = 1;
 // An `if_next` whose row is not there.
 const PASS: u32 = 3;
 
-// `opt`, and the last alternative of several.
-const OPTIONAL: u32 = 9;
-
+// The last alternative of several.
 const LAST: u32 = 10;
 
 // A combinator of the module with its operands: sets and names by number, a production by its kind and the row of its line, parts by
@@ -49,8 +50,9 @@ pub enum Part {
     Then(usize),
     When(usize, usize),
     Many(usize, usize),
-    // Alternatives by how they go on where the first fails: not at all, by failing, or with others.
-    Try(u32, usize, usize),
+    // Alternatives: the last of several or not, the first, what is read where it fails, and 1 where it does nothing unless a row of its first set is
+    // there.
+    Try(u32, usize, usize, usize),
 }
 
 // A row of the table, which is lent: a table named where it is read would be laid out anew for each row.
@@ -76,8 +78,47 @@ fn part_at(i: usize, table: &[u32]) -> Part
         6 => Part::Then(first),
         7 => Part::When(first, second),
         8 => Part::Many(first, third),
-        _ => Part::Try(n, first, second),
+        _ => Part::Try(n, first, second, third),
     }
+}
+
+// How a state is where an alternative failed: the last one fails all of them.
+fn missed(how: u32) -> u8
+    ensures { λ r. ⌜ r ≡ missedOf how ⌝ }
+{
+    if how == LAST {
+        return 1;
+    }
+    0
+}
+
+// What is known of a part before it is read.
+pub enum First {
+    Unknown,
+    // It fails at once: the set and the name of its first row, and the row that stands there.
+    Missed(usize, u32, usize),
+}
+
+// Looks whether a part fails at its first row, so that no call is made for it.
+fn first_row(led: usize, p: usize, pos: usize, ids: &[u32], table: &[u32]) -> First
+    requires { ⌜ (p < size) × Lent (now table) × (pos ≤ length (now ids)) ⌝ }
+    ensures { λ r. ⌜ Foretold led p pos (now (ids .entry)) r ⌝ }
+{
+    if led == 0 {
+        return First::Unknown;
+    }
+    let Part::Eat(set, name, next) = part_at(p, table) else {
+        return First::Unknown;
+    };
+    let at = peek(pos, ids);
+    if at >= ids.len() {
+        return First::Missed(set, name, at);
+    }
+    let id = ids[at];
+    let Matched::Nothing = matched(set, id) else {
+        return First::Unknown;
+    };
+    First::Missed(set, name, at)
 }
 
 // The number past all names stands for the ids of the set.
@@ -157,13 +198,8 @@ fn exec(
                             s.ev = past.ev;
                             s.full = past.full;
                         }
-                        // Names are entered at the furthest row only.
                         Eaten::Miss(at) => {
-                            if at + 1 < s.want {
-                                s.mode = 1;
-                            } else {
-                                s = s.miss(set, label(name), at);
-                            }
+                            s = s.miss(set, label(name), at);
                         }
                     }
                 }
@@ -247,7 +283,7 @@ fn exec(
                 s.full = at.full;
                 i = p;
             }
-            Part::Try(how, p, q) => {
+            Part::Try(how, p, q, led) => {
                 if s.mode != 0 {
                     return s;
                 }
@@ -257,32 +293,37 @@ fn exec(
                 s.pos = at.pos;
                 s.ev = at.ev;
                 s.full = at.full;
-                s = exec(
-                    p,
-                    s,
-                    d,
-                    true,
-                    src,
-                    ids,
-                    ends,
-                    events,
-                    errors,
-                    scratch,
-                    table,
-                );
-                if s.mode != 1 {
-                    return s;
+                match first_row(led, p, s.pos, ids, table) {
+                    First::Missed(set, name, row) => {
+                        s = s.expected(set, label(name), row);
+                        s.pos = pos;
+                        s.ev = ev;
+                        s.mode = missed(how);
+                        i = q;
+                    }
+                    First::Unknown => {
+                        s = exec(
+                            p,
+                            s,
+                            d,
+                            true,
+                            src,
+                            ids,
+                            ends,
+                            events,
+                            errors,
+                            scratch,
+                            table,
+                        );
+                        if s.mode != 1 {
+                            return s;
+                        }
+                        s.pos = pos;
+                        s.ev = ev;
+                        s.mode = missed(how);
+                        i = q;
+                    }
                 }
-                s.pos = pos;
-                s.ev = ev;
-                if how == LAST {
-                    return s;
-                }
-                s.mode = 0;
-                if how == OPTIONAL {
-                    return s;
-                }
-                i = q;
             }
         }
     }

@@ -12,11 +12,10 @@ use Rattle.reader.proofs.Lists.{not-yes, not-no}
 use Rattle.reader.proofs.Sticky.{sticky-exec}
 use Rattle.reader.proofs.Ends.{ends-ok, ends-optional}
 use Rattle.reader.proofs.Eating.{eat-missed, fails-after}
-use Rattle.reader.proofs.Furthest.{expected-nearer}
 use Rattle.grammar.specs.Table.{prog, production, reads}
 use Rattle.grammar.proofs.Cycle.{from, here, plus, plusE, plusB, asksE, asksX, asksS, asksL, stops, Turns, turns, turns-more, turns-undone, turns-over, begun, closing, made, none-made}
 use Rattle.grammar.proofs.Known.{bit-in, bit-in-still, found-bit, known-idle, known-hit, known-through, known-failed}
-use Rattle.grammar.proofs.Lines.{is-line, proper, node-line, memo-line, row-sound, Going, going, ends-at, ends, goes-on, eat-idle, eat-goes, eat-fails, step-goes, node-goes, memo-goes, many-goes, seq-goes, then-stops, then-goes, when-passes, when-good, when-goes, try-stops, try-on, try-opt, try-last, others, try-others}
+use Rattle.grammar.proofs.Lines.{is-line, proper, node-line, memo-line, row-sound, Going, going, ends-at, ends, goes-on, eat-idle, eat-goes, eat-fails, step-goes, node-goes, memo-goes, many-goes, seq-goes, then-stops, then-goes, when-passes, when-good, when-goes, try-stops, try-on, try-fails, failed-wf, first-missed}
 '''
 S, D, O = "({args} .src .now)", "({args} .d)", "({args} .optional)"
 ROWS, WF, LENT = "({pre} .1 .0)", "({pre} .1 .1)", "{pre} .1 .3"
@@ -161,11 +160,10 @@ def trivia(k, good):
 
 
 SKIPS = f"({ROWS} .lines, {HERE} .wf .0 .2 .events, {HERE} .wf .1 .events)"
-GOOD = ["({if3} .left)", f"(when-good ({{args}} .ids .now) ({{loop}} .s) {I} {row('set2')} ({{sees}} .ensures) (not-no _ ({{if4}} .left)))", "({if5} .left)"]
+GOOD = ["({if2} .left)", f"(when-good ({{args}} .ids .now) ({{loop}} .s) {I} {row('set2')} ({{sees}} .ensures) (not-no _ ({{if3}} .left)))", "({if4} .left)"]
 THEN, WHEN, TRIES = trivia("", GOOD[0]), trivia(2, GOOD[1]), trivia(3, GOOD[2])
 EATEN = f"({{eat-at}} .ensures .row _ ({{past}} .given .1) N {S} ({{loop}} .s) ({{if1}} .taken) ({HERE} .wf .0))"
 NONE = "({eat-at} .ensures .none _ ({at} .given .1))"
-NEARER = f"(eat-missed _ N ({{if1}} .taken) {NONE} ({HERE} .wf .1 .events) (fails-after _ (expected-nearer ({HERE} .wf .0) ({NONE} .1) N ({{if2}} .taken))))"
 MISSED = f"(eat-missed _ _ ({{if1}} .taken) {NONE} ({HERE} .wf .1 .events) ({{miss}} .ensures {X} ({HERE} .wf .0) ({NONE} .1)))"
 
 
@@ -174,46 +172,66 @@ def none(fact):
     return fact.replace(" N ", " [] ")
 
 
-TRIED = f"(plus (plusE {HERE} {TRIES}) ({{exec2}} .ensures))"
+# alternatives: the first one's row is missed, or it is read
+AHEAD = f"(plusE {HERE} {TRIES})"
+FIRST_IN = f"omega (arith, {sound('how')} .0 .1, {IN})"
+FIRST_ROW = f"({sound('how')} .0 .0, {FIRST_IN})"
+MISSING = "({first-row} .ensures .missed _ _ _ ({set3} .given .1))"
+NAMED = f"(row-sound _ {FIRST_ROW} ({MISSING} .row) .0)"
+MISSES = f"(eat-missed _ _ ({{if4}} .left) (refl, {MISSING} .peeked, {MISSING} .none) ({AHEAD} .wf .1 .events) (fails-after _ ({{expected}} .ensures {X} ({AHEAD} .wf .0) ({MISSING} .peeked))))"
+LED = f"(first-missed {D} _ ({FIRST_IN}) ({AHEAD} .wf) {MISSING} ({sound('how')} .3 ({MISSING} .asked)) refl _ ({{label2}} .ensures) {MISSES})"
 TRY = f"{AT} {row('how')}"
-CAME = f"{TRY} ({{if5}} .left) refl {TRIED}"
-OTHERS = f"({sound('how')} .1 ({{if8}} .left) ({{if7}} .left))"
+
+
+def came(did):
+    return f"{TRY} ({{if4}} .left) refl (plus {AHEAD} {did})"
+
+
+def fails(k, did, mode, order, calls):
+    """An alternative failed: what is read where it did."""
+    back = f"({{{mode}}} .ensures)"
+    less = f"{sound('how')} .1"
+    k = "" if k == 1 else f"-{k}"
+    kept = [" ∙ ".join(f"{{{c}}} .kept{' .1' * (EVENTS[c.rstrip('0123456789')] + b)} .0" for c in calls if b < LISTS.get(c.rstrip("0123456789"), 3)) or "refl" for b in range(3)]
+    return {f"loop-less{k}": less, f"loop-again{k}": f"goes-on {INV} {SOME} (failed-wf {came(did)} {order} {back}) ({less}) (try-fails {came(did)} {order} {back} ({sound('how')} .2)) ({kept[0]}) ({kept[1]}) ({kept[2]})"}
+
+
 EXEC = {
     "loop-holds": f"going {D} {O} ({{args}} .i) ({{args}} .events .now) ({{args}} .errors .now) ({{args}} .scratch .now) {WF} ({{pre}} .1 .2)",
     "part-at-requires": f"({IN}, {LENT})",
     "eat-at-requires": f"({ROWS} .lines, {HERE} .wf .0 .0 .here, {HERE} .wf .0 .2 .events, {HERE} .wf .1 .events)",
     **again(1, f"(plusE {HERE} {none(EATEN)})", f"{sound('set')} .1", f"eat-goes {AT} {row('set')} (λ N. {EATEN})", ["eat-at"]),
-    **again(2, f"(plusE {HERE} {none(NEARER)})", f"{sound('set')} .1", f"eat-goes {AT} {row('set')} (λ N. {NEARER})", ["eat-at"]),
-    "add-if2": f"omega (arith, {NONE} .1 .within, {ROWS} .lines .few)",
     "label-requires": f"{sound('set')} .0",
     "miss-requires": f"({HERE} .wf .0 .1, proper _ ({sound('set')} .0) ({{label}} .ensures), omega (arith, {NONE} .1 .within, {ROWS} .lines .few))",
-    **again(3, f"(plusE {HERE} {MISSED})", f"{sound('set')} .1", f"eat-fails {AT} {row('set')} _ ({{label}} .ensures) {MISSED}", ["eat-at"]),
-    **again(4, HERE, f"{sound('set')} .1", f"eat-idle {AT} {row('set')} ({{if1}} .left)", []),
+    **again(2, f"(plusE {HERE} {MISSED})", f"{sound('set')} .1", f"eat-fails {AT} {row('set')} _ ({{label}} .ensures) {MISSED}", ["eat-at"]),
+    **again(3, HERE, f"{sound('set')} .1", f"eat-idle {AT} {row('set')} ({{if1}} .left)", []),
     "step-requires": f"asksS {HERE} {ROWS} ({sound('which')} .0)",
-    **again(5, f"(plusB {HERE} ({{step}} .ensures))", f"{sound('which')} .1", f"step-goes {AT} {row('which')} ({sound('which')} .0) (plusB {HERE} ({{step}} .ensures))", ["step"]),
+    **again(4, f"(plusB {HERE} ({{step}} .ensures))", f"{sound('which')} .1", f"step-goes {AT} {row('which')} ({sound('which')} .0) (plusB {HERE} ({{step}} .ensures))", ["step"]),
     "node-requires": below(f"{INV} .wf, node-line {I} {REAL} {row('kind')}"),
-    **again(6, "{node} .ensures", f"{sound('kind')} .2", f"node-goes {AT} {row('kind')} ({{node}} .ensures)", ["node"]),
+    **again(5, "{node} .ensures", f"{sound('kind')} .2", f"node-goes {AT} {row('kind')} ({{node}} .ensures)", ["node"]),
     "cached-requires": below(f"{INV} .wf, memo-line {I} {REAL} {row('kind2')}, {sound('kind2')} .0"),
-    **again(7, "{cached} .ensures", f"{sound('kind2')} .3", f"memo-goes {AT} {row('kind2')} ({{cached}} .ensures)", ["cached"]),
+    **again(6, "{cached} .ensures", f"{sound('kind2')} .3", f"memo-goes {AT} {row('kind2')} ({{cached}} .ensures)", ["cached"]),
     "many-requires": below(f"{INV} .wf, ({sound('p')} .0 .0, omega (arith, {sound('p')} .0 .1, {IN}))", f"{sound('p')} .0 .1"),
-    **again(8, "{many} .ensures", f"{sound('p')} .1", f"many-goes {AT} {row('p')} ({{many}} .ensures)", ["many"]),
+    **again(7, "{many} .ensures", f"{sound('p')} .1", f"many-goes {AT} {row('p')} ({{many}} .ensures)", ["many"]),
     "exec-requires": below(f"{INV} .wf, ({sound('p2')} .0 .0, omega (arith, {sound('p2')} .0 .1, {IN}))", f"{sound('p2')} .0 .1"),
-    **again(9, "{exec} .ensures", f"{sound('p2')} .1 .1", f"seq-goes {AT} {row('p2')} ({sound('p2')} .1 .0) ({{exec}} .ensures)", ["exec"]),
-    **leaves(1, [], f"then-stops {AT} {row('p3')} ({{if3}} .taken)"),
+    **again(8, "{exec} .ensures", f"{sound('p2')} .1 .1", f"seq-goes {AT} {row('p2')} ({sound('p2')} .1 .0) ({{exec}} .ensures)", ["exec"]),
+    **leaves(1, [], f"then-stops {AT} {row('p3')} ({{if2}} .taken)"),
     "skip-trivia-requires": SKIPS,
-    **again(10, f"(plusE {HERE} {THEN})", f"{sound('p3')} .1", f"then-goes {AT} {row('p3')} ({sound('p3')} .0) ({{if3}} .left) {THEN}", ["skip-trivia"]),
+    **again(9, f"(plusE {HERE} {THEN})", f"{sound('p3')} .1", f"then-goes {AT} {row('p3')} ({sound('p3')} .0) ({{if2}} .left) {THEN}", ["skip-trivia"]),
     "sees-requires": f"{HERE} .wf .0",
-    "step-requires-2": f"asksL {HERE} {ROWS} (λ e. sym ({{sees}} .ensures) ∙ not-yes _ ({{if4}} .taken))",
-    **leaves(2, ["step2"], f"when-passes {AT} {row('set2')} ({{sees}} .ensures) (not-yes _ ({{if4}} .taken)) (plusB {HERE} ({{step2}} .ensures))"),
+    "step-requires-2": f"asksL {HERE} {ROWS} (λ e. sym ({{sees}} .ensures) ∙ not-yes _ ({{if3}} .taken))",
+    **leaves(2, ["step2"], f"when-passes {AT} {row('set2')} ({{sees}} .ensures) (not-yes _ ({{if3}} .taken)) (plusB {HERE} ({{step2}} .ensures))"),
     "skip-trivia-requires-2": SKIPS,
-    **again(11, f"(plusE {HERE} {WHEN})", f"{sound('set2')} .1", f"when-goes {AT} {row('set2')} ({sound('set2')} .0) ({{sees}} .ensures) (not-no _ ({{if4}} .left)) {WHEN}", ["skip-trivia2"]),
-    **leaves(3, [], f"try-stops {TRY} ({{if5}} .taken)"),
+    **again(10, f"(plusE {HERE} {WHEN})", f"{sound('set2')} .1", f"when-goes {AT} {row('set2')} ({sound('set2')} .0) ({{sees}} .ensures) (not-no _ ({{if3}} .left)) {WHEN}", ["skip-trivia2"]),
+    **leaves(3, [], f"try-stops {TRY} ({{if4}} .taken)"),
     "skip-trivia-requires-3": SKIPS,
-    "exec-requires-2": below(f"(plusE {HERE} {TRIES}) .wf, ({sound('how')} .0 .0, omega (arith, {sound('how')} .0 .1, {IN}))", f"{sound('how')} .0 .1"),
-    **leaves(4, ["exec2", "skip-trivia3"], f"try-on {CAME} ({{if6}} .taken)"),
-    **leaves(5, ["exec2", "skip-trivia3"], f"try-last {CAME} ({{if6}} .left) (λ e. omega (arith, e, {{if7}} .taken)) ({{if7}} .taken) refl"),
-    **leaves(6, ["exec2", "skip-trivia3"], f"try-opt {CAME} ({{if6}} .left) ({{if8}} .taken) refl"),
-    **again(12, f"(others {CAME} ({{if6}} .left) refl .here)", f"{OTHERS} .1", f"try-others {CAME} ({{if8}} .left) ({{if7}} .left) ({OTHERS} .0) ({{if6}} .left) refl", ["exec2", "skip-trivia3"]),
-    **returns(7, [], f"ends {INV} ({{loop-test}} .left)"),
+    "first-row-requires": f"({FIRST_IN}, {LENT}, {AHEAD} .wf .0 .0 .here)",
+    "label-requires-2": NAMED,
+    "expected-requires": f"({AHEAD} .wf .0 .1, proper _ {NAMED} ({{label2}} .ensures), omega (arith, {MISSING} .peeked .within, {ROWS} .lines .few))",
+    **fails(11, LED, "missed", "refl", ["skip-trivia3"]),
+    "exec-requires-2": below(f"{AHEAD} .wf, {FIRST_ROW}", f"{sound('how')} .0 .1"),
+    **leaves(4, ["exec2", "skip-trivia3"], f"try-on {came('({exec2} .ensures)')} ({{if5}} .taken)"),
+    **fails(12, "({exec2} .ensures)", "missed2", "({if5} .left)", ["exec2", "skip-trivia3"]),
+    **returns(5, [], f"ends {INV} ({{loop-test}} .left)"),
 }
 ANSWERS = {"many": MANY, "node": NODE, "cached": CACHED, "exec": EXEC}

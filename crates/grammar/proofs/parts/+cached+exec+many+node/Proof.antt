@@ -11,11 +11,10 @@ use Rattle.reader.proofs.Lists.{not-yes, not-no}
 use Rattle.reader.proofs.Sticky.{sticky-exec}
 use Rattle.reader.proofs.Ends.{ends-ok, ends-optional}
 use Rattle.reader.proofs.Eating.{eat-missed, fails-after}
-use Rattle.reader.proofs.Furthest.{expected-nearer}
 use Rattle.grammar.specs.Table.{prog, production, reads}
 use Rattle.grammar.proofs.Cycle.{from, here, plus, plusE, plusB, asksE, asksX, asksS, asksL, stops, Turns, turns, turns-more, turns-undone, turns-over, begun, closing, made, none-made}
 use Rattle.grammar.proofs.Known.{bit-in, bit-in-still, found-bit, known-idle, known-hit, known-through, known-failed}
-use Rattle.grammar.proofs.Lines.{is-line, proper, node-line, memo-line, row-sound, Going, going, ends-at, ends, goes-on, eat-idle, eat-goes, eat-fails, step-goes, node-goes, memo-goes, many-goes, seq-goes, then-stops, then-goes, when-passes, when-good, when-goes, try-stops, try-on, try-opt, try-last, others, try-others}
+use Rattle.grammar.proofs.Lines.{is-line, proper, node-line, memo-line, row-sound, Going, going, ends-at, ends, goes-on, eat-idle, eat-goes, eat-fails, step-goes, node-goes, memo-goes, many-goes, seq-goes, then-stops, then-goes, when-passes, when-good, when-goes, try-stops, try-on, try-fails, failed-wf, first-missed}
 use Prim.Native.Nat.{ℕ, _<_}
 use borrow.Fn.Kinds.{In}
 use borrow.Fn.PlainCycle.{Measures, is, falls, and}
@@ -32,11 +31,14 @@ use Rattle.grammar.proofs.parts.node.Reads as node
 use Rattle.grammar.proofs.parts.node.Kinds as node-kinds
 use Rattle.grammar.proofs.parts.+cached+exec+many+node.Lts-node as node-lts
 use Rattle.grammar.proofs.parts.bit_of.Reads as bit-of-reads
+use Rattle.grammar.proofs.parts.first_row.Reads as first-row-reads
 use Rattle.grammar.proofs.parts.label.Reads as label-reads
+use Rattle.grammar.proofs.parts.missed.Reads as missed-reads
 use Rattle.grammar.proofs.parts.part_at.Reads as part-at-reads
 use Rattle.grammar.proofs.parts.step.Reads as step-reads
 use Rattle.reader.proofs.cache.seen.Reads as seen-reads
 use Rattle.reader.proofs.state.State.end.Reads as end-reads
+use Rattle.reader.proofs.state.State.expected.Reads as expected-reads
 use Rattle.reader.proofs.state.State.mark.Reads as mark-reads
 use Rattle.reader.proofs.state.State.miss.Reads as miss-reads
 use Rattle.reader.proofs.state.State.remembers.Reads as remembers-reads
@@ -141,7 +143,7 @@ abbrev exec-μ-loop : exec-lts.MeasureT-loop
 exec-μ-loop i₀ s₀ d optional src ids ends events₀ errors₀ scratch₀ table i s events errors scratch = i
 
 abbrev exec-cs : ℕ → exec-lts.Claims
-exec-cs t = (part-at-reads.Asked, part-at-reads.Learnt, eat-at-reads.Asked, eat-at-reads.Learnt, label-reads.Asked, label-reads.Learnt, miss-reads.Asked, miss-reads.Learnt, step-reads.Asked, step-reads.Learnt, node-below t, node.Post, cached-below t, cached.Post, many-below t, many.Post, exec-below t, exec.Post, skip-trivia-reads.Asked, skip-trivia-reads.Learnt, sees-reads.Asked, sees-reads.Learnt)
+exec-cs t = (part-at-reads.Asked, part-at-reads.Learnt, eat-at-reads.Asked, eat-at-reads.Learnt, label-reads.Asked, label-reads.Learnt, miss-reads.Asked, miss-reads.Learnt, step-reads.Asked, step-reads.Learnt, node-below t, node.Post, cached-below t, cached.Post, many-below t, many.Post, exec-below t, exec.Post, skip-trivia-reads.Asked, skip-trivia-reads.Learnt, sees-reads.Asked, sees-reads.Learnt, first-row-reads.Asked, first-row-reads.Learnt, expected-reads.Asked, expected-reads.Learnt, missed-reads.Asked, missed-reads.Learnt)
 
 exec-loop-holds : (t : ℕ) → exec-lts.Need-loop-holds (exec-cs t) (exec-at t) exec.Post exec-Inv-loop exec-μ-loop
 exec-loop-holds t c = going (c .before .before .before .before .before .before .before .args .d) (c .before .before .before .before .before .before .before .args .optional) (c .before .before .before .before .before .before .before .args .i) (c .before .before .before .before .before .before .before .args .events .now) (c .before .before .before .before .before .before .before .args .errors .now) (c .before .before .before .before .before .before .before .args .scratch .now) (c .before .before .before .before .before .before .before .pre .1 .1) (c .before .before .before .before .before .before .before .pre .1 .2)
@@ -167,32 +169,23 @@ exec-loop-again t c = goes-on (c .before .before .before .before .before .before
 exec-enum-known-at : (t : ℕ) → exec-lts.Need-enum-known-at (exec-cs t) (exec-at t) exec.Post exec-Inv-loop exec-μ-loop
 exec-enum-known-at t c = search needs
 
-exec-add-if2 : (t : ℕ) → exec-lts.Need-add-if2 (exec-cs t) (exec-at t) exec.Post exec-Inv-loop exec-μ-loop
-exec-add-if2 t c = omega (arith, (c .before .before .before .before .before .eat-at .ensures .none _ (c .before .at .given .1)) .1 .within, (c .before .before .before .before .before .before .before .before .before .before .before .before .before .before .before .before .before .before .before .before .before .before .pre .1 .0) .lines .few)
+exec-label-requires : (t : ℕ) → exec-lts.Need-label-requires (exec-cs t) (exec-at t) exec.Post exec-Inv-loop exec-μ-loop
+exec-label-requires t c κs = row-sound (c .before .before .before .before .before .before .before .before .before .before .before .before .before .before .loop .i) ((c .before .before .before .before .before .before .before .before .before .before .before .before .before .loop-test .taken), (c .before .before .before .before .before .before .before .before .before .before .before .before .before .before .loop .inv .inside)) (sym (c .before .before .before .before .before .before .before .before .before .before .set .given .1) ∙ c .before .before .before .before .before .before .before .before .before .before .before .before .part-at .ensures) .0
+
+exec-miss-requires : (t : ℕ) → exec-lts.Need-miss-requires (exec-cs t) (exec-at t) exec.Post exec-Inv-loop exec-μ-loop
+exec-miss-requires t c κs = ((from (source (c .before .before .before .before .before .before .before .before .before .before .before .before .before .before .before .before .before .before .before .before .before .before .before .args .src .now) (c .before .before .before .before .before .before .before .before .before .before .before .before .before .before .before .before .before .before .before .before .before .before .before .args .ids .now) (c .before .before .before .before .before .before .before .before .before .before .before .before .before .before .before .before .before .before .before .before .before .before .before .args .ends .now)) (c .before .before .before .before .before .before .before .before .before .before .before .before .before .before .before .loop .s) (c .before .before .before .before .before .before .before .before .before .before .before .before .before .before .before .loop .events) (c .before .before .before .before .before .before .before .before .before .before .before .before .before .before .before .loop .errors) (c .before .before .before .before .before .before .before .before .before .before .before .before .before .before .before .loop .scratch) (c .before .before .before .before .before .before .before .before .before .before .before .before .before .before .before .loop .inv .wf)) .wf .0 .1, proper _ (row-sound (c .before .before .before .before .before .before .before .before .before .before .before .before .before .before .before .loop .i) ((c .before .before .before .before .before .before .before .before .before .before .before .before .before .before .loop-test .taken), (c .before .before .before .before .before .before .before .before .before .before .before .before .before .before .before .loop .inv .inside)) (sym (c .before .before .before .before .before .before .before .before .before .before .before .set .given .1) ∙ c .before .before .before .before .before .before .before .before .before .before .before .before .before .part-at .ensures) .0) (c .label .ensures), omega (arith, (c .before .before .before .before .before .before .eat-at .ensures .none _ (c .before .before .at .given .1)) .1 .within, (c .before .before .before .before .before .before .before .before .before .before .before .before .before .before .before .before .before .before .before .before .before .before .before .pre .1 .0) .lines .few))
 
 exec-loop-less-2 : (t : ℕ) → exec-lts.Need-loop-less-2 (exec-cs t) (exec-at t) exec.Post exec-Inv-loop exec-μ-loop
 exec-loop-less-2 t c = row-sound (c .before .before .before .before .before .before .before .before .before .before .before .before .before .before .before .before .loop .i) ((c .before .before .before .before .before .before .before .before .before .before .before .before .before .before .before .loop-test .taken), (c .before .before .before .before .before .before .before .before .before .before .before .before .before .before .before .before .loop .inv .inside)) (sym (c .before .before .before .before .before .before .before .before .before .before .before .before .set .given .1) ∙ c .before .before .before .before .before .before .before .before .before .before .before .before .before .before .part-at .ensures) .1
 
 exec-loop-again-2 : (t : ℕ) → exec-lts.Need-loop-again-2 (exec-cs t) (exec-at t) exec.Post exec-Inv-loop exec-μ-loop
-exec-loop-again-2 t c = goes-on (c .before .before .before .before .before .before .before .before .before .before .before .before .before .before .before .before .loop .inv) (c .before .before .before .before .before .before .before .before .before .before .before .before .before .before .before .loop-test .taken) ((plusE (from (source (c .before .before .before .before .before .before .before .before .before .before .before .before .before .before .before .before .before .before .before .before .before .before .before .before .args .src .now) (c .before .before .before .before .before .before .before .before .before .before .before .before .before .before .before .before .before .before .before .before .before .before .before .before .args .ids .now) (c .before .before .before .before .before .before .before .before .before .before .before .before .before .before .before .before .before .before .before .before .before .before .before .before .args .ends .now)) (c .before .before .before .before .before .before .before .before .before .before .before .before .before .before .before .before .loop .s) (c .before .before .before .before .before .before .before .before .before .before .before .before .before .before .before .before .loop .events) (c .before .before .before .before .before .before .before .before .before .before .before .before .before .before .before .before .loop .errors) (c .before .before .before .before .before .before .before .before .before .before .before .before .before .before .before .before .loop .scratch) (c .before .before .before .before .before .before .before .before .before .before .before .before .before .before .before .before .loop .inv .wf)) (eat-missed _ [] (c .before .before .before .before .before .before .before .before .before .if1 .taken) (c .before .before .before .before .before .before .before .eat-at .ensures .none _ (c .before .before .before .at .given .1)) ((from (source (c .before .before .before .before .before .before .before .before .before .before .before .before .before .before .before .before .before .before .before .before .before .before .before .before .args .src .now) (c .before .before .before .before .before .before .before .before .before .before .before .before .before .before .before .before .before .before .before .before .before .before .before .before .args .ids .now) (c .before .before .before .before .before .before .before .before .before .before .before .before .before .before .before .before .before .before .before .before .before .before .before .before .args .ends .now)) (c .before .before .before .before .before .before .before .before .before .before .before .before .before .before .before .before .loop .s) (c .before .before .before .before .before .before .before .before .before .before .before .before .before .before .before .before .loop .events) (c .before .before .before .before .before .before .before .before .before .before .before .before .before .before .before .before .loop .errors) (c .before .before .before .before .before .before .before .before .before .before .before .before .before .before .before .before .loop .scratch) (c .before .before .before .before .before .before .before .before .before .before .before .before .before .before .before .before .loop .inv .wf)) .wf .1 .events) (fails-after _ (expected-nearer ((from (source (c .before .before .before .before .before .before .before .before .before .before .before .before .before .before .before .before .before .before .before .before .before .before .before .before .args .src .now) (c .before .before .before .before .before .before .before .before .before .before .before .before .before .before .before .before .before .before .before .before .before .before .before .before .args .ids .now) (c .before .before .before .before .before .before .before .before .before .before .before .before .before .before .before .before .before .before .before .before .before .before .before .before .args .ends .now)) (c .before .before .before .before .before .before .before .before .before .before .before .before .before .before .before .before .loop .s) (c .before .before .before .before .before .before .before .before .before .before .before .before .before .before .before .before .loop .events) (c .before .before .before .before .before .before .before .before .before .before .before .before .before .before .before .before .loop .errors) (c .before .before .before .before .before .before .before .before .before .before .before .before .before .before .before .before .loop .scratch) (c .before .before .before .before .before .before .before .before .before .before .before .before .before .before .before .before .loop .inv .wf)) .wf .0) ((c .before .before .before .before .before .before .before .eat-at .ensures .none _ (c .before .before .before .at .given .1)) .1) [] (c .if2 .taken))))) .wf) (row-sound (c .before .before .before .before .before .before .before .before .before .before .before .before .before .before .before .before .loop .i) ((c .before .before .before .before .before .before .before .before .before .before .before .before .before .before .before .loop-test .taken), (c .before .before .before .before .before .before .before .before .before .before .before .before .before .before .before .before .loop .inv .inside)) (sym (c .before .before .before .before .before .before .before .before .before .before .before .before .set .given .1) ∙ c .before .before .before .before .before .before .before .before .before .before .before .before .before .before .part-at .ensures) .1) (eat-goes (c .before .before .before .before .before .before .before .before .before .before .before .before .before .before .before .before .before .before .before .before .before .before .before .before .args .d) (c .before .before .before .before .before .before .before .before .before .before .before .before .before .before .before .before .before .before .before .before .before .before .before .before .args .optional) (c .before .before .before .before .before .before .before .before .before .before .before .before .before .before .before .before .loop .i) (c .before .before .before .before .before .before .before .before .before .before .before .before .before .before .before .before .loop .inv .inside) (c .before .before .before .before .before .before .before .before .before .before .before .before .before .before .before .before .loop .events) (c .before .before .before .before .before .before .before .before .before .before .before .before .before .before .before .before .loop .errors) (c .before .before .before .before .before .before .before .before .before .before .before .before .before .before .before .before .loop .scratch) (c .before .before .before .before .before .before .before .before .before .before .before .before .before .before .before .before .loop .inv .wf) (sym (c .before .before .before .before .before .before .before .before .before .before .before .before .set .given .1) ∙ c .before .before .before .before .before .before .before .before .before .before .before .before .before .before .part-at .ensures) (λ N. (eat-missed _ N (c .before .before .before .before .before .before .before .before .before .if1 .taken) (c .before .before .before .before .before .before .before .eat-at .ensures .none _ (c .before .before .before .at .given .1)) ((from (source (c .before .before .before .before .before .before .before .before .before .before .before .before .before .before .before .before .before .before .before .before .before .before .before .before .args .src .now) (c .before .before .before .before .before .before .before .before .before .before .before .before .before .before .before .before .before .before .before .before .before .before .before .before .args .ids .now) (c .before .before .before .before .before .before .before .before .before .before .before .before .before .before .before .before .before .before .before .before .before .before .before .before .args .ends .now)) (c .before .before .before .before .before .before .before .before .before .before .before .before .before .before .before .before .loop .s) (c .before .before .before .before .before .before .before .before .before .before .before .before .before .before .before .before .loop .events) (c .before .before .before .before .before .before .before .before .before .before .before .before .before .before .before .before .loop .errors) (c .before .before .before .before .before .before .before .before .before .before .before .before .before .before .before .before .loop .scratch) (c .before .before .before .before .before .before .before .before .before .before .before .before .before .before .before .before .loop .inv .wf)) .wf .1 .events) (fails-after _ (expected-nearer ((from (source (c .before .before .before .before .before .before .before .before .before .before .before .before .before .before .before .before .before .before .before .before .before .before .before .before .args .src .now) (c .before .before .before .before .before .before .before .before .before .before .before .before .before .before .before .before .before .before .before .before .before .before .before .before .args .ids .now) (c .before .before .before .before .before .before .before .before .before .before .before .before .before .before .before .before .before .before .before .before .before .before .before .before .args .ends .now)) (c .before .before .before .before .before .before .before .before .before .before .before .before .before .before .before .before .loop .s) (c .before .before .before .before .before .before .before .before .before .before .before .before .before .before .before .before .loop .events) (c .before .before .before .before .before .before .before .before .before .before .before .before .before .before .before .before .loop .errors) (c .before .before .before .before .before .before .before .before .before .before .before .before .before .before .before .before .loop .scratch) (c .before .before .before .before .before .before .before .before .before .before .before .before .before .before .before .before .loop .inv .wf)) .wf .0) ((c .before .before .before .before .before .before .before .eat-at .ensures .none _ (c .before .before .before .at .given .1)) .1) N (c .if2 .taken)))))) (c .before .before .before .before .before .before .before .eat-at .kept .1 .1 .1 .1 .1 .1 .1 .0) (refl) (refl)
-
-exec-label-requires : (t : ℕ) → exec-lts.Need-label-requires (exec-cs t) (exec-at t) exec.Post exec-Inv-loop exec-μ-loop
-exec-label-requires t c κs = row-sound (c .before .before .before .before .before .before .before .before .before .before .before .before .before .before .before .before .loop .i) ((c .before .before .before .before .before .before .before .before .before .before .before .before .before .before .before .loop-test .taken), (c .before .before .before .before .before .before .before .before .before .before .before .before .before .before .before .before .loop .inv .inside)) (sym (c .before .before .before .before .before .before .before .before .before .before .before .before .set .given .1) ∙ c .before .before .before .before .before .before .before .before .before .before .before .before .before .before .part-at .ensures) .0
-
-exec-miss-requires : (t : ℕ) → exec-lts.Need-miss-requires (exec-cs t) (exec-at t) exec.Post exec-Inv-loop exec-μ-loop
-exec-miss-requires t c κs = ((from (source (c .before .before .before .before .before .before .before .before .before .before .before .before .before .before .before .before .before .before .before .before .before .before .before .before .before .args .src .now) (c .before .before .before .before .before .before .before .before .before .before .before .before .before .before .before .before .before .before .before .before .before .before .before .before .before .args .ids .now) (c .before .before .before .before .before .before .before .before .before .before .before .before .before .before .before .before .before .before .before .before .before .before .before .before .before .args .ends .now)) (c .before .before .before .before .before .before .before .before .before .before .before .before .before .before .before .before .before .loop .s) (c .before .before .before .before .before .before .before .before .before .before .before .before .before .before .before .before .before .loop .events) (c .before .before .before .before .before .before .before .before .before .before .before .before .before .before .before .before .before .loop .errors) (c .before .before .before .before .before .before .before .before .before .before .before .before .before .before .before .before .before .loop .scratch) (c .before .before .before .before .before .before .before .before .before .before .before .before .before .before .before .before .before .loop .inv .wf)) .wf .0 .1, proper _ (row-sound (c .before .before .before .before .before .before .before .before .before .before .before .before .before .before .before .before .before .loop .i) ((c .before .before .before .before .before .before .before .before .before .before .before .before .before .before .before .before .loop-test .taken), (c .before .before .before .before .before .before .before .before .before .before .before .before .before .before .before .before .before .loop .inv .inside)) (sym (c .before .before .before .before .before .before .before .before .before .before .before .before .before .set .given .1) ∙ c .before .before .before .before .before .before .before .before .before .before .before .before .before .before .before .part-at .ensures) .0) (c .label .ensures), omega (arith, (c .before .before .before .before .before .before .before .before .eat-at .ensures .none _ (c .before .before .before .before .at .given .1)) .1 .within, (c .before .before .before .before .before .before .before .before .before .before .before .before .before .before .before .before .before .before .before .before .before .before .before .before .before .pre .1 .0) .lines .few))
+exec-loop-again-2 t c = goes-on (c .before .before .before .before .before .before .before .before .before .before .before .before .before .before .before .before .loop .inv) (c .before .before .before .before .before .before .before .before .before .before .before .before .before .before .before .loop-test .taken) ((plusE (from (source (c .before .before .before .before .before .before .before .before .before .before .before .before .before .before .before .before .before .before .before .before .before .before .before .before .args .src .now) (c .before .before .before .before .before .before .before .before .before .before .before .before .before .before .before .before .before .before .before .before .before .before .before .before .args .ids .now) (c .before .before .before .before .before .before .before .before .before .before .before .before .before .before .before .before .before .before .before .before .before .before .before .before .args .ends .now)) (c .before .before .before .before .before .before .before .before .before .before .before .before .before .before .before .before .loop .s) (c .before .before .before .before .before .before .before .before .before .before .before .before .before .before .before .before .loop .events) (c .before .before .before .before .before .before .before .before .before .before .before .before .before .before .before .before .loop .errors) (c .before .before .before .before .before .before .before .before .before .before .before .before .before .before .before .before .loop .scratch) (c .before .before .before .before .before .before .before .before .before .before .before .before .before .before .before .before .loop .inv .wf)) (eat-missed _ _ (c .before .before .before .before .before .before .before .before .before .if1 .taken) (c .before .before .before .before .before .before .before .eat-at .ensures .none _ (c .before .before .before .at .given .1)) ((from (source (c .before .before .before .before .before .before .before .before .before .before .before .before .before .before .before .before .before .before .before .before .before .before .before .before .args .src .now) (c .before .before .before .before .before .before .before .before .before .before .before .before .before .before .before .before .before .before .before .before .before .before .before .before .args .ids .now) (c .before .before .before .before .before .before .before .before .before .before .before .before .before .before .before .before .before .before .before .before .before .before .before .before .args .ends .now)) (c .before .before .before .before .before .before .before .before .before .before .before .before .before .before .before .before .loop .s) (c .before .before .before .before .before .before .before .before .before .before .before .before .before .before .before .before .loop .events) (c .before .before .before .before .before .before .before .before .before .before .before .before .before .before .before .before .loop .errors) (c .before .before .before .before .before .before .before .before .before .before .before .before .before .before .before .before .loop .scratch) (c .before .before .before .before .before .before .before .before .before .before .before .before .before .before .before .before .loop .inv .wf)) .wf .1 .events) (c .miss .ensures (source (c .before .before .before .before .before .before .before .before .before .before .before .before .before .before .before .before .before .before .before .before .before .before .before .before .args .src .now) (c .before .before .before .before .before .before .before .before .before .before .before .before .before .before .before .before .before .before .before .before .before .before .before .before .args .ids .now) (c .before .before .before .before .before .before .before .before .before .before .before .before .before .before .before .before .before .before .before .before .before .before .before .before .args .ends .now)) ((from (source (c .before .before .before .before .before .before .before .before .before .before .before .before .before .before .before .before .before .before .before .before .before .before .before .before .args .src .now) (c .before .before .before .before .before .before .before .before .before .before .before .before .before .before .before .before .before .before .before .before .before .before .before .before .args .ids .now) (c .before .before .before .before .before .before .before .before .before .before .before .before .before .before .before .before .before .before .before .before .before .before .before .before .args .ends .now)) (c .before .before .before .before .before .before .before .before .before .before .before .before .before .before .before .before .loop .s) (c .before .before .before .before .before .before .before .before .before .before .before .before .before .before .before .before .loop .events) (c .before .before .before .before .before .before .before .before .before .before .before .before .before .before .before .before .loop .errors) (c .before .before .before .before .before .before .before .before .before .before .before .before .before .before .before .before .loop .scratch) (c .before .before .before .before .before .before .before .before .before .before .before .before .before .before .before .before .loop .inv .wf)) .wf .0) ((c .before .before .before .before .before .before .before .eat-at .ensures .none _ (c .before .before .before .at .given .1)) .1)))) .wf) (row-sound (c .before .before .before .before .before .before .before .before .before .before .before .before .before .before .before .before .loop .i) ((c .before .before .before .before .before .before .before .before .before .before .before .before .before .before .before .loop-test .taken), (c .before .before .before .before .before .before .before .before .before .before .before .before .before .before .before .before .loop .inv .inside)) (sym (c .before .before .before .before .before .before .before .before .before .before .before .before .set .given .1) ∙ c .before .before .before .before .before .before .before .before .before .before .before .before .before .before .part-at .ensures) .1) (eat-fails (c .before .before .before .before .before .before .before .before .before .before .before .before .before .before .before .before .before .before .before .before .before .before .before .before .args .d) (c .before .before .before .before .before .before .before .before .before .before .before .before .before .before .before .before .before .before .before .before .before .before .before .before .args .optional) (c .before .before .before .before .before .before .before .before .before .before .before .before .before .before .before .before .loop .i) (c .before .before .before .before .before .before .before .before .before .before .before .before .before .before .before .before .loop .inv .inside) (c .before .before .before .before .before .before .before .before .before .before .before .before .before .before .before .before .loop .events) (c .before .before .before .before .before .before .before .before .before .before .before .before .before .before .before .before .loop .errors) (c .before .before .before .before .before .before .before .before .before .before .before .before .before .before .before .before .loop .scratch) (c .before .before .before .before .before .before .before .before .before .before .before .before .before .before .before .before .loop .inv .wf) (sym (c .before .before .before .before .before .before .before .before .before .before .before .before .set .given .1) ∙ c .before .before .before .before .before .before .before .before .before .before .before .before .before .before .part-at .ensures) _ (c .before .label .ensures) (eat-missed _ _ (c .before .before .before .before .before .before .before .before .before .if1 .taken) (c .before .before .before .before .before .before .before .eat-at .ensures .none _ (c .before .before .before .at .given .1)) ((from (source (c .before .before .before .before .before .before .before .before .before .before .before .before .before .before .before .before .before .before .before .before .before .before .before .before .args .src .now) (c .before .before .before .before .before .before .before .before .before .before .before .before .before .before .before .before .before .before .before .before .before .before .before .before .args .ids .now) (c .before .before .before .before .before .before .before .before .before .before .before .before .before .before .before .before .before .before .before .before .before .before .before .before .args .ends .now)) (c .before .before .before .before .before .before .before .before .before .before .before .before .before .before .before .before .loop .s) (c .before .before .before .before .before .before .before .before .before .before .before .before .before .before .before .before .loop .events) (c .before .before .before .before .before .before .before .before .before .before .before .before .before .before .before .before .loop .errors) (c .before .before .before .before .before .before .before .before .before .before .before .before .before .before .before .before .loop .scratch) (c .before .before .before .before .before .before .before .before .before .before .before .before .before .before .before .before .loop .inv .wf)) .wf .1 .events) (c .miss .ensures (source (c .before .before .before .before .before .before .before .before .before .before .before .before .before .before .before .before .before .before .before .before .before .before .before .before .args .src .now) (c .before .before .before .before .before .before .before .before .before .before .before .before .before .before .before .before .before .before .before .before .before .before .before .before .args .ids .now) (c .before .before .before .before .before .before .before .before .before .before .before .before .before .before .before .before .before .before .before .before .before .before .before .before .args .ends .now)) ((from (source (c .before .before .before .before .before .before .before .before .before .before .before .before .before .before .before .before .before .before .before .before .before .before .before .before .args .src .now) (c .before .before .before .before .before .before .before .before .before .before .before .before .before .before .before .before .before .before .before .before .before .before .before .before .args .ids .now) (c .before .before .before .before .before .before .before .before .before .before .before .before .before .before .before .before .before .before .before .before .before .before .before .before .args .ends .now)) (c .before .before .before .before .before .before .before .before .before .before .before .before .before .before .before .before .loop .s) (c .before .before .before .before .before .before .before .before .before .before .before .before .before .before .before .before .loop .events) (c .before .before .before .before .before .before .before .before .before .before .before .before .before .before .before .before .loop .errors) (c .before .before .before .before .before .before .before .before .before .before .before .before .before .before .before .before .loop .scratch) (c .before .before .before .before .before .before .before .before .before .before .before .before .before .before .before .before .loop .inv .wf)) .wf .0) ((c .before .before .before .before .before .before .before .eat-at .ensures .none _ (c .before .before .before .at .given .1)) .1)))) (c .before .before .before .before .before .before .before .eat-at .kept .1 .1 .1 .1 .1 .1 .1 .0) (refl) (refl)
 
 exec-loop-less-3 : (t : ℕ) → exec-lts.Need-loop-less-3 (exec-cs t) (exec-at t) exec.Post exec-Inv-loop exec-μ-loop
-exec-loop-less-3 t c = row-sound (c .before .before .before .before .before .before .before .before .before .before .before .before .before .before .before .before .before .before .loop .i) ((c .before .before .before .before .before .before .before .before .before .before .before .before .before .before .before .before .before .loop-test .taken), (c .before .before .before .before .before .before .before .before .before .before .before .before .before .before .before .before .before .before .loop .inv .inside)) (sym (c .before .before .before .before .before .before .before .before .before .before .before .before .before .before .set .given .1) ∙ c .before .before .before .before .before .before .before .before .before .before .before .before .before .before .before .before .part-at .ensures) .1
+exec-loop-less-3 t c = row-sound (c .before .before .before .before .before .before .before .loop .i) ((c .before .before .before .before .before .before .loop-test .taken), (c .before .before .before .before .before .before .before .loop .inv .inside)) (sym (c .before .before .before .set .given .1) ∙ c .before .before .before .before .before .part-at .ensures) .1
 
 exec-loop-again-3 : (t : ℕ) → exec-lts.Need-loop-again-3 (exec-cs t) (exec-at t) exec.Post exec-Inv-loop exec-μ-loop
-exec-loop-again-3 t c = goes-on (c .before .before .before .before .before .before .before .before .before .before .before .before .before .before .before .before .before .before .loop .inv) (c .before .before .before .before .before .before .before .before .before .before .before .before .before .before .before .before .before .loop-test .taken) ((plusE (from (source (c .before .before .before .before .before .before .before .before .before .before .before .before .before .before .before .before .before .before .before .before .before .before .before .before .before .before .args .src .now) (c .before .before .before .before .before .before .before .before .before .before .before .before .before .before .before .before .before .before .before .before .before .before .before .before .before .before .args .ids .now) (c .before .before .before .before .before .before .before .before .before .before .before .before .before .before .before .before .before .before .before .before .before .before .before .before .before .before .args .ends .now)) (c .before .before .before .before .before .before .before .before .before .before .before .before .before .before .before .before .before .before .loop .s) (c .before .before .before .before .before .before .before .before .before .before .before .before .before .before .before .before .before .before .loop .events) (c .before .before .before .before .before .before .before .before .before .before .before .before .before .before .before .before .before .before .loop .errors) (c .before .before .before .before .before .before .before .before .before .before .before .before .before .before .before .before .before .before .loop .scratch) (c .before .before .before .before .before .before .before .before .before .before .before .before .before .before .before .before .before .before .loop .inv .wf)) (eat-missed _ _ (c .before .before .before .before .before .before .before .before .before .before .before .if1 .taken) (c .before .before .before .before .before .before .before .before .before .eat-at .ensures .none _ (c .before .before .before .before .before .at .given .1)) ((from (source (c .before .before .before .before .before .before .before .before .before .before .before .before .before .before .before .before .before .before .before .before .before .before .before .before .before .before .args .src .now) (c .before .before .before .before .before .before .before .before .before .before .before .before .before .before .before .before .before .before .before .before .before .before .before .before .before .before .args .ids .now) (c .before .before .before .before .before .before .before .before .before .before .before .before .before .before .before .before .before .before .before .before .before .before .before .before .before .before .args .ends .now)) (c .before .before .before .before .before .before .before .before .before .before .before .before .before .before .before .before .before .before .loop .s) (c .before .before .before .before .before .before .before .before .before .before .before .before .before .before .before .before .before .before .loop .events) (c .before .before .before .before .before .before .before .before .before .before .before .before .before .before .before .before .before .before .loop .errors) (c .before .before .before .before .before .before .before .before .before .before .before .before .before .before .before .before .before .before .loop .scratch) (c .before .before .before .before .before .before .before .before .before .before .before .before .before .before .before .before .before .before .loop .inv .wf)) .wf .1 .events) (c .miss .ensures (source (c .before .before .before .before .before .before .before .before .before .before .before .before .before .before .before .before .before .before .before .before .before .before .before .before .before .before .args .src .now) (c .before .before .before .before .before .before .before .before .before .before .before .before .before .before .before .before .before .before .before .before .before .before .before .before .before .before .args .ids .now) (c .before .before .before .before .before .before .before .before .before .before .before .before .before .before .before .before .before .before .before .before .before .before .before .before .before .before .args .ends .now)) ((from (source (c .before .before .before .before .before .before .before .before .before .before .before .before .before .before .before .before .before .before .before .before .before .before .before .before .before .before .args .src .now) (c .before .before .before .before .before .before .before .before .before .before .before .before .before .before .before .before .before .before .before .before .before .before .before .before .before .before .args .ids .now) (c .before .before .before .before .before .before .before .before .before .before .before .before .before .before .before .before .before .before .before .before .before .before .before .before .before .before .args .ends .now)) (c .before .before .before .before .before .before .before .before .before .before .before .before .before .before .before .before .before .before .loop .s) (c .before .before .before .before .before .before .before .before .before .before .before .before .before .before .before .before .before .before .loop .events) (c .before .before .before .before .before .before .before .before .before .before .before .before .before .before .before .before .before .before .loop .errors) (c .before .before .before .before .before .before .before .before .before .before .before .before .before .before .before .before .before .before .loop .scratch) (c .before .before .before .before .before .before .before .before .before .before .before .before .before .before .before .before .before .before .loop .inv .wf)) .wf .0) ((c .before .before .before .before .before .before .before .before .before .eat-at .ensures .none _ (c .before .before .before .before .before .at .given .1)) .1)))) .wf) (row-sound (c .before .before .before .before .before .before .before .before .before .before .before .before .before .before .before .before .before .before .loop .i) ((c .before .before .before .before .before .before .before .before .before .before .before .before .before .before .before .before .before .loop-test .taken), (c .before .before .before .before .before .before .before .before .before .before .before .before .before .before .before .before .before .before .loop .inv .inside)) (sym (c .before .before .before .before .before .before .before .before .before .before .before .before .before .before .set .given .1) ∙ c .before .before .before .before .before .before .before .before .before .before .before .before .before .before .before .before .part-at .ensures) .1) (eat-fails (c .before .before .before .before .before .before .before .before .before .before .before .before .before .before .before .before .before .before .before .before .before .before .before .before .before .before .args .d) (c .before .before .before .before .before .before .before .before .before .before .before .before .before .before .before .before .before .before .before .before .before .before .before .before .before .before .args .optional) (c .before .before .before .before .before .before .before .before .before .before .before .before .before .before .before .before .before .before .loop .i) (c .before .before .before .before .before .before .before .before .before .before .before .before .before .before .before .before .before .before .loop .inv .inside) (c .before .before .before .before .before .before .before .before .before .before .before .before .before .before .before .before .before .before .loop .events) (c .before .before .before .before .before .before .before .before .before .before .before .before .before .before .before .before .before .before .loop .errors) (c .before .before .before .before .before .before .before .before .before .before .before .before .before .before .before .before .before .before .loop .scratch) (c .before .before .before .before .before .before .before .before .before .before .before .before .before .before .before .before .before .before .loop .inv .wf) (sym (c .before .before .before .before .before .before .before .before .before .before .before .before .before .before .set .given .1) ∙ c .before .before .before .before .before .before .before .before .before .before .before .before .before .before .before .before .part-at .ensures) _ (c .before .label .ensures) (eat-missed _ _ (c .before .before .before .before .before .before .before .before .before .before .before .if1 .taken) (c .before .before .before .before .before .before .before .before .before .eat-at .ensures .none _ (c .before .before .before .before .before .at .given .1)) ((from (source (c .before .before .before .before .before .before .before .before .before .before .before .before .before .before .before .before .before .before .before .before .before .before .before .before .before .before .args .src .now) (c .before .before .before .before .before .before .before .before .before .before .before .before .before .before .before .before .before .before .before .before .before .before .before .before .before .before .args .ids .now) (c .before .before .before .before .before .before .before .before .before .before .before .before .before .before .before .before .before .before .before .before .before .before .before .before .before .before .args .ends .now)) (c .before .before .before .before .before .before .before .before .before .before .before .before .before .before .before .before .before .before .loop .s) (c .before .before .before .before .before .before .before .before .before .before .before .before .before .before .before .before .before .before .loop .events) (c .before .before .before .before .before .before .before .before .before .before .before .before .before .before .before .before .before .before .loop .errors) (c .before .before .before .before .before .before .before .before .before .before .before .before .before .before .before .before .before .before .loop .scratch) (c .before .before .before .before .before .before .before .before .before .before .before .before .before .before .before .before .before .before .loop .inv .wf)) .wf .1 .events) (c .miss .ensures (source (c .before .before .before .before .before .before .before .before .before .before .before .before .before .before .before .before .before .before .before .before .before .before .before .before .before .before .args .src .now) (c .before .before .before .before .before .before .before .before .before .before .before .before .before .before .before .before .before .before .before .before .before .before .before .before .before .before .args .ids .now) (c .before .before .before .before .before .before .before .before .before .before .before .before .before .before .before .before .before .before .before .before .before .before .before .before .before .before .args .ends .now)) ((from (source (c .before .before .before .before .before .before .before .before .before .before .before .before .before .before .before .before .before .before .before .before .before .before .before .before .before .before .args .src .now) (c .before .before .before .before .before .before .before .before .before .before .before .before .before .before .before .before .before .before .before .before .before .before .before .before .before .before .args .ids .now) (c .before .before .before .before .before .before .before .before .before .before .before .before .before .before .before .before .before .before .before .before .before .before .before .before .before .before .args .ends .now)) (c .before .before .before .before .before .before .before .before .before .before .before .before .before .before .before .before .before .before .loop .s) (c .before .before .before .before .before .before .before .before .before .before .before .before .before .before .before .before .before .before .loop .events) (c .before .before .before .before .before .before .before .before .before .before .before .before .before .before .before .before .before .before .loop .errors) (c .before .before .before .before .before .before .before .before .before .before .before .before .before .before .before .before .before .before .loop .scratch) (c .before .before .before .before .before .before .before .before .before .before .before .before .before .before .before .before .before .before .loop .inv .wf)) .wf .0) ((c .before .before .before .before .before .before .before .before .before .eat-at .ensures .none _ (c .before .before .before .before .before .at .given .1)) .1)))) (c .before .before .before .before .before .before .before .before .before .eat-at .kept .1 .1 .1 .1 .1 .1 .1 .0) (refl) (refl)
-
-exec-loop-less-4 : (t : ℕ) → exec-lts.Need-loop-less-4 (exec-cs t) (exec-at t) exec.Post exec-Inv-loop exec-μ-loop
-exec-loop-less-4 t c = row-sound (c .before .before .before .before .before .before .before .loop .i) ((c .before .before .before .before .before .before .loop-test .taken), (c .before .before .before .before .before .before .before .loop .inv .inside)) (sym (c .before .before .before .set .given .1) ∙ c .before .before .before .before .before .part-at .ensures) .1
-
-exec-loop-again-4 : (t : ℕ) → exec-lts.Need-loop-again-4 (exec-cs t) (exec-at t) exec.Post exec-Inv-loop exec-μ-loop
-exec-loop-again-4 t c = goes-on (c .before .before .before .before .before .before .before .loop .inv) (c .before .before .before .before .before .before .loop-test .taken) ((from (source (c .before .before .before .before .before .before .before .before .before .before .before .before .before .before .before .args .src .now) (c .before .before .before .before .before .before .before .before .before .before .before .before .before .before .before .args .ids .now) (c .before .before .before .before .before .before .before .before .before .before .before .before .before .before .before .args .ends .now)) (c .before .before .before .before .before .before .before .loop .s) (c .before .before .before .before .before .before .before .loop .events) (c .before .before .before .before .before .before .before .loop .errors) (c .before .before .before .before .before .before .before .loop .scratch) (c .before .before .before .before .before .before .before .loop .inv .wf)) .wf) (row-sound (c .before .before .before .before .before .before .before .loop .i) ((c .before .before .before .before .before .before .loop-test .taken), (c .before .before .before .before .before .before .before .loop .inv .inside)) (sym (c .before .before .before .set .given .1) ∙ c .before .before .before .before .before .part-at .ensures) .1) (eat-idle (c .before .before .before .before .before .before .before .before .before .before .before .before .before .before .before .args .d) (c .before .before .before .before .before .before .before .before .before .before .before .before .before .before .before .args .optional) (c .before .before .before .before .before .before .before .loop .i) (c .before .before .before .before .before .before .before .loop .inv .inside) (c .before .before .before .before .before .before .before .loop .events) (c .before .before .before .before .before .before .before .loop .errors) (c .before .before .before .before .before .before .before .loop .scratch) (c .before .before .before .before .before .before .before .loop .inv .wf) (sym (c .before .before .before .set .given .1) ∙ c .before .before .before .before .before .part-at .ensures) (c .if1 .left)) (refl) (refl) (refl)
+exec-loop-again-3 t c = goes-on (c .before .before .before .before .before .before .before .loop .inv) (c .before .before .before .before .before .before .loop-test .taken) ((from (source (c .before .before .before .before .before .before .before .before .before .before .before .before .before .before .before .args .src .now) (c .before .before .before .before .before .before .before .before .before .before .before .before .before .before .before .args .ids .now) (c .before .before .before .before .before .before .before .before .before .before .before .before .before .before .before .args .ends .now)) (c .before .before .before .before .before .before .before .loop .s) (c .before .before .before .before .before .before .before .loop .events) (c .before .before .before .before .before .before .before .loop .errors) (c .before .before .before .before .before .before .before .loop .scratch) (c .before .before .before .before .before .before .before .loop .inv .wf)) .wf) (row-sound (c .before .before .before .before .before .before .before .loop .i) ((c .before .before .before .before .before .before .loop-test .taken), (c .before .before .before .before .before .before .before .loop .inv .inside)) (sym (c .before .before .before .set .given .1) ∙ c .before .before .before .before .before .part-at .ensures) .1) (eat-idle (c .before .before .before .before .before .before .before .before .before .before .before .before .before .before .before .args .d) (c .before .before .before .before .before .before .before .before .before .before .before .before .before .before .before .args .optional) (c .before .before .before .before .before .before .before .loop .i) (c .before .before .before .before .before .before .before .loop .inv .inside) (c .before .before .before .before .before .before .before .loop .events) (c .before .before .before .before .before .before .before .loop .errors) (c .before .before .before .before .before .before .before .loop .scratch) (c .before .before .before .before .before .before .before .loop .inv .wf) (sym (c .before .before .before .set .given .1) ∙ c .before .before .before .before .before .part-at .ensures) (c .if1 .left)) (refl) (refl) (refl)
 
 exec-enum-known-which : (t : ℕ) → exec-lts.Need-enum-known-which (exec-cs t) (exec-at t) exec.Post exec-Inv-loop exec-μ-loop
 exec-enum-known-which t c = search needs
@@ -200,11 +193,11 @@ exec-enum-known-which t c = search needs
 exec-step-requires : (t : ℕ) → exec-lts.Need-step-requires (exec-cs t) (exec-at t) exec.Post exec-Inv-loop exec-μ-loop
 exec-step-requires t c κs = asksS (from (source (c .before .before .before .before .before .before .before .before .before .before .before .before .before .before .before .args .src .now) (c .before .before .before .before .before .before .before .before .before .before .before .before .before .before .before .args .ids .now) (c .before .before .before .before .before .before .before .before .before .before .before .before .before .before .before .args .ends .now)) (c .before .before .before .before .before .before .before .loop .s) (c .before .before .before .before .before .before .before .loop .events) (c .before .before .before .before .before .before .before .loop .errors) (c .before .before .before .before .before .before .before .loop .scratch) (c .before .before .before .before .before .before .before .loop .inv .wf)) (c .before .before .before .before .before .before .before .before .before .before .before .before .before .before .before .pre .1 .0) (row-sound (c .before .before .before .before .before .before .before .loop .i) ((c .before .before .before .before .before .before .loop-test .taken), (c .before .before .before .before .before .before .before .loop .inv .inside)) (sym (c .before .before .before .which .given .1) ∙ c .before .before .before .before .before .part-at .ensures) .0)
 
-exec-loop-less-5 : (t : ℕ) → exec-lts.Need-loop-less-5 (exec-cs t) (exec-at t) exec.Post exec-Inv-loop exec-μ-loop
-exec-loop-less-5 t c = row-sound (c .before .before .before .before .before .before .before .before .before .before .before .before .loop .i) ((c .before .before .before .before .before .before .before .before .before .before .before .loop-test .taken), (c .before .before .before .before .before .before .before .before .before .before .before .before .loop .inv .inside)) (sym (c .before .before .before .before .before .before .before .before .which .given .1) ∙ c .before .before .before .before .before .before .before .before .before .before .part-at .ensures) .1
+exec-loop-less-4 : (t : ℕ) → exec-lts.Need-loop-less-4 (exec-cs t) (exec-at t) exec.Post exec-Inv-loop exec-μ-loop
+exec-loop-less-4 t c = row-sound (c .before .before .before .before .before .before .before .before .before .before .before .before .loop .i) ((c .before .before .before .before .before .before .before .before .before .before .before .loop-test .taken), (c .before .before .before .before .before .before .before .before .before .before .before .before .loop .inv .inside)) (sym (c .before .before .before .before .before .before .before .before .which .given .1) ∙ c .before .before .before .before .before .before .before .before .before .before .part-at .ensures) .1
 
-exec-loop-again-5 : (t : ℕ) → exec-lts.Need-loop-again-5 (exec-cs t) (exec-at t) exec.Post exec-Inv-loop exec-μ-loop
-exec-loop-again-5 t c = goes-on (c .before .before .before .before .before .before .before .before .before .before .before .before .loop .inv) (c .before .before .before .before .before .before .before .before .before .before .before .loop-test .taken) ((plusB (from (source (c .before .before .before .before .before .before .before .before .before .before .before .before .before .before .before .before .before .before .before .before .args .src .now) (c .before .before .before .before .before .before .before .before .before .before .before .before .before .before .before .before .before .before .before .before .args .ids .now) (c .before .before .before .before .before .before .before .before .before .before .before .before .before .before .before .before .before .before .before .before .args .ends .now)) (c .before .before .before .before .before .before .before .before .before .before .before .before .loop .s) (c .before .before .before .before .before .before .before .before .before .before .before .before .loop .events) (c .before .before .before .before .before .before .before .before .before .before .before .before .loop .errors) (c .before .before .before .before .before .before .before .before .before .before .before .before .loop .scratch) (c .before .before .before .before .before .before .before .before .before .before .before .before .loop .inv .wf)) (c .before .before .before .before .step .ensures)) .wf) (row-sound (c .before .before .before .before .before .before .before .before .before .before .before .before .loop .i) ((c .before .before .before .before .before .before .before .before .before .before .before .loop-test .taken), (c .before .before .before .before .before .before .before .before .before .before .before .before .loop .inv .inside)) (sym (c .before .before .before .before .before .before .before .before .which .given .1) ∙ c .before .before .before .before .before .before .before .before .before .before .part-at .ensures) .1) (step-goes (c .before .before .before .before .before .before .before .before .before .before .before .before .before .before .before .before .before .before .before .before .args .d) (c .before .before .before .before .before .before .before .before .before .before .before .before .before .before .before .before .before .before .before .before .args .optional) (c .before .before .before .before .before .before .before .before .before .before .before .before .loop .i) (c .before .before .before .before .before .before .before .before .before .before .before .before .loop .inv .inside) (c .before .before .before .before .before .before .before .before .before .before .before .before .loop .events) (c .before .before .before .before .before .before .before .before .before .before .before .before .loop .errors) (c .before .before .before .before .before .before .before .before .before .before .before .before .loop .scratch) (c .before .before .before .before .before .before .before .before .before .before .before .before .loop .inv .wf) (sym (c .before .before .before .before .before .before .before .before .which .given .1) ∙ c .before .before .before .before .before .before .before .before .before .before .part-at .ensures) (row-sound (c .before .before .before .before .before .before .before .before .before .before .before .before .loop .i) ((c .before .before .before .before .before .before .before .before .before .before .before .loop-test .taken), (c .before .before .before .before .before .before .before .before .before .before .before .before .loop .inv .inside)) (sym (c .before .before .before .before .before .before .before .before .which .given .1) ∙ c .before .before .before .before .before .before .before .before .before .before .part-at .ensures) .0) (plusB (from (source (c .before .before .before .before .before .before .before .before .before .before .before .before .before .before .before .before .before .before .before .before .args .src .now) (c .before .before .before .before .before .before .before .before .before .before .before .before .before .before .before .before .before .before .before .before .args .ids .now) (c .before .before .before .before .before .before .before .before .before .before .before .before .before .before .before .before .before .before .before .before .args .ends .now)) (c .before .before .before .before .before .before .before .before .before .before .before .before .loop .s) (c .before .before .before .before .before .before .before .before .before .before .before .before .loop .events) (c .before .before .before .before .before .before .before .before .before .before .before .before .loop .errors) (c .before .before .before .before .before .before .before .before .before .before .before .before .loop .scratch) (c .before .before .before .before .before .before .before .before .before .before .before .before .loop .inv .wf)) (c .before .before .before .before .step .ensures))) (c .before .before .before .before .step .kept .1 .1 .1 .1 .1 .1 .1 .1 .0) (c .before .before .before .before .step .kept .1 .1 .1 .1 .1 .1 .1 .1 .1 .0) (refl)
+exec-loop-again-4 : (t : ℕ) → exec-lts.Need-loop-again-4 (exec-cs t) (exec-at t) exec.Post exec-Inv-loop exec-μ-loop
+exec-loop-again-4 t c = goes-on (c .before .before .before .before .before .before .before .before .before .before .before .before .loop .inv) (c .before .before .before .before .before .before .before .before .before .before .before .loop-test .taken) ((plusB (from (source (c .before .before .before .before .before .before .before .before .before .before .before .before .before .before .before .before .before .before .before .before .args .src .now) (c .before .before .before .before .before .before .before .before .before .before .before .before .before .before .before .before .before .before .before .before .args .ids .now) (c .before .before .before .before .before .before .before .before .before .before .before .before .before .before .before .before .before .before .before .before .args .ends .now)) (c .before .before .before .before .before .before .before .before .before .before .before .before .loop .s) (c .before .before .before .before .before .before .before .before .before .before .before .before .loop .events) (c .before .before .before .before .before .before .before .before .before .before .before .before .loop .errors) (c .before .before .before .before .before .before .before .before .before .before .before .before .loop .scratch) (c .before .before .before .before .before .before .before .before .before .before .before .before .loop .inv .wf)) (c .before .before .before .before .step .ensures)) .wf) (row-sound (c .before .before .before .before .before .before .before .before .before .before .before .before .loop .i) ((c .before .before .before .before .before .before .before .before .before .before .before .loop-test .taken), (c .before .before .before .before .before .before .before .before .before .before .before .before .loop .inv .inside)) (sym (c .before .before .before .before .before .before .before .before .which .given .1) ∙ c .before .before .before .before .before .before .before .before .before .before .part-at .ensures) .1) (step-goes (c .before .before .before .before .before .before .before .before .before .before .before .before .before .before .before .before .before .before .before .before .args .d) (c .before .before .before .before .before .before .before .before .before .before .before .before .before .before .before .before .before .before .before .before .args .optional) (c .before .before .before .before .before .before .before .before .before .before .before .before .loop .i) (c .before .before .before .before .before .before .before .before .before .before .before .before .loop .inv .inside) (c .before .before .before .before .before .before .before .before .before .before .before .before .loop .events) (c .before .before .before .before .before .before .before .before .before .before .before .before .loop .errors) (c .before .before .before .before .before .before .before .before .before .before .before .before .loop .scratch) (c .before .before .before .before .before .before .before .before .before .before .before .before .loop .inv .wf) (sym (c .before .before .before .before .before .before .before .before .which .given .1) ∙ c .before .before .before .before .before .before .before .before .before .before .part-at .ensures) (row-sound (c .before .before .before .before .before .before .before .before .before .before .before .before .loop .i) ((c .before .before .before .before .before .before .before .before .before .before .before .loop-test .taken), (c .before .before .before .before .before .before .before .before .before .before .before .before .loop .inv .inside)) (sym (c .before .before .before .before .before .before .before .before .which .given .1) ∙ c .before .before .before .before .before .before .before .before .before .before .part-at .ensures) .0) (plusB (from (source (c .before .before .before .before .before .before .before .before .before .before .before .before .before .before .before .before .before .before .before .before .args .src .now) (c .before .before .before .before .before .before .before .before .before .before .before .before .before .before .before .before .before .before .before .before .args .ids .now) (c .before .before .before .before .before .before .before .before .before .before .before .before .before .before .before .before .before .before .before .before .args .ends .now)) (c .before .before .before .before .before .before .before .before .before .before .before .before .loop .s) (c .before .before .before .before .before .before .before .before .before .before .before .before .loop .events) (c .before .before .before .before .before .before .before .before .before .before .before .before .loop .errors) (c .before .before .before .before .before .before .before .before .before .before .before .before .loop .scratch) (c .before .before .before .before .before .before .before .before .before .before .before .before .loop .inv .wf)) (c .before .before .before .before .step .ensures))) (c .before .before .before .before .step .kept .1 .1 .1 .1 .1 .1 .1 .1 .0) (c .before .before .before .before .step .kept .1 .1 .1 .1 .1 .1 .1 .1 .1 .0) (refl)
 
 exec-enum-known-kind : (t : ℕ) → exec-lts.Need-enum-known-kind (exec-cs t) (exec-at t) exec.Post exec-Inv-loop exec-μ-loop
 exec-enum-known-kind t c = search needs
@@ -212,11 +205,11 @@ exec-enum-known-kind t c = search needs
 exec-node-requires : (t : ℕ) → exec-lts.Need-node-requires (exec-cs t) (exec-at t) exec.Post exec-Inv-loop exec-μ-loop
 exec-node-requires t c κs = (omega (arith, c .before .before .before .before .before .before .before .before .before .before .before .before .before .before .before .before .pre .0, (c .before .before .before .before .before .before .before .before .loop .inv) .below), ((c .before .before .before .before .before .before .before .before .before .before .before .before .before .before .before .before .pre .1 .0), (c .before .before .before .before .before .before .before .before .loop .inv) .wf, node-line (c .before .before .before .before .before .before .before .before .loop .i) ((c .before .before .before .before .before .before .before .loop-test .taken), (c .before .before .before .before .before .before .before .before .loop .inv .inside)) (sym (c .before .before .before .before .kind .given .1) ∙ c .before .before .before .before .before .before .part-at .ensures), c .before .before .before .before .before .before .before .before .before .before .before .before .before .before .before .before .pre .1 .3))
 
-exec-loop-less-6 : (t : ℕ) → exec-lts.Need-loop-less-6 (exec-cs t) (exec-at t) exec.Post exec-Inv-loop exec-μ-loop
-exec-loop-less-6 t c = row-sound (c .before .before .before .before .before .before .before .before .before .before .before .before .before .before .before .loop .i) ((c .before .before .before .before .before .before .before .before .before .before .before .before .before .before .loop-test .taken), (c .before .before .before .before .before .before .before .before .before .before .before .before .before .before .before .loop .inv .inside)) (sym (c .before .before .before .before .before .before .before .before .before .before .before .kind .given .1) ∙ c .before .before .before .before .before .before .before .before .before .before .before .before .before .part-at .ensures) .2
+exec-loop-less-5 : (t : ℕ) → exec-lts.Need-loop-less-5 (exec-cs t) (exec-at t) exec.Post exec-Inv-loop exec-μ-loop
+exec-loop-less-5 t c = row-sound (c .before .before .before .before .before .before .before .before .before .before .before .before .before .before .before .loop .i) ((c .before .before .before .before .before .before .before .before .before .before .before .before .before .before .loop-test .taken), (c .before .before .before .before .before .before .before .before .before .before .before .before .before .before .before .loop .inv .inside)) (sym (c .before .before .before .before .before .before .before .before .before .before .before .kind .given .1) ∙ c .before .before .before .before .before .before .before .before .before .before .before .before .before .part-at .ensures) .2
 
-exec-loop-again-6 : (t : ℕ) → exec-lts.Need-loop-again-6 (exec-cs t) (exec-at t) exec.Post exec-Inv-loop exec-μ-loop
-exec-loop-again-6 t c = goes-on (c .before .before .before .before .before .before .before .before .before .before .before .before .before .before .before .loop .inv) (c .before .before .before .before .before .before .before .before .before .before .before .before .before .before .loop-test .taken) (c .before .before .before .before .before .before .node .ensures .wf) (row-sound (c .before .before .before .before .before .before .before .before .before .before .before .before .before .before .before .loop .i) ((c .before .before .before .before .before .before .before .before .before .before .before .before .before .before .loop-test .taken), (c .before .before .before .before .before .before .before .before .before .before .before .before .before .before .before .loop .inv .inside)) (sym (c .before .before .before .before .before .before .before .before .before .before .before .kind .given .1) ∙ c .before .before .before .before .before .before .before .before .before .before .before .before .before .part-at .ensures) .2) (node-goes (c .before .before .before .before .before .before .before .before .before .before .before .before .before .before .before .before .before .before .before .before .before .before .before .args .d) (c .before .before .before .before .before .before .before .before .before .before .before .before .before .before .before .before .before .before .before .before .before .before .before .args .optional) (c .before .before .before .before .before .before .before .before .before .before .before .before .before .before .before .loop .i) (c .before .before .before .before .before .before .before .before .before .before .before .before .before .before .before .loop .inv .inside) (c .before .before .before .before .before .before .before .before .before .before .before .before .before .before .before .loop .events) (c .before .before .before .before .before .before .before .before .before .before .before .before .before .before .before .loop .errors) (c .before .before .before .before .before .before .before .before .before .before .before .before .before .before .before .loop .scratch) (c .before .before .before .before .before .before .before .before .before .before .before .before .before .before .before .loop .inv .wf) (sym (c .before .before .before .before .before .before .before .before .before .before .before .kind .given .1) ∙ c .before .before .before .before .before .before .before .before .before .before .before .before .before .part-at .ensures) (c .before .before .before .before .before .before .node .ensures)) (c .before .before .before .before .before .before .node .kept .1 .1 .1 .1 .1 .1 .1 .1 .0) (c .before .before .before .before .before .before .node .kept .1 .1 .1 .1 .1 .1 .1 .1 .1 .0) (c .before .before .before .before .before .before .node .kept .1 .1 .1 .1 .1 .1 .1 .1 .1 .1 .0)
+exec-loop-again-5 : (t : ℕ) → exec-lts.Need-loop-again-5 (exec-cs t) (exec-at t) exec.Post exec-Inv-loop exec-μ-loop
+exec-loop-again-5 t c = goes-on (c .before .before .before .before .before .before .before .before .before .before .before .before .before .before .before .loop .inv) (c .before .before .before .before .before .before .before .before .before .before .before .before .before .before .loop-test .taken) (c .before .before .before .before .before .before .node .ensures .wf) (row-sound (c .before .before .before .before .before .before .before .before .before .before .before .before .before .before .before .loop .i) ((c .before .before .before .before .before .before .before .before .before .before .before .before .before .before .loop-test .taken), (c .before .before .before .before .before .before .before .before .before .before .before .before .before .before .before .loop .inv .inside)) (sym (c .before .before .before .before .before .before .before .before .before .before .before .kind .given .1) ∙ c .before .before .before .before .before .before .before .before .before .before .before .before .before .part-at .ensures) .2) (node-goes (c .before .before .before .before .before .before .before .before .before .before .before .before .before .before .before .before .before .before .before .before .before .before .before .args .d) (c .before .before .before .before .before .before .before .before .before .before .before .before .before .before .before .before .before .before .before .before .before .before .before .args .optional) (c .before .before .before .before .before .before .before .before .before .before .before .before .before .before .before .loop .i) (c .before .before .before .before .before .before .before .before .before .before .before .before .before .before .before .loop .inv .inside) (c .before .before .before .before .before .before .before .before .before .before .before .before .before .before .before .loop .events) (c .before .before .before .before .before .before .before .before .before .before .before .before .before .before .before .loop .errors) (c .before .before .before .before .before .before .before .before .before .before .before .before .before .before .before .loop .scratch) (c .before .before .before .before .before .before .before .before .before .before .before .before .before .before .before .loop .inv .wf) (sym (c .before .before .before .before .before .before .before .before .before .before .before .kind .given .1) ∙ c .before .before .before .before .before .before .before .before .before .before .before .before .before .part-at .ensures) (c .before .before .before .before .before .before .node .ensures)) (c .before .before .before .before .before .before .node .kept .1 .1 .1 .1 .1 .1 .1 .1 .0) (c .before .before .before .before .before .before .node .kept .1 .1 .1 .1 .1 .1 .1 .1 .1 .0) (c .before .before .before .before .before .before .node .kept .1 .1 .1 .1 .1 .1 .1 .1 .1 .1 .0)
 
 exec-enum-known-kind-2 : (t : ℕ) → exec-lts.Need-enum-known-kind-2 (exec-cs t) (exec-at t) exec.Post exec-Inv-loop exec-μ-loop
 exec-enum-known-kind-2 t c = search needs
@@ -224,11 +217,11 @@ exec-enum-known-kind-2 t c = search needs
 exec-cached-requires : (t : ℕ) → exec-lts.Need-cached-requires (exec-cs t) (exec-at t) exec.Post exec-Inv-loop exec-μ-loop
 exec-cached-requires t c κs = (omega (arith, c .before .before .before .before .before .before .before .before .before .before .before .before .before .before .before .before .pre .0, (c .before .before .before .before .before .before .before .before .loop .inv) .below), ((c .before .before .before .before .before .before .before .before .before .before .before .before .before .before .before .before .pre .1 .0), (c .before .before .before .before .before .before .before .before .loop .inv) .wf, memo-line (c .before .before .before .before .before .before .before .before .loop .i) ((c .before .before .before .before .before .before .before .loop-test .taken), (c .before .before .before .before .before .before .before .before .loop .inv .inside)) (sym (c .before .before .before .before .kind2 .given .1) ∙ c .before .before .before .before .before .before .part-at .ensures), row-sound (c .before .before .before .before .before .before .before .before .loop .i) ((c .before .before .before .before .before .before .before .loop-test .taken), (c .before .before .before .before .before .before .before .before .loop .inv .inside)) (sym (c .before .before .before .before .kind2 .given .1) ∙ c .before .before .before .before .before .before .part-at .ensures) .0, c .before .before .before .before .before .before .before .before .before .before .before .before .before .before .before .before .pre .1 .3))
 
-exec-loop-less-7 : (t : ℕ) → exec-lts.Need-loop-less-7 (exec-cs t) (exec-at t) exec.Post exec-Inv-loop exec-μ-loop
-exec-loop-less-7 t c = row-sound (c .before .before .before .before .before .before .before .before .before .before .before .before .before .before .before .loop .i) ((c .before .before .before .before .before .before .before .before .before .before .before .before .before .before .loop-test .taken), (c .before .before .before .before .before .before .before .before .before .before .before .before .before .before .before .loop .inv .inside)) (sym (c .before .before .before .before .before .before .before .before .before .before .before .kind2 .given .1) ∙ c .before .before .before .before .before .before .before .before .before .before .before .before .before .part-at .ensures) .3
+exec-loop-less-6 : (t : ℕ) → exec-lts.Need-loop-less-6 (exec-cs t) (exec-at t) exec.Post exec-Inv-loop exec-μ-loop
+exec-loop-less-6 t c = row-sound (c .before .before .before .before .before .before .before .before .before .before .before .before .before .before .before .loop .i) ((c .before .before .before .before .before .before .before .before .before .before .before .before .before .before .loop-test .taken), (c .before .before .before .before .before .before .before .before .before .before .before .before .before .before .before .loop .inv .inside)) (sym (c .before .before .before .before .before .before .before .before .before .before .before .kind2 .given .1) ∙ c .before .before .before .before .before .before .before .before .before .before .before .before .before .part-at .ensures) .3
 
-exec-loop-again-7 : (t : ℕ) → exec-lts.Need-loop-again-7 (exec-cs t) (exec-at t) exec.Post exec-Inv-loop exec-μ-loop
-exec-loop-again-7 t c = goes-on (c .before .before .before .before .before .before .before .before .before .before .before .before .before .before .before .loop .inv) (c .before .before .before .before .before .before .before .before .before .before .before .before .before .before .loop-test .taken) (c .before .before .before .before .before .before .cached .ensures .wf) (row-sound (c .before .before .before .before .before .before .before .before .before .before .before .before .before .before .before .loop .i) ((c .before .before .before .before .before .before .before .before .before .before .before .before .before .before .loop-test .taken), (c .before .before .before .before .before .before .before .before .before .before .before .before .before .before .before .loop .inv .inside)) (sym (c .before .before .before .before .before .before .before .before .before .before .before .kind2 .given .1) ∙ c .before .before .before .before .before .before .before .before .before .before .before .before .before .part-at .ensures) .3) (memo-goes (c .before .before .before .before .before .before .before .before .before .before .before .before .before .before .before .before .before .before .before .before .before .before .before .args .d) (c .before .before .before .before .before .before .before .before .before .before .before .before .before .before .before .before .before .before .before .before .before .before .before .args .optional) (c .before .before .before .before .before .before .before .before .before .before .before .before .before .before .before .loop .i) (c .before .before .before .before .before .before .before .before .before .before .before .before .before .before .before .loop .inv .inside) (c .before .before .before .before .before .before .before .before .before .before .before .before .before .before .before .loop .events) (c .before .before .before .before .before .before .before .before .before .before .before .before .before .before .before .loop .errors) (c .before .before .before .before .before .before .before .before .before .before .before .before .before .before .before .loop .scratch) (c .before .before .before .before .before .before .before .before .before .before .before .before .before .before .before .loop .inv .wf) (sym (c .before .before .before .before .before .before .before .before .before .before .before .kind2 .given .1) ∙ c .before .before .before .before .before .before .before .before .before .before .before .before .before .part-at .ensures) (c .before .before .before .before .before .before .cached .ensures)) (c .before .before .before .before .before .before .cached .kept .1 .1 .1 .1 .1 .1 .1 .1 .0) (c .before .before .before .before .before .before .cached .kept .1 .1 .1 .1 .1 .1 .1 .1 .1 .0) (c .before .before .before .before .before .before .cached .kept .1 .1 .1 .1 .1 .1 .1 .1 .1 .1 .0)
+exec-loop-again-6 : (t : ℕ) → exec-lts.Need-loop-again-6 (exec-cs t) (exec-at t) exec.Post exec-Inv-loop exec-μ-loop
+exec-loop-again-6 t c = goes-on (c .before .before .before .before .before .before .before .before .before .before .before .before .before .before .before .loop .inv) (c .before .before .before .before .before .before .before .before .before .before .before .before .before .before .loop-test .taken) (c .before .before .before .before .before .before .cached .ensures .wf) (row-sound (c .before .before .before .before .before .before .before .before .before .before .before .before .before .before .before .loop .i) ((c .before .before .before .before .before .before .before .before .before .before .before .before .before .before .loop-test .taken), (c .before .before .before .before .before .before .before .before .before .before .before .before .before .before .before .loop .inv .inside)) (sym (c .before .before .before .before .before .before .before .before .before .before .before .kind2 .given .1) ∙ c .before .before .before .before .before .before .before .before .before .before .before .before .before .part-at .ensures) .3) (memo-goes (c .before .before .before .before .before .before .before .before .before .before .before .before .before .before .before .before .before .before .before .before .before .before .before .args .d) (c .before .before .before .before .before .before .before .before .before .before .before .before .before .before .before .before .before .before .before .before .before .before .before .args .optional) (c .before .before .before .before .before .before .before .before .before .before .before .before .before .before .before .loop .i) (c .before .before .before .before .before .before .before .before .before .before .before .before .before .before .before .loop .inv .inside) (c .before .before .before .before .before .before .before .before .before .before .before .before .before .before .before .loop .events) (c .before .before .before .before .before .before .before .before .before .before .before .before .before .before .before .loop .errors) (c .before .before .before .before .before .before .before .before .before .before .before .before .before .before .before .loop .scratch) (c .before .before .before .before .before .before .before .before .before .before .before .before .before .before .before .loop .inv .wf) (sym (c .before .before .before .before .before .before .before .before .before .before .before .kind2 .given .1) ∙ c .before .before .before .before .before .before .before .before .before .before .before .before .before .part-at .ensures) (c .before .before .before .before .before .before .cached .ensures)) (c .before .before .before .before .before .before .cached .kept .1 .1 .1 .1 .1 .1 .1 .1 .0) (c .before .before .before .before .before .before .cached .kept .1 .1 .1 .1 .1 .1 .1 .1 .1 .0) (c .before .before .before .before .before .before .cached .kept .1 .1 .1 .1 .1 .1 .1 .1 .1 .1 .0)
 
 exec-enum-known-p : (t : ℕ) → exec-lts.Need-enum-known-p (exec-cs t) (exec-at t) exec.Post exec-Inv-loop exec-μ-loop
 exec-enum-known-p t c = search needs
@@ -236,11 +229,11 @@ exec-enum-known-p t c = search needs
 exec-many-requires : (t : ℕ) → exec-lts.Need-many-requires (exec-cs t) (exec-at t) exec.Post exec-Inv-loop exec-μ-loop
 exec-many-requires t c κs = (omega (arith, c .before .before .before .before .before .before .before .before .before .before .before .before .before .before .before .before .pre .0, (c .before .before .before .before .before .before .before .before .loop .inv) .below, row-sound (c .before .before .before .before .before .before .before .before .loop .i) ((c .before .before .before .before .before .before .before .loop-test .taken), (c .before .before .before .before .before .before .before .before .loop .inv .inside)) (sym (c .before .before .before .before .p .given .1) ∙ c .before .before .before .before .before .before .part-at .ensures) .0 .1), ((c .before .before .before .before .before .before .before .before .before .before .before .before .before .before .before .before .pre .1 .0), (c .before .before .before .before .before .before .before .before .loop .inv) .wf, (row-sound (c .before .before .before .before .before .before .before .before .loop .i) ((c .before .before .before .before .before .before .before .loop-test .taken), (c .before .before .before .before .before .before .before .before .loop .inv .inside)) (sym (c .before .before .before .before .p .given .1) ∙ c .before .before .before .before .before .before .part-at .ensures) .0 .0, omega (arith, row-sound (c .before .before .before .before .before .before .before .before .loop .i) ((c .before .before .before .before .before .before .before .loop-test .taken), (c .before .before .before .before .before .before .before .before .loop .inv .inside)) (sym (c .before .before .before .before .p .given .1) ∙ c .before .before .before .before .before .before .part-at .ensures) .0 .1, (c .before .before .before .before .before .before .before .before .loop .inv .inside))), c .before .before .before .before .before .before .before .before .before .before .before .before .before .before .before .before .pre .1 .3))
 
-exec-loop-less-8 : (t : ℕ) → exec-lts.Need-loop-less-8 (exec-cs t) (exec-at t) exec.Post exec-Inv-loop exec-μ-loop
-exec-loop-less-8 t c = row-sound (c .before .before .before .before .before .before .before .before .before .before .before .before .before .before .before .loop .i) ((c .before .before .before .before .before .before .before .before .before .before .before .before .before .before .loop-test .taken), (c .before .before .before .before .before .before .before .before .before .before .before .before .before .before .before .loop .inv .inside)) (sym (c .before .before .before .before .before .before .before .before .before .before .before .p .given .1) ∙ c .before .before .before .before .before .before .before .before .before .before .before .before .before .part-at .ensures) .1
+exec-loop-less-7 : (t : ℕ) → exec-lts.Need-loop-less-7 (exec-cs t) (exec-at t) exec.Post exec-Inv-loop exec-μ-loop
+exec-loop-less-7 t c = row-sound (c .before .before .before .before .before .before .before .before .before .before .before .before .before .before .before .loop .i) ((c .before .before .before .before .before .before .before .before .before .before .before .before .before .before .loop-test .taken), (c .before .before .before .before .before .before .before .before .before .before .before .before .before .before .before .loop .inv .inside)) (sym (c .before .before .before .before .before .before .before .before .before .before .before .p .given .1) ∙ c .before .before .before .before .before .before .before .before .before .before .before .before .before .part-at .ensures) .1
 
-exec-loop-again-8 : (t : ℕ) → exec-lts.Need-loop-again-8 (exec-cs t) (exec-at t) exec.Post exec-Inv-loop exec-μ-loop
-exec-loop-again-8 t c = goes-on (c .before .before .before .before .before .before .before .before .before .before .before .before .before .before .before .loop .inv) (c .before .before .before .before .before .before .before .before .before .before .before .before .before .before .loop-test .taken) (c .before .before .before .before .before .before .many .ensures .wf) (row-sound (c .before .before .before .before .before .before .before .before .before .before .before .before .before .before .before .loop .i) ((c .before .before .before .before .before .before .before .before .before .before .before .before .before .before .loop-test .taken), (c .before .before .before .before .before .before .before .before .before .before .before .before .before .before .before .loop .inv .inside)) (sym (c .before .before .before .before .before .before .before .before .before .before .before .p .given .1) ∙ c .before .before .before .before .before .before .before .before .before .before .before .before .before .part-at .ensures) .1) (many-goes (c .before .before .before .before .before .before .before .before .before .before .before .before .before .before .before .before .before .before .before .before .before .before .before .args .d) (c .before .before .before .before .before .before .before .before .before .before .before .before .before .before .before .before .before .before .before .before .before .before .before .args .optional) (c .before .before .before .before .before .before .before .before .before .before .before .before .before .before .before .loop .i) (c .before .before .before .before .before .before .before .before .before .before .before .before .before .before .before .loop .inv .inside) (c .before .before .before .before .before .before .before .before .before .before .before .before .before .before .before .loop .events) (c .before .before .before .before .before .before .before .before .before .before .before .before .before .before .before .loop .errors) (c .before .before .before .before .before .before .before .before .before .before .before .before .before .before .before .loop .scratch) (c .before .before .before .before .before .before .before .before .before .before .before .before .before .before .before .loop .inv .wf) (sym (c .before .before .before .before .before .before .before .before .before .before .before .p .given .1) ∙ c .before .before .before .before .before .before .before .before .before .before .before .before .before .part-at .ensures) (c .before .before .before .before .before .before .many .ensures)) (c .before .before .before .before .before .before .many .kept .1 .1 .1 .1 .1 .1 .0) (c .before .before .before .before .before .before .many .kept .1 .1 .1 .1 .1 .1 .1 .0) (c .before .before .before .before .before .before .many .kept .1 .1 .1 .1 .1 .1 .1 .1 .0)
+exec-loop-again-7 : (t : ℕ) → exec-lts.Need-loop-again-7 (exec-cs t) (exec-at t) exec.Post exec-Inv-loop exec-μ-loop
+exec-loop-again-7 t c = goes-on (c .before .before .before .before .before .before .before .before .before .before .before .before .before .before .before .loop .inv) (c .before .before .before .before .before .before .before .before .before .before .before .before .before .before .loop-test .taken) (c .before .before .before .before .before .before .many .ensures .wf) (row-sound (c .before .before .before .before .before .before .before .before .before .before .before .before .before .before .before .loop .i) ((c .before .before .before .before .before .before .before .before .before .before .before .before .before .before .loop-test .taken), (c .before .before .before .before .before .before .before .before .before .before .before .before .before .before .before .loop .inv .inside)) (sym (c .before .before .before .before .before .before .before .before .before .before .before .p .given .1) ∙ c .before .before .before .before .before .before .before .before .before .before .before .before .before .part-at .ensures) .1) (many-goes (c .before .before .before .before .before .before .before .before .before .before .before .before .before .before .before .before .before .before .before .before .before .before .before .args .d) (c .before .before .before .before .before .before .before .before .before .before .before .before .before .before .before .before .before .before .before .before .before .before .before .args .optional) (c .before .before .before .before .before .before .before .before .before .before .before .before .before .before .before .loop .i) (c .before .before .before .before .before .before .before .before .before .before .before .before .before .before .before .loop .inv .inside) (c .before .before .before .before .before .before .before .before .before .before .before .before .before .before .before .loop .events) (c .before .before .before .before .before .before .before .before .before .before .before .before .before .before .before .loop .errors) (c .before .before .before .before .before .before .before .before .before .before .before .before .before .before .before .loop .scratch) (c .before .before .before .before .before .before .before .before .before .before .before .before .before .before .before .loop .inv .wf) (sym (c .before .before .before .before .before .before .before .before .before .before .before .p .given .1) ∙ c .before .before .before .before .before .before .before .before .before .before .before .before .before .part-at .ensures) (c .before .before .before .before .before .before .many .ensures)) (c .before .before .before .before .before .before .many .kept .1 .1 .1 .1 .1 .1 .0) (c .before .before .before .before .before .before .many .kept .1 .1 .1 .1 .1 .1 .1 .0) (c .before .before .before .before .before .before .many .kept .1 .1 .1 .1 .1 .1 .1 .1 .0)
 
 exec-enum-known-p-2 : (t : ℕ) → exec-lts.Need-enum-known-p-2 (exec-cs t) (exec-at t) exec.Post exec-Inv-loop exec-μ-loop
 exec-enum-known-p-2 t c = search needs
@@ -248,11 +241,11 @@ exec-enum-known-p-2 t c = search needs
 exec-exec-requires : (t : ℕ) → exec-lts.Need-exec-requires (exec-cs t) (exec-at t) exec.Post exec-Inv-loop exec-μ-loop
 exec-exec-requires t c κs = (omega (arith, c .before .before .before .before .before .before .before .before .before .before .before .before .before .before .before .before .pre .0, (c .before .before .before .before .before .before .before .before .loop .inv) .below, row-sound (c .before .before .before .before .before .before .before .before .loop .i) ((c .before .before .before .before .before .before .before .loop-test .taken), (c .before .before .before .before .before .before .before .before .loop .inv .inside)) (sym (c .before .before .before .before .p2 .given .1) ∙ c .before .before .before .before .before .before .part-at .ensures) .0 .1), ((c .before .before .before .before .before .before .before .before .before .before .before .before .before .before .before .before .pre .1 .0), (c .before .before .before .before .before .before .before .before .loop .inv) .wf, (row-sound (c .before .before .before .before .before .before .before .before .loop .i) ((c .before .before .before .before .before .before .before .loop-test .taken), (c .before .before .before .before .before .before .before .before .loop .inv .inside)) (sym (c .before .before .before .before .p2 .given .1) ∙ c .before .before .before .before .before .before .part-at .ensures) .0 .0, omega (arith, row-sound (c .before .before .before .before .before .before .before .before .loop .i) ((c .before .before .before .before .before .before .before .loop-test .taken), (c .before .before .before .before .before .before .before .before .loop .inv .inside)) (sym (c .before .before .before .before .p2 .given .1) ∙ c .before .before .before .before .before .before .part-at .ensures) .0 .1, (c .before .before .before .before .before .before .before .before .loop .inv .inside))), c .before .before .before .before .before .before .before .before .before .before .before .before .before .before .before .before .pre .1 .3))
 
-exec-loop-less-9 : (t : ℕ) → exec-lts.Need-loop-less-9 (exec-cs t) (exec-at t) exec.Post exec-Inv-loop exec-μ-loop
-exec-loop-less-9 t c = row-sound (c .before .before .before .before .before .before .before .before .before .before .before .before .before .before .before .loop .i) ((c .before .before .before .before .before .before .before .before .before .before .before .before .before .before .loop-test .taken), (c .before .before .before .before .before .before .before .before .before .before .before .before .before .before .before .loop .inv .inside)) (sym (c .before .before .before .before .before .before .before .before .before .before .before .p2 .given .1) ∙ c .before .before .before .before .before .before .before .before .before .before .before .before .before .part-at .ensures) .1 .1
+exec-loop-less-8 : (t : ℕ) → exec-lts.Need-loop-less-8 (exec-cs t) (exec-at t) exec.Post exec-Inv-loop exec-μ-loop
+exec-loop-less-8 t c = row-sound (c .before .before .before .before .before .before .before .before .before .before .before .before .before .before .before .loop .i) ((c .before .before .before .before .before .before .before .before .before .before .before .before .before .before .loop-test .taken), (c .before .before .before .before .before .before .before .before .before .before .before .before .before .before .before .loop .inv .inside)) (sym (c .before .before .before .before .before .before .before .before .before .before .before .p2 .given .1) ∙ c .before .before .before .before .before .before .before .before .before .before .before .before .before .part-at .ensures) .1 .1
 
-exec-loop-again-9 : (t : ℕ) → exec-lts.Need-loop-again-9 (exec-cs t) (exec-at t) exec.Post exec-Inv-loop exec-μ-loop
-exec-loop-again-9 t c = goes-on (c .before .before .before .before .before .before .before .before .before .before .before .before .before .before .before .loop .inv) (c .before .before .before .before .before .before .before .before .before .before .before .before .before .before .loop-test .taken) (c .before .before .before .before .before .before .exec .ensures .wf) (row-sound (c .before .before .before .before .before .before .before .before .before .before .before .before .before .before .before .loop .i) ((c .before .before .before .before .before .before .before .before .before .before .before .before .before .before .loop-test .taken), (c .before .before .before .before .before .before .before .before .before .before .before .before .before .before .before .loop .inv .inside)) (sym (c .before .before .before .before .before .before .before .before .before .before .before .p2 .given .1) ∙ c .before .before .before .before .before .before .before .before .before .before .before .before .before .part-at .ensures) .1 .1) (seq-goes (c .before .before .before .before .before .before .before .before .before .before .before .before .before .before .before .before .before .before .before .before .before .before .before .args .d) (c .before .before .before .before .before .before .before .before .before .before .before .before .before .before .before .before .before .before .before .before .before .before .before .args .optional) (c .before .before .before .before .before .before .before .before .before .before .before .before .before .before .before .loop .i) (c .before .before .before .before .before .before .before .before .before .before .before .before .before .before .before .loop .inv .inside) (c .before .before .before .before .before .before .before .before .before .before .before .before .before .before .before .loop .events) (c .before .before .before .before .before .before .before .before .before .before .before .before .before .before .before .loop .errors) (c .before .before .before .before .before .before .before .before .before .before .before .before .before .before .before .loop .scratch) (c .before .before .before .before .before .before .before .before .before .before .before .before .before .before .before .loop .inv .wf) (sym (c .before .before .before .before .before .before .before .before .before .before .before .p2 .given .1) ∙ c .before .before .before .before .before .before .before .before .before .before .before .before .before .part-at .ensures) (row-sound (c .before .before .before .before .before .before .before .before .before .before .before .before .before .before .before .loop .i) ((c .before .before .before .before .before .before .before .before .before .before .before .before .before .before .loop-test .taken), (c .before .before .before .before .before .before .before .before .before .before .before .before .before .before .before .loop .inv .inside)) (sym (c .before .before .before .before .before .before .before .before .before .before .before .p2 .given .1) ∙ c .before .before .before .before .before .before .before .before .before .before .before .before .before .part-at .ensures) .1 .0) (c .before .before .before .before .before .before .exec .ensures)) (c .before .before .before .before .before .before .exec .kept .1 .1 .1 .1 .1 .1 .1 .0) (c .before .before .before .before .before .before .exec .kept .1 .1 .1 .1 .1 .1 .1 .1 .0) (c .before .before .before .before .before .before .exec .kept .1 .1 .1 .1 .1 .1 .1 .1 .1 .0)
+exec-loop-again-8 : (t : ℕ) → exec-lts.Need-loop-again-8 (exec-cs t) (exec-at t) exec.Post exec-Inv-loop exec-μ-loop
+exec-loop-again-8 t c = goes-on (c .before .before .before .before .before .before .before .before .before .before .before .before .before .before .before .loop .inv) (c .before .before .before .before .before .before .before .before .before .before .before .before .before .before .loop-test .taken) (c .before .before .before .before .before .before .exec .ensures .wf) (row-sound (c .before .before .before .before .before .before .before .before .before .before .before .before .before .before .before .loop .i) ((c .before .before .before .before .before .before .before .before .before .before .before .before .before .before .loop-test .taken), (c .before .before .before .before .before .before .before .before .before .before .before .before .before .before .before .loop .inv .inside)) (sym (c .before .before .before .before .before .before .before .before .before .before .before .p2 .given .1) ∙ c .before .before .before .before .before .before .before .before .before .before .before .before .before .part-at .ensures) .1 .1) (seq-goes (c .before .before .before .before .before .before .before .before .before .before .before .before .before .before .before .before .before .before .before .before .before .before .before .args .d) (c .before .before .before .before .before .before .before .before .before .before .before .before .before .before .before .before .before .before .before .before .before .before .before .args .optional) (c .before .before .before .before .before .before .before .before .before .before .before .before .before .before .before .loop .i) (c .before .before .before .before .before .before .before .before .before .before .before .before .before .before .before .loop .inv .inside) (c .before .before .before .before .before .before .before .before .before .before .before .before .before .before .before .loop .events) (c .before .before .before .before .before .before .before .before .before .before .before .before .before .before .before .loop .errors) (c .before .before .before .before .before .before .before .before .before .before .before .before .before .before .before .loop .scratch) (c .before .before .before .before .before .before .before .before .before .before .before .before .before .before .before .loop .inv .wf) (sym (c .before .before .before .before .before .before .before .before .before .before .before .p2 .given .1) ∙ c .before .before .before .before .before .before .before .before .before .before .before .before .before .part-at .ensures) (row-sound (c .before .before .before .before .before .before .before .before .before .before .before .before .before .before .before .loop .i) ((c .before .before .before .before .before .before .before .before .before .before .before .before .before .before .loop-test .taken), (c .before .before .before .before .before .before .before .before .before .before .before .before .before .before .before .loop .inv .inside)) (sym (c .before .before .before .before .before .before .before .before .before .before .before .p2 .given .1) ∙ c .before .before .before .before .before .before .before .before .before .before .before .before .before .part-at .ensures) .1 .0) (c .before .before .before .before .before .before .exec .ensures)) (c .before .before .before .before .before .before .exec .kept .1 .1 .1 .1 .1 .1 .1 .0) (c .before .before .before .before .before .before .exec .kept .1 .1 .1 .1 .1 .1 .1 .1 .0) (c .before .before .before .before .before .before .exec .kept .1 .1 .1 .1 .1 .1 .1 .1 .1 .0)
 
 exec-enum-known-p-3 : (t : ℕ) → exec-lts.Need-enum-known-p-3 (exec-cs t) (exec-at t) exec.Post exec-Inv-loop exec-μ-loop
 exec-enum-known-p-3 t c = search needs
@@ -267,16 +260,16 @@ exec-same-length-3 : (t : ℕ) → exec-lts.Need-same-length-3 (exec-cs t) (exec
 exec-same-length-3 t c = (c .before .before .before .before .before .before .before .loop .inv) .scratch
 
 exec-returns : (t : ℕ) → exec-lts.Need-returns (exec-cs t) (exec-at t) exec.Post exec-Inv-loop exec-μ-loop
-exec-returns t c = ends-at (c .before .before .before .before .before .before .before .loop .inv) (c .before .before .before .before .before .before .loop-test .taken) (then-stops (c .before .before .before .before .before .before .before .before .before .before .before .before .before .before .before .args .d) (c .before .before .before .before .before .before .before .before .before .before .before .before .before .before .before .args .optional) (c .before .before .before .before .before .before .before .loop .i) (c .before .before .before .before .before .before .before .loop .inv .inside) (c .before .before .before .before .before .before .before .loop .events) (c .before .before .before .before .before .before .before .loop .errors) (c .before .before .before .before .before .before .before .loop .scratch) (c .before .before .before .before .before .before .before .loop .inv .wf) (sym (c .before .before .before .p3 .given .1) ∙ c .before .before .before .before .before .part-at .ensures) (c .if3 .taken))
+exec-returns t c = ends-at (c .before .before .before .before .before .before .before .loop .inv) (c .before .before .before .before .before .before .loop-test .taken) (then-stops (c .before .before .before .before .before .before .before .before .before .before .before .before .before .before .before .args .d) (c .before .before .before .before .before .before .before .before .before .before .before .before .before .before .before .args .optional) (c .before .before .before .before .before .before .before .loop .i) (c .before .before .before .before .before .before .before .loop .inv .inside) (c .before .before .before .before .before .before .before .loop .events) (c .before .before .before .before .before .before .before .loop .errors) (c .before .before .before .before .before .before .before .loop .scratch) (c .before .before .before .before .before .before .before .loop .inv .wf) (sym (c .before .before .before .p3 .given .1) ∙ c .before .before .before .before .before .part-at .ensures) (c .if2 .taken))
 
 exec-skip-trivia-requires : (t : ℕ) → exec-lts.Need-skip-trivia-requires (exec-cs t) (exec-at t) exec.Post exec-Inv-loop exec-μ-loop
 exec-skip-trivia-requires t c κs = ((c .before .before .before .before .before .before .before .before .before .before .before .before .before .before .before .before .pre .1 .0) .lines, (from (source (c .before .before .before .before .before .before .before .before .before .before .before .before .before .before .before .before .args .src .now) (c .before .before .before .before .before .before .before .before .before .before .before .before .before .before .before .before .args .ids .now) (c .before .before .before .before .before .before .before .before .before .before .before .before .before .before .before .before .args .ends .now)) (c .before .before .before .before .before .before .before .before .loop .s) (c .before .before .before .before .before .before .before .before .loop .events) (c .before .before .before .before .before .before .before .before .loop .errors) (c .before .before .before .before .before .before .before .before .loop .scratch) (c .before .before .before .before .before .before .before .before .loop .inv .wf)) .wf .0 .2 .events, (from (source (c .before .before .before .before .before .before .before .before .before .before .before .before .before .before .before .before .args .src .now) (c .before .before .before .before .before .before .before .before .before .before .before .before .before .before .before .before .args .ids .now) (c .before .before .before .before .before .before .before .before .before .before .before .before .before .before .before .before .args .ends .now)) (c .before .before .before .before .before .before .before .before .loop .s) (c .before .before .before .before .before .before .before .before .loop .events) (c .before .before .before .before .before .before .before .before .loop .errors) (c .before .before .before .before .before .before .before .before .loop .scratch) (c .before .before .before .before .before .before .before .before .loop .inv .wf)) .wf .1 .events)
 
-exec-loop-less-10 : (t : ℕ) → exec-lts.Need-loop-less-10 (exec-cs t) (exec-at t) exec.Post exec-Inv-loop exec-μ-loop
-exec-loop-less-10 t c = row-sound (c .before .before .before .before .before .before .before .before .before .before .before .loop .i) ((c .before .before .before .before .before .before .before .before .before .before .loop-test .taken), (c .before .before .before .before .before .before .before .before .before .before .before .loop .inv .inside)) (sym (c .before .before .before .before .before .before .before .p3 .given .1) ∙ c .before .before .before .before .before .before .before .before .before .part-at .ensures) .1
+exec-loop-less-9 : (t : ℕ) → exec-lts.Need-loop-less-9 (exec-cs t) (exec-at t) exec.Post exec-Inv-loop exec-μ-loop
+exec-loop-less-9 t c = row-sound (c .before .before .before .before .before .before .before .before .before .before .before .loop .i) ((c .before .before .before .before .before .before .before .before .before .before .loop-test .taken), (c .before .before .before .before .before .before .before .before .before .before .before .loop .inv .inside)) (sym (c .before .before .before .before .before .before .before .p3 .given .1) ∙ c .before .before .before .before .before .before .before .before .before .part-at .ensures) .1
 
-exec-loop-again-10 : (t : ℕ) → exec-lts.Need-loop-again-10 (exec-cs t) (exec-at t) exec.Post exec-Inv-loop exec-μ-loop
-exec-loop-again-10 t c = goes-on (c .before .before .before .before .before .before .before .before .before .before .before .loop .inv) (c .before .before .before .before .before .before .before .before .before .before .loop-test .taken) ((plusE (from (source (c .before .before .before .before .before .before .before .before .before .before .before .before .before .before .before .before .before .before .before .args .src .now) (c .before .before .before .before .before .before .before .before .before .before .before .before .before .before .before .before .before .before .before .args .ids .now) (c .before .before .before .before .before .before .before .before .before .before .before .before .before .before .before .before .before .before .before .args .ends .now)) (c .before .before .before .before .before .before .before .before .before .before .before .loop .s) (c .before .before .before .before .before .before .before .before .before .before .before .loop .events) (c .before .before .before .before .before .before .before .before .before .before .before .loop .errors) (c .before .before .before .before .before .before .before .before .before .before .before .loop .scratch) (c .before .before .before .before .before .before .before .before .before .before .before .loop .inv .wf)) (c .before .before .skip-trivia .ensures (c .before .before .before .before .before .before .before .before .before .before .before .before .before .before .before .before .before .before .before .args .src .now) (c .before .before .before .before .before .before .before .before .before .before .before .loop .s) (c .before .before .before .before .if3 .left) ((from (source (c .before .before .before .before .before .before .before .before .before .before .before .before .before .before .before .before .before .before .before .args .src .now) (c .before .before .before .before .before .before .before .before .before .before .before .before .before .before .before .before .before .before .before .args .ids .now) (c .before .before .before .before .before .before .before .before .before .before .before .before .before .before .before .before .before .before .before .args .ends .now)) (c .before .before .before .before .before .before .before .before .before .before .before .loop .s) (c .before .before .before .before .before .before .before .before .before .before .before .loop .events) (c .before .before .before .before .before .before .before .before .before .before .before .loop .errors) (c .before .before .before .before .before .before .before .before .before .before .before .loop .scratch) (c .before .before .before .before .before .before .before .before .before .before .before .loop .inv .wf)) .wf .0))) .wf) (row-sound (c .before .before .before .before .before .before .before .before .before .before .before .loop .i) ((c .before .before .before .before .before .before .before .before .before .before .loop-test .taken), (c .before .before .before .before .before .before .before .before .before .before .before .loop .inv .inside)) (sym (c .before .before .before .before .before .before .before .p3 .given .1) ∙ c .before .before .before .before .before .before .before .before .before .part-at .ensures) .1) (then-goes (c .before .before .before .before .before .before .before .before .before .before .before .before .before .before .before .before .before .before .before .args .d) (c .before .before .before .before .before .before .before .before .before .before .before .before .before .before .before .before .before .before .before .args .optional) (c .before .before .before .before .before .before .before .before .before .before .before .loop .i) (c .before .before .before .before .before .before .before .before .before .before .before .loop .inv .inside) (c .before .before .before .before .before .before .before .before .before .before .before .loop .events) (c .before .before .before .before .before .before .before .before .before .before .before .loop .errors) (c .before .before .before .before .before .before .before .before .before .before .before .loop .scratch) (c .before .before .before .before .before .before .before .before .before .before .before .loop .inv .wf) (sym (c .before .before .before .before .before .before .before .p3 .given .1) ∙ c .before .before .before .before .before .before .before .before .before .part-at .ensures) (row-sound (c .before .before .before .before .before .before .before .before .before .before .before .loop .i) ((c .before .before .before .before .before .before .before .before .before .before .loop-test .taken), (c .before .before .before .before .before .before .before .before .before .before .before .loop .inv .inside)) (sym (c .before .before .before .before .before .before .before .p3 .given .1) ∙ c .before .before .before .before .before .before .before .before .before .part-at .ensures) .0) (c .before .before .before .before .if3 .left) (c .before .before .skip-trivia .ensures (c .before .before .before .before .before .before .before .before .before .before .before .before .before .before .before .before .before .before .before .args .src .now) (c .before .before .before .before .before .before .before .before .before .before .before .loop .s) (c .before .before .before .before .if3 .left) ((from (source (c .before .before .before .before .before .before .before .before .before .before .before .before .before .before .before .before .before .before .before .args .src .now) (c .before .before .before .before .before .before .before .before .before .before .before .before .before .before .before .before .before .before .before .args .ids .now) (c .before .before .before .before .before .before .before .before .before .before .before .before .before .before .before .before .before .before .before .args .ends .now)) (c .before .before .before .before .before .before .before .before .before .before .before .loop .s) (c .before .before .before .before .before .before .before .before .before .before .before .loop .events) (c .before .before .before .before .before .before .before .before .before .before .before .loop .errors) (c .before .before .before .before .before .before .before .before .before .before .before .loop .scratch) (c .before .before .before .before .before .before .before .before .before .before .before .loop .inv .wf)) .wf .0))) (c .before .before .skip-trivia .kept .1 .1 .1 .1 .1 .1 .0) (refl) (refl)
+exec-loop-again-9 : (t : ℕ) → exec-lts.Need-loop-again-9 (exec-cs t) (exec-at t) exec.Post exec-Inv-loop exec-μ-loop
+exec-loop-again-9 t c = goes-on (c .before .before .before .before .before .before .before .before .before .before .before .loop .inv) (c .before .before .before .before .before .before .before .before .before .before .loop-test .taken) ((plusE (from (source (c .before .before .before .before .before .before .before .before .before .before .before .before .before .before .before .before .before .before .before .args .src .now) (c .before .before .before .before .before .before .before .before .before .before .before .before .before .before .before .before .before .before .before .args .ids .now) (c .before .before .before .before .before .before .before .before .before .before .before .before .before .before .before .before .before .before .before .args .ends .now)) (c .before .before .before .before .before .before .before .before .before .before .before .loop .s) (c .before .before .before .before .before .before .before .before .before .before .before .loop .events) (c .before .before .before .before .before .before .before .before .before .before .before .loop .errors) (c .before .before .before .before .before .before .before .before .before .before .before .loop .scratch) (c .before .before .before .before .before .before .before .before .before .before .before .loop .inv .wf)) (c .before .before .skip-trivia .ensures (c .before .before .before .before .before .before .before .before .before .before .before .before .before .before .before .before .before .before .before .args .src .now) (c .before .before .before .before .before .before .before .before .before .before .before .loop .s) (c .before .before .before .before .if2 .left) ((from (source (c .before .before .before .before .before .before .before .before .before .before .before .before .before .before .before .before .before .before .before .args .src .now) (c .before .before .before .before .before .before .before .before .before .before .before .before .before .before .before .before .before .before .before .args .ids .now) (c .before .before .before .before .before .before .before .before .before .before .before .before .before .before .before .before .before .before .before .args .ends .now)) (c .before .before .before .before .before .before .before .before .before .before .before .loop .s) (c .before .before .before .before .before .before .before .before .before .before .before .loop .events) (c .before .before .before .before .before .before .before .before .before .before .before .loop .errors) (c .before .before .before .before .before .before .before .before .before .before .before .loop .scratch) (c .before .before .before .before .before .before .before .before .before .before .before .loop .inv .wf)) .wf .0))) .wf) (row-sound (c .before .before .before .before .before .before .before .before .before .before .before .loop .i) ((c .before .before .before .before .before .before .before .before .before .before .loop-test .taken), (c .before .before .before .before .before .before .before .before .before .before .before .loop .inv .inside)) (sym (c .before .before .before .before .before .before .before .p3 .given .1) ∙ c .before .before .before .before .before .before .before .before .before .part-at .ensures) .1) (then-goes (c .before .before .before .before .before .before .before .before .before .before .before .before .before .before .before .before .before .before .before .args .d) (c .before .before .before .before .before .before .before .before .before .before .before .before .before .before .before .before .before .before .before .args .optional) (c .before .before .before .before .before .before .before .before .before .before .before .loop .i) (c .before .before .before .before .before .before .before .before .before .before .before .loop .inv .inside) (c .before .before .before .before .before .before .before .before .before .before .before .loop .events) (c .before .before .before .before .before .before .before .before .before .before .before .loop .errors) (c .before .before .before .before .before .before .before .before .before .before .before .loop .scratch) (c .before .before .before .before .before .before .before .before .before .before .before .loop .inv .wf) (sym (c .before .before .before .before .before .before .before .p3 .given .1) ∙ c .before .before .before .before .before .before .before .before .before .part-at .ensures) (row-sound (c .before .before .before .before .before .before .before .before .before .before .before .loop .i) ((c .before .before .before .before .before .before .before .before .before .before .loop-test .taken), (c .before .before .before .before .before .before .before .before .before .before .before .loop .inv .inside)) (sym (c .before .before .before .before .before .before .before .p3 .given .1) ∙ c .before .before .before .before .before .before .before .before .before .part-at .ensures) .0) (c .before .before .before .before .if2 .left) (c .before .before .skip-trivia .ensures (c .before .before .before .before .before .before .before .before .before .before .before .before .before .before .before .before .before .before .before .args .src .now) (c .before .before .before .before .before .before .before .before .before .before .before .loop .s) (c .before .before .before .before .if2 .left) ((from (source (c .before .before .before .before .before .before .before .before .before .before .before .before .before .before .before .before .before .before .before .args .src .now) (c .before .before .before .before .before .before .before .before .before .before .before .before .before .before .before .before .before .before .before .args .ids .now) (c .before .before .before .before .before .before .before .before .before .before .before .before .before .before .before .before .before .before .before .args .ends .now)) (c .before .before .before .before .before .before .before .before .before .before .before .loop .s) (c .before .before .before .before .before .before .before .before .before .before .before .loop .events) (c .before .before .before .before .before .before .before .before .before .before .before .loop .errors) (c .before .before .before .before .before .before .before .before .before .before .before .loop .scratch) (c .before .before .before .before .before .before .before .before .before .before .before .loop .inv .wf)) .wf .0))) (c .before .before .skip-trivia .kept .1 .1 .1 .1 .1 .1 .0) (refl) (refl)
 
 exec-enum-known-set-2 : (t : ℕ) → exec-lts.Need-enum-known-set-2 (exec-cs t) (exec-at t) exec.Post exec-Inv-loop exec-μ-loop
 exec-enum-known-set-2 t c = search needs
@@ -285,7 +278,7 @@ exec-sees-requires : (t : ℕ) → exec-lts.Need-sees-requires (exec-cs t) (exec
 exec-sees-requires t c κs = (from (source (c .before .before .before .before .before .before .before .before .before .before .before .before .before .args .src .now) (c .before .before .before .before .before .before .before .before .before .before .before .before .before .args .ids .now) (c .before .before .before .before .before .before .before .before .before .before .before .before .before .args .ends .now)) (c .before .before .before .before .before .loop .s) (c .before .before .before .before .before .loop .events) (c .before .before .before .before .before .loop .errors) (c .before .before .before .before .before .loop .scratch) (c .before .before .before .before .before .loop .inv .wf)) .wf .0
 
 exec-step-requires-2 : (t : ℕ) → exec-lts.Need-step-requires-2 (exec-cs t) (exec-at t) exec.Post exec-Inv-loop exec-μ-loop
-exec-step-requires-2 t c κs = asksL (from (source (c .before .before .before .before .before .before .before .before .before .before .before .before .before .before .before .before .before .args .src .now) (c .before .before .before .before .before .before .before .before .before .before .before .before .before .before .before .before .before .args .ids .now) (c .before .before .before .before .before .before .before .before .before .before .before .before .before .before .before .before .before .args .ends .now)) (c .before .before .before .before .before .before .before .before .before .loop .s) (c .before .before .before .before .before .before .before .before .before .loop .events) (c .before .before .before .before .before .before .before .before .before .loop .errors) (c .before .before .before .before .before .before .before .before .before .loop .scratch) (c .before .before .before .before .before .before .before .before .before .loop .inv .wf)) (c .before .before .before .before .before .before .before .before .before .before .before .before .before .before .before .before .before .pre .1 .0) (λ e. sym (c .before .before .before .sees .ensures) ∙ not-yes _ (c .before .before .if4 .taken))
+exec-step-requires-2 t c κs = asksL (from (source (c .before .before .before .before .before .before .before .before .before .before .before .before .before .before .before .before .before .args .src .now) (c .before .before .before .before .before .before .before .before .before .before .before .before .before .before .before .before .before .args .ids .now) (c .before .before .before .before .before .before .before .before .before .before .before .before .before .before .before .before .before .args .ends .now)) (c .before .before .before .before .before .before .before .before .before .loop .s) (c .before .before .before .before .before .before .before .before .before .loop .events) (c .before .before .before .before .before .before .before .before .before .loop .errors) (c .before .before .before .before .before .before .before .before .before .loop .scratch) (c .before .before .before .before .before .before .before .before .before .loop .inv .wf)) (c .before .before .before .before .before .before .before .before .before .before .before .before .before .before .before .before .before .pre .1 .0) (λ e. sym (c .before .before .before .sees .ensures) ∙ not-yes _ (c .before .before .if3 .taken))
 
 exec-same-length-4 : (t : ℕ) → exec-lts.Need-same-length-4 (exec-cs t) (exec-at t) exec.Post exec-Inv-loop exec-μ-loop
 exec-same-length-4 t c = c .before .before .before .before .step2 .kept .1 .1 .1 .1 .1 .1 .1 .1 .0 ∙ (c .before .before .before .before .before .before .before .before .before .before .before .before .before .before .loop .inv) .events
@@ -297,16 +290,16 @@ exec-same-length-6 : (t : ℕ) → exec-lts.Need-same-length-6 (exec-cs t) (exec
 exec-same-length-6 t c = (c .before .before .before .before .before .before .before .before .before .before .before .before .before .before .loop .inv) .scratch
 
 exec-returns-2 : (t : ℕ) → exec-lts.Need-returns-2 (exec-cs t) (exec-at t) exec.Post exec-Inv-loop exec-μ-loop
-exec-returns-2 t c = ends-at (c .before .before .before .before .before .before .before .before .before .before .before .before .before .before .loop .inv) (c .before .before .before .before .before .before .before .before .before .before .before .before .before .loop-test .taken) (when-passes (c .before .before .before .before .before .before .before .before .before .before .before .before .before .before .before .before .before .before .before .before .before .before .args .d) (c .before .before .before .before .before .before .before .before .before .before .before .before .before .before .before .before .before .before .before .before .before .before .args .optional) (c .before .before .before .before .before .before .before .before .before .before .before .before .before .before .loop .i) (c .before .before .before .before .before .before .before .before .before .before .before .before .before .before .loop .inv .inside) (c .before .before .before .before .before .before .before .before .before .before .before .before .before .before .loop .events) (c .before .before .before .before .before .before .before .before .before .before .before .before .before .before .loop .errors) (c .before .before .before .before .before .before .before .before .before .before .before .before .before .before .loop .scratch) (c .before .before .before .before .before .before .before .before .before .before .before .before .before .before .loop .inv .wf) (sym (c .before .before .before .before .before .before .before .before .before .before .set2 .given .1) ∙ c .before .before .before .before .before .before .before .before .before .before .before .before .part-at .ensures) (c .before .before .before .before .before .before .before .before .sees .ensures) (not-yes _ (c .before .before .before .before .before .before .before .if4 .taken)) (plusB (from (source (c .before .before .before .before .before .before .before .before .before .before .before .before .before .before .before .before .before .before .before .before .before .before .args .src .now) (c .before .before .before .before .before .before .before .before .before .before .before .before .before .before .before .before .before .before .before .before .before .before .args .ids .now) (c .before .before .before .before .before .before .before .before .before .before .before .before .before .before .before .before .before .before .before .before .before .before .args .ends .now)) (c .before .before .before .before .before .before .before .before .before .before .before .before .before .before .loop .s) (c .before .before .before .before .before .before .before .before .before .before .before .before .before .before .loop .events) (c .before .before .before .before .before .before .before .before .before .before .before .before .before .before .loop .errors) (c .before .before .before .before .before .before .before .before .before .before .before .before .before .before .loop .scratch) (c .before .before .before .before .before .before .before .before .before .before .before .before .before .before .loop .inv .wf)) (c .before .before .before .before .step2 .ensures)))
+exec-returns-2 t c = ends-at (c .before .before .before .before .before .before .before .before .before .before .before .before .before .before .loop .inv) (c .before .before .before .before .before .before .before .before .before .before .before .before .before .loop-test .taken) (when-passes (c .before .before .before .before .before .before .before .before .before .before .before .before .before .before .before .before .before .before .before .before .before .before .args .d) (c .before .before .before .before .before .before .before .before .before .before .before .before .before .before .before .before .before .before .before .before .before .before .args .optional) (c .before .before .before .before .before .before .before .before .before .before .before .before .before .before .loop .i) (c .before .before .before .before .before .before .before .before .before .before .before .before .before .before .loop .inv .inside) (c .before .before .before .before .before .before .before .before .before .before .before .before .before .before .loop .events) (c .before .before .before .before .before .before .before .before .before .before .before .before .before .before .loop .errors) (c .before .before .before .before .before .before .before .before .before .before .before .before .before .before .loop .scratch) (c .before .before .before .before .before .before .before .before .before .before .before .before .before .before .loop .inv .wf) (sym (c .before .before .before .before .before .before .before .before .before .before .set2 .given .1) ∙ c .before .before .before .before .before .before .before .before .before .before .before .before .part-at .ensures) (c .before .before .before .before .before .before .before .before .sees .ensures) (not-yes _ (c .before .before .before .before .before .before .before .if3 .taken)) (plusB (from (source (c .before .before .before .before .before .before .before .before .before .before .before .before .before .before .before .before .before .before .before .before .before .before .args .src .now) (c .before .before .before .before .before .before .before .before .before .before .before .before .before .before .before .before .before .before .before .before .before .before .args .ids .now) (c .before .before .before .before .before .before .before .before .before .before .before .before .before .before .before .before .before .before .before .before .before .before .args .ends .now)) (c .before .before .before .before .before .before .before .before .before .before .before .before .before .before .loop .s) (c .before .before .before .before .before .before .before .before .before .before .before .before .before .before .loop .events) (c .before .before .before .before .before .before .before .before .before .before .before .before .before .before .loop .errors) (c .before .before .before .before .before .before .before .before .before .before .before .before .before .before .loop .scratch) (c .before .before .before .before .before .before .before .before .before .before .before .before .before .before .loop .inv .wf)) (c .before .before .before .before .step2 .ensures)))
 
 exec-skip-trivia-requires-2 : (t : ℕ) → exec-lts.Need-skip-trivia-requires-2 (exec-cs t) (exec-at t) exec.Post exec-Inv-loop exec-μ-loop
 exec-skip-trivia-requires-2 t c κs = ((c .before .before .before .before .before .before .before .before .before .before .before .before .before .before .before .before .pre .1 .0) .lines, (from (source (c .before .before .before .before .before .before .before .before .before .before .before .before .before .before .before .before .args .src .now) (c .before .before .before .before .before .before .before .before .before .before .before .before .before .before .before .before .args .ids .now) (c .before .before .before .before .before .before .before .before .before .before .before .before .before .before .before .before .args .ends .now)) (c .before .before .before .before .before .before .before .before .loop .s) (c .before .before .before .before .before .before .before .before .loop .events) (c .before .before .before .before .before .before .before .before .loop .errors) (c .before .before .before .before .before .before .before .before .loop .scratch) (c .before .before .before .before .before .before .before .before .loop .inv .wf)) .wf .0 .2 .events, (from (source (c .before .before .before .before .before .before .before .before .before .before .before .before .before .before .before .before .args .src .now) (c .before .before .before .before .before .before .before .before .before .before .before .before .before .before .before .before .args .ids .now) (c .before .before .before .before .before .before .before .before .before .before .before .before .before .before .before .before .args .ends .now)) (c .before .before .before .before .before .before .before .before .loop .s) (c .before .before .before .before .before .before .before .before .loop .events) (c .before .before .before .before .before .before .before .before .loop .errors) (c .before .before .before .before .before .before .before .before .loop .scratch) (c .before .before .before .before .before .before .before .before .loop .inv .wf)) .wf .1 .events)
 
-exec-loop-less-11 : (t : ℕ) → exec-lts.Need-loop-less-11 (exec-cs t) (exec-at t) exec.Post exec-Inv-loop exec-μ-loop
-exec-loop-less-11 t c = row-sound (c .before .before .before .before .before .before .before .before .before .before .before .loop .i) ((c .before .before .before .before .before .before .before .before .before .before .loop-test .taken), (c .before .before .before .before .before .before .before .before .before .before .before .loop .inv .inside)) (sym (c .before .before .before .before .before .before .before .set2 .given .1) ∙ c .before .before .before .before .before .before .before .before .before .part-at .ensures) .1
+exec-loop-less-10 : (t : ℕ) → exec-lts.Need-loop-less-10 (exec-cs t) (exec-at t) exec.Post exec-Inv-loop exec-μ-loop
+exec-loop-less-10 t c = row-sound (c .before .before .before .before .before .before .before .before .before .before .before .loop .i) ((c .before .before .before .before .before .before .before .before .before .before .loop-test .taken), (c .before .before .before .before .before .before .before .before .before .before .before .loop .inv .inside)) (sym (c .before .before .before .before .before .before .before .set2 .given .1) ∙ c .before .before .before .before .before .before .before .before .before .part-at .ensures) .1
 
-exec-loop-again-11 : (t : ℕ) → exec-lts.Need-loop-again-11 (exec-cs t) (exec-at t) exec.Post exec-Inv-loop exec-μ-loop
-exec-loop-again-11 t c = goes-on (c .before .before .before .before .before .before .before .before .before .before .before .loop .inv) (c .before .before .before .before .before .before .before .before .before .before .loop-test .taken) ((plusE (from (source (c .before .before .before .before .before .before .before .before .before .before .before .before .before .before .before .before .before .before .before .args .src .now) (c .before .before .before .before .before .before .before .before .before .before .before .before .before .before .before .before .before .before .before .args .ids .now) (c .before .before .before .before .before .before .before .before .before .before .before .before .before .before .before .before .before .before .before .args .ends .now)) (c .before .before .before .before .before .before .before .before .before .before .before .loop .s) (c .before .before .before .before .before .before .before .before .before .before .before .loop .events) (c .before .before .before .before .before .before .before .before .before .before .before .loop .errors) (c .before .before .before .before .before .before .before .before .before .before .before .loop .scratch) (c .before .before .before .before .before .before .before .before .before .before .before .loop .inv .wf)) (c .before .before .skip-trivia2 .ensures (c .before .before .before .before .before .before .before .before .before .before .before .before .before .before .before .before .before .before .before .args .src .now) (c .before .before .before .before .before .before .before .before .before .before .before .loop .s) (when-good (c .before .before .before .before .before .before .before .before .before .before .before .before .before .before .before .before .before .before .before .args .ids .now) (c .before .before .before .before .before .before .before .before .before .before .before .loop .s) (c .before .before .before .before .before .before .before .before .before .before .before .loop .i) (sym (c .before .before .before .before .before .before .before .set2 .given .1) ∙ c .before .before .before .before .before .before .before .before .before .part-at .ensures) (c .before .before .before .before .before .sees .ensures) (not-no _ (c .before .before .before .before .if4 .left))) ((from (source (c .before .before .before .before .before .before .before .before .before .before .before .before .before .before .before .before .before .before .before .args .src .now) (c .before .before .before .before .before .before .before .before .before .before .before .before .before .before .before .before .before .before .before .args .ids .now) (c .before .before .before .before .before .before .before .before .before .before .before .before .before .before .before .before .before .before .before .args .ends .now)) (c .before .before .before .before .before .before .before .before .before .before .before .loop .s) (c .before .before .before .before .before .before .before .before .before .before .before .loop .events) (c .before .before .before .before .before .before .before .before .before .before .before .loop .errors) (c .before .before .before .before .before .before .before .before .before .before .before .loop .scratch) (c .before .before .before .before .before .before .before .before .before .before .before .loop .inv .wf)) .wf .0))) .wf) (row-sound (c .before .before .before .before .before .before .before .before .before .before .before .loop .i) ((c .before .before .before .before .before .before .before .before .before .before .loop-test .taken), (c .before .before .before .before .before .before .before .before .before .before .before .loop .inv .inside)) (sym (c .before .before .before .before .before .before .before .set2 .given .1) ∙ c .before .before .before .before .before .before .before .before .before .part-at .ensures) .1) (when-goes (c .before .before .before .before .before .before .before .before .before .before .before .before .before .before .before .before .before .before .before .args .d) (c .before .before .before .before .before .before .before .before .before .before .before .before .before .before .before .before .before .before .before .args .optional) (c .before .before .before .before .before .before .before .before .before .before .before .loop .i) (c .before .before .before .before .before .before .before .before .before .before .before .loop .inv .inside) (c .before .before .before .before .before .before .before .before .before .before .before .loop .events) (c .before .before .before .before .before .before .before .before .before .before .before .loop .errors) (c .before .before .before .before .before .before .before .before .before .before .before .loop .scratch) (c .before .before .before .before .before .before .before .before .before .before .before .loop .inv .wf) (sym (c .before .before .before .before .before .before .before .set2 .given .1) ∙ c .before .before .before .before .before .before .before .before .before .part-at .ensures) (row-sound (c .before .before .before .before .before .before .before .before .before .before .before .loop .i) ((c .before .before .before .before .before .before .before .before .before .before .loop-test .taken), (c .before .before .before .before .before .before .before .before .before .before .before .loop .inv .inside)) (sym (c .before .before .before .before .before .before .before .set2 .given .1) ∙ c .before .before .before .before .before .before .before .before .before .part-at .ensures) .0) (c .before .before .before .before .before .sees .ensures) (not-no _ (c .before .before .before .before .if4 .left)) (c .before .before .skip-trivia2 .ensures (c .before .before .before .before .before .before .before .before .before .before .before .before .before .before .before .before .before .before .before .args .src .now) (c .before .before .before .before .before .before .before .before .before .before .before .loop .s) (when-good (c .before .before .before .before .before .before .before .before .before .before .before .before .before .before .before .before .before .before .before .args .ids .now) (c .before .before .before .before .before .before .before .before .before .before .before .loop .s) (c .before .before .before .before .before .before .before .before .before .before .before .loop .i) (sym (c .before .before .before .before .before .before .before .set2 .given .1) ∙ c .before .before .before .before .before .before .before .before .before .part-at .ensures) (c .before .before .before .before .before .sees .ensures) (not-no _ (c .before .before .before .before .if4 .left))) ((from (source (c .before .before .before .before .before .before .before .before .before .before .before .before .before .before .before .before .before .before .before .args .src .now) (c .before .before .before .before .before .before .before .before .before .before .before .before .before .before .before .before .before .before .before .args .ids .now) (c .before .before .before .before .before .before .before .before .before .before .before .before .before .before .before .before .before .before .before .args .ends .now)) (c .before .before .before .before .before .before .before .before .before .before .before .loop .s) (c .before .before .before .before .before .before .before .before .before .before .before .loop .events) (c .before .before .before .before .before .before .before .before .before .before .before .loop .errors) (c .before .before .before .before .before .before .before .before .before .before .before .loop .scratch) (c .before .before .before .before .before .before .before .before .before .before .before .loop .inv .wf)) .wf .0))) (c .before .before .skip-trivia2 .kept .1 .1 .1 .1 .1 .1 .0) (refl) (refl)
+exec-loop-again-10 : (t : ℕ) → exec-lts.Need-loop-again-10 (exec-cs t) (exec-at t) exec.Post exec-Inv-loop exec-μ-loop
+exec-loop-again-10 t c = goes-on (c .before .before .before .before .before .before .before .before .before .before .before .loop .inv) (c .before .before .before .before .before .before .before .before .before .before .loop-test .taken) ((plusE (from (source (c .before .before .before .before .before .before .before .before .before .before .before .before .before .before .before .before .before .before .before .args .src .now) (c .before .before .before .before .before .before .before .before .before .before .before .before .before .before .before .before .before .before .before .args .ids .now) (c .before .before .before .before .before .before .before .before .before .before .before .before .before .before .before .before .before .before .before .args .ends .now)) (c .before .before .before .before .before .before .before .before .before .before .before .loop .s) (c .before .before .before .before .before .before .before .before .before .before .before .loop .events) (c .before .before .before .before .before .before .before .before .before .before .before .loop .errors) (c .before .before .before .before .before .before .before .before .before .before .before .loop .scratch) (c .before .before .before .before .before .before .before .before .before .before .before .loop .inv .wf)) (c .before .before .skip-trivia2 .ensures (c .before .before .before .before .before .before .before .before .before .before .before .before .before .before .before .before .before .before .before .args .src .now) (c .before .before .before .before .before .before .before .before .before .before .before .loop .s) (when-good (c .before .before .before .before .before .before .before .before .before .before .before .before .before .before .before .before .before .before .before .args .ids .now) (c .before .before .before .before .before .before .before .before .before .before .before .loop .s) (c .before .before .before .before .before .before .before .before .before .before .before .loop .i) (sym (c .before .before .before .before .before .before .before .set2 .given .1) ∙ c .before .before .before .before .before .before .before .before .before .part-at .ensures) (c .before .before .before .before .before .sees .ensures) (not-no _ (c .before .before .before .before .if3 .left))) ((from (source (c .before .before .before .before .before .before .before .before .before .before .before .before .before .before .before .before .before .before .before .args .src .now) (c .before .before .before .before .before .before .before .before .before .before .before .before .before .before .before .before .before .before .before .args .ids .now) (c .before .before .before .before .before .before .before .before .before .before .before .before .before .before .before .before .before .before .before .args .ends .now)) (c .before .before .before .before .before .before .before .before .before .before .before .loop .s) (c .before .before .before .before .before .before .before .before .before .before .before .loop .events) (c .before .before .before .before .before .before .before .before .before .before .before .loop .errors) (c .before .before .before .before .before .before .before .before .before .before .before .loop .scratch) (c .before .before .before .before .before .before .before .before .before .before .before .loop .inv .wf)) .wf .0))) .wf) (row-sound (c .before .before .before .before .before .before .before .before .before .before .before .loop .i) ((c .before .before .before .before .before .before .before .before .before .before .loop-test .taken), (c .before .before .before .before .before .before .before .before .before .before .before .loop .inv .inside)) (sym (c .before .before .before .before .before .before .before .set2 .given .1) ∙ c .before .before .before .before .before .before .before .before .before .part-at .ensures) .1) (when-goes (c .before .before .before .before .before .before .before .before .before .before .before .before .before .before .before .before .before .before .before .args .d) (c .before .before .before .before .before .before .before .before .before .before .before .before .before .before .before .before .before .before .before .args .optional) (c .before .before .before .before .before .before .before .before .before .before .before .loop .i) (c .before .before .before .before .before .before .before .before .before .before .before .loop .inv .inside) (c .before .before .before .before .before .before .before .before .before .before .before .loop .events) (c .before .before .before .before .before .before .before .before .before .before .before .loop .errors) (c .before .before .before .before .before .before .before .before .before .before .before .loop .scratch) (c .before .before .before .before .before .before .before .before .before .before .before .loop .inv .wf) (sym (c .before .before .before .before .before .before .before .set2 .given .1) ∙ c .before .before .before .before .before .before .before .before .before .part-at .ensures) (row-sound (c .before .before .before .before .before .before .before .before .before .before .before .loop .i) ((c .before .before .before .before .before .before .before .before .before .before .loop-test .taken), (c .before .before .before .before .before .before .before .before .before .before .before .loop .inv .inside)) (sym (c .before .before .before .before .before .before .before .set2 .given .1) ∙ c .before .before .before .before .before .before .before .before .before .part-at .ensures) .0) (c .before .before .before .before .before .sees .ensures) (not-no _ (c .before .before .before .before .if3 .left)) (c .before .before .skip-trivia2 .ensures (c .before .before .before .before .before .before .before .before .before .before .before .before .before .before .before .before .before .before .before .args .src .now) (c .before .before .before .before .before .before .before .before .before .before .before .loop .s) (when-good (c .before .before .before .before .before .before .before .before .before .before .before .before .before .before .before .before .before .before .before .args .ids .now) (c .before .before .before .before .before .before .before .before .before .before .before .loop .s) (c .before .before .before .before .before .before .before .before .before .before .before .loop .i) (sym (c .before .before .before .before .before .before .before .set2 .given .1) ∙ c .before .before .before .before .before .before .before .before .before .part-at .ensures) (c .before .before .before .before .before .sees .ensures) (not-no _ (c .before .before .before .before .if3 .left))) ((from (source (c .before .before .before .before .before .before .before .before .before .before .before .before .before .before .before .before .before .before .before .args .src .now) (c .before .before .before .before .before .before .before .before .before .before .before .before .before .before .before .before .before .before .before .args .ids .now) (c .before .before .before .before .before .before .before .before .before .before .before .before .before .before .before .before .before .before .before .args .ends .now)) (c .before .before .before .before .before .before .before .before .before .before .before .loop .s) (c .before .before .before .before .before .before .before .before .before .before .before .loop .events) (c .before .before .before .before .before .before .before .before .before .before .before .loop .errors) (c .before .before .before .before .before .before .before .before .before .before .before .loop .scratch) (c .before .before .before .before .before .before .before .before .before .before .before .loop .inv .wf)) .wf .0))) (c .before .before .skip-trivia2 .kept .1 .1 .1 .1 .1 .1 .0) (refl) (refl)
 
 exec-enum-known-how : (t : ℕ) → exec-lts.Need-enum-known-how (exec-cs t) (exec-at t) exec.Post exec-Inv-loop exec-μ-loop
 exec-enum-known-how t c = search needs
@@ -321,67 +314,70 @@ exec-same-length-9 : (t : ℕ) → exec-lts.Need-same-length-9 (exec-cs t) (exec
 exec-same-length-9 t c = (c .before .before .before .before .before .before .before .loop .inv) .scratch
 
 exec-returns-3 : (t : ℕ) → exec-lts.Need-returns-3 (exec-cs t) (exec-at t) exec.Post exec-Inv-loop exec-μ-loop
-exec-returns-3 t c = ends-at (c .before .before .before .before .before .before .before .loop .inv) (c .before .before .before .before .before .before .loop-test .taken) (try-stops (c .before .before .before .before .before .before .before .before .before .before .before .before .before .before .before .args .d) (c .before .before .before .before .before .before .before .before .before .before .before .before .before .before .before .args .optional) (c .before .before .before .before .before .before .before .loop .i) (c .before .before .before .before .before .before .before .loop .inv .inside) (c .before .before .before .before .before .before .before .loop .events) (c .before .before .before .before .before .before .before .loop .errors) (c .before .before .before .before .before .before .before .loop .scratch) (c .before .before .before .before .before .before .before .loop .inv .wf) (sym (c .before .before .before .how .given .1) ∙ c .before .before .before .before .before .part-at .ensures) (c .if5 .taken))
+exec-returns-3 t c = ends-at (c .before .before .before .before .before .before .before .loop .inv) (c .before .before .before .before .before .before .loop-test .taken) (try-stops (c .before .before .before .before .before .before .before .before .before .before .before .before .before .before .before .args .d) (c .before .before .before .before .before .before .before .before .before .before .before .before .before .before .before .args .optional) (c .before .before .before .before .before .before .before .loop .i) (c .before .before .before .before .before .before .before .loop .inv .inside) (c .before .before .before .before .before .before .before .loop .events) (c .before .before .before .before .before .before .before .loop .errors) (c .before .before .before .before .before .before .before .loop .scratch) (c .before .before .before .before .before .before .before .loop .inv .wf) (sym (c .before .before .before .how .given .1) ∙ c .before .before .before .before .before .part-at .ensures) (c .if4 .taken))
 
 exec-skip-trivia-requires-3 : (t : ℕ) → exec-lts.Need-skip-trivia-requires-3 (exec-cs t) (exec-at t) exec.Post exec-Inv-loop exec-μ-loop
 exec-skip-trivia-requires-3 t c κs = ((c .before .before .before .before .before .before .before .before .before .before .before .before .before .before .before .before .pre .1 .0) .lines, (from (source (c .before .before .before .before .before .before .before .before .before .before .before .before .before .before .before .before .args .src .now) (c .before .before .before .before .before .before .before .before .before .before .before .before .before .before .before .before .args .ids .now) (c .before .before .before .before .before .before .before .before .before .before .before .before .before .before .before .before .args .ends .now)) (c .before .before .before .before .before .before .before .before .loop .s) (c .before .before .before .before .before .before .before .before .loop .events) (c .before .before .before .before .before .before .before .before .loop .errors) (c .before .before .before .before .before .before .before .before .loop .scratch) (c .before .before .before .before .before .before .before .before .loop .inv .wf)) .wf .0 .2 .events, (from (source (c .before .before .before .before .before .before .before .before .before .before .before .before .before .before .before .before .args .src .now) (c .before .before .before .before .before .before .before .before .before .before .before .before .before .before .before .before .args .ids .now) (c .before .before .before .before .before .before .before .before .before .before .before .before .before .before .before .before .args .ends .now)) (c .before .before .before .before .before .before .before .before .loop .s) (c .before .before .before .before .before .before .before .before .loop .events) (c .before .before .before .before .before .before .before .before .loop .errors) (c .before .before .before .before .before .before .before .before .loop .scratch) (c .before .before .before .before .before .before .before .before .loop .inv .wf)) .wf .1 .events)
 
+exec-first-row-requires : (t : ℕ) → exec-lts.Need-first-row-requires (exec-cs t) (exec-at t) exec.Post exec-Inv-loop exec-μ-loop
+exec-first-row-requires t c κs = (omega (arith, row-sound (c .before .before .before .before .before .before .before .before .before .before .before .loop .i) ((c .before .before .before .before .before .before .before .before .before .before .loop-test .taken), (c .before .before .before .before .before .before .before .before .before .before .before .loop .inv .inside)) (sym (c .before .before .before .before .before .before .before .how .given .1) ∙ c .before .before .before .before .before .before .before .before .before .part-at .ensures) .0 .1, (c .before .before .before .before .before .before .before .before .before .before .before .loop .inv .inside)), c .before .before .before .before .before .before .before .before .before .before .before .before .before .before .before .before .before .before .before .pre .1 .3, (plusE (from (source (c .before .before .before .before .before .before .before .before .before .before .before .before .before .before .before .before .before .before .before .args .src .now) (c .before .before .before .before .before .before .before .before .before .before .before .before .before .before .before .before .before .before .before .args .ids .now) (c .before .before .before .before .before .before .before .before .before .before .before .before .before .before .before .before .before .before .before .args .ends .now)) (c .before .before .before .before .before .before .before .before .before .before .before .loop .s) (c .before .before .before .before .before .before .before .before .before .before .before .loop .events) (c .before .before .before .before .before .before .before .before .before .before .before .loop .errors) (c .before .before .before .before .before .before .before .before .before .before .before .loop .scratch) (c .before .before .before .before .before .before .before .before .before .before .before .loop .inv .wf)) (c .before .before .skip-trivia3 .ensures (c .before .before .before .before .before .before .before .before .before .before .before .before .before .before .before .before .before .before .before .args .src .now) (c .before .before .before .before .before .before .before .before .before .before .before .loop .s) (c .before .before .before .before .if4 .left) ((from (source (c .before .before .before .before .before .before .before .before .before .before .before .before .before .before .before .before .before .before .before .args .src .now) (c .before .before .before .before .before .before .before .before .before .before .before .before .before .before .before .before .before .before .before .args .ids .now) (c .before .before .before .before .before .before .before .before .before .before .before .before .before .before .before .before .before .before .before .args .ends .now)) (c .before .before .before .before .before .before .before .before .before .before .before .loop .s) (c .before .before .before .before .before .before .before .before .before .before .before .loop .events) (c .before .before .before .before .before .before .before .before .before .before .before .loop .errors) (c .before .before .before .before .before .before .before .before .before .before .before .loop .scratch) (c .before .before .before .before .before .before .before .before .before .before .before .loop .inv .wf)) .wf .0))) .wf .0 .0 .here)
+
+exec-enum-known-set-3 : (t : ℕ) → exec-lts.Need-enum-known-set-3 (exec-cs t) (exec-at t) exec.Post exec-Inv-loop exec-μ-loop
+exec-enum-known-set-3 t c = search needs
+
+exec-label-requires-2 : (t : ℕ) → exec-lts.Need-label-requires-2 (exec-cs t) (exec-at t) exec.Post exec-Inv-loop exec-μ-loop
+exec-label-requires-2 t c κs = (row-sound _ (row-sound (c .before .before .before .before .before .before .before .before .before .before .before .before .before .before .before .loop .i) ((c .before .before .before .before .before .before .before .before .before .before .before .before .before .before .loop-test .taken), (c .before .before .before .before .before .before .before .before .before .before .before .before .before .before .before .loop .inv .inside)) (sym (c .before .before .before .before .before .before .before .before .before .before .before .how .given .1) ∙ c .before .before .before .before .before .before .before .before .before .before .before .before .before .part-at .ensures) .0 .0, omega (arith, row-sound (c .before .before .before .before .before .before .before .before .before .before .before .before .before .before .before .loop .i) ((c .before .before .before .before .before .before .before .before .before .before .before .before .before .before .loop-test .taken), (c .before .before .before .before .before .before .before .before .before .before .before .before .before .before .before .loop .inv .inside)) (sym (c .before .before .before .before .before .before .before .before .before .before .before .how .given .1) ∙ c .before .before .before .before .before .before .before .before .before .before .before .before .before .part-at .ensures) .0 .1, (c .before .before .before .before .before .before .before .before .before .before .before .before .before .before .before .loop .inv .inside))) ((c .before .before .before .first-row .ensures .missed _ _ _ (c .before .set3 .given .1)) .row) .0)
+
+exec-expected-requires : (t : ℕ) → exec-lts.Need-expected-requires (exec-cs t) (exec-at t) exec.Post exec-Inv-loop exec-μ-loop
+exec-expected-requires t c κs = ((plusE (from (source (c .before .before .before .before .before .before .before .before .before .before .before .before .before .before .before .before .before .before .before .before .before .before .before .before .args .src .now) (c .before .before .before .before .before .before .before .before .before .before .before .before .before .before .before .before .before .before .before .before .before .before .before .before .args .ids .now) (c .before .before .before .before .before .before .before .before .before .before .before .before .before .before .before .before .before .before .before .before .before .before .before .before .args .ends .now)) (c .before .before .before .before .before .before .before .before .before .before .before .before .before .before .before .before .loop .s) (c .before .before .before .before .before .before .before .before .before .before .before .before .before .before .before .before .loop .events) (c .before .before .before .before .before .before .before .before .before .before .before .before .before .before .before .before .loop .errors) (c .before .before .before .before .before .before .before .before .before .before .before .before .before .before .before .before .loop .scratch) (c .before .before .before .before .before .before .before .before .before .before .before .before .before .before .before .before .loop .inv .wf)) (c .before .before .before .before .before .before .before .skip-trivia3 .ensures (c .before .before .before .before .before .before .before .before .before .before .before .before .before .before .before .before .before .before .before .before .before .before .before .before .args .src .now) (c .before .before .before .before .before .before .before .before .before .before .before .before .before .before .before .before .loop .s) (c .before .before .before .before .before .before .before .before .before .if4 .left) ((from (source (c .before .before .before .before .before .before .before .before .before .before .before .before .before .before .before .before .before .before .before .before .before .before .before .before .args .src .now) (c .before .before .before .before .before .before .before .before .before .before .before .before .before .before .before .before .before .before .before .before .before .before .before .before .args .ids .now) (c .before .before .before .before .before .before .before .before .before .before .before .before .before .before .before .before .before .before .before .before .before .before .before .before .args .ends .now)) (c .before .before .before .before .before .before .before .before .before .before .before .before .before .before .before .before .loop .s) (c .before .before .before .before .before .before .before .before .before .before .before .before .before .before .before .before .loop .events) (c .before .before .before .before .before .before .before .before .before .before .before .before .before .before .before .before .loop .errors) (c .before .before .before .before .before .before .before .before .before .before .before .before .before .before .before .before .loop .scratch) (c .before .before .before .before .before .before .before .before .before .before .before .before .before .before .before .before .loop .inv .wf)) .wf .0))) .wf .0 .1, proper _ (row-sound _ (row-sound (c .before .before .before .before .before .before .before .before .before .before .before .before .before .before .before .before .loop .i) ((c .before .before .before .before .before .before .before .before .before .before .before .before .before .before .before .loop-test .taken), (c .before .before .before .before .before .before .before .before .before .before .before .before .before .before .before .before .loop .inv .inside)) (sym (c .before .before .before .before .before .before .before .before .before .before .before .before .how .given .1) ∙ c .before .before .before .before .before .before .before .before .before .before .before .before .before .before .part-at .ensures) .0 .0, omega (arith, row-sound (c .before .before .before .before .before .before .before .before .before .before .before .before .before .before .before .before .loop .i) ((c .before .before .before .before .before .before .before .before .before .before .before .before .before .before .before .loop-test .taken), (c .before .before .before .before .before .before .before .before .before .before .before .before .before .before .before .before .loop .inv .inside)) (sym (c .before .before .before .before .before .before .before .before .before .before .before .before .how .given .1) ∙ c .before .before .before .before .before .before .before .before .before .before .before .before .before .before .part-at .ensures) .0 .1, (c .before .before .before .before .before .before .before .before .before .before .before .before .before .before .before .before .loop .inv .inside))) ((c .before .before .before .before .first-row .ensures .missed _ _ _ (c .before .before .set3 .given .1)) .row) .0) (c .label2 .ensures), omega (arith, (c .before .before .before .before .first-row .ensures .missed _ _ _ (c .before .before .set3 .given .1)) .peeked .within, (c .before .before .before .before .before .before .before .before .before .before .before .before .before .before .before .before .before .before .before .before .before .before .before .before .pre .1 .0) .lines .few))
+
+exec-missed-requires : (t : ℕ) → exec-lts.Need-missed-requires (exec-cs t) (exec-at t) exec.Post exec-Inv-loop exec-μ-loop
+exec-missed-requires t c κs = search needs
+
+exec-loop-less-11 : (t : ℕ) → exec-lts.Need-loop-less-11 (exec-cs t) (exec-at t) exec.Post exec-Inv-loop exec-μ-loop
+exec-loop-less-11 t c = row-sound (c .before .before .before .before .before .before .before .before .before .before .before .before .before .before .before .before .before .before .loop .i) ((c .before .before .before .before .before .before .before .before .before .before .before .before .before .before .before .before .before .loop-test .taken), (c .before .before .before .before .before .before .before .before .before .before .before .before .before .before .before .before .before .before .loop .inv .inside)) (sym (c .before .before .before .before .before .before .before .before .before .before .before .before .before .before .how .given .1) ∙ c .before .before .before .before .before .before .before .before .before .before .before .before .before .before .before .before .part-at .ensures) .1
+
+exec-loop-again-11 : (t : ℕ) → exec-lts.Need-loop-again-11 (exec-cs t) (exec-at t) exec.Post exec-Inv-loop exec-μ-loop
+exec-loop-again-11 t c = goes-on (c .before .before .before .before .before .before .before .before .before .before .before .before .before .before .before .before .before .before .loop .inv) (c .before .before .before .before .before .before .before .before .before .before .before .before .before .before .before .before .before .loop-test .taken) (failed-wf (c .before .before .before .before .before .before .before .before .before .before .before .before .before .before .before .before .before .before .before .before .before .before .before .before .before .before .args .d) (c .before .before .before .before .before .before .before .before .before .before .before .before .before .before .before .before .before .before .before .before .before .before .before .before .before .before .args .optional) (c .before .before .before .before .before .before .before .before .before .before .before .before .before .before .before .before .before .before .loop .i) (c .before .before .before .before .before .before .before .before .before .before .before .before .before .before .before .before .before .before .loop .inv .inside) (c .before .before .before .before .before .before .before .before .before .before .before .before .before .before .before .before .before .before .loop .events) (c .before .before .before .before .before .before .before .before .before .before .before .before .before .before .before .before .before .before .loop .errors) (c .before .before .before .before .before .before .before .before .before .before .before .before .before .before .before .before .before .before .loop .scratch) (c .before .before .before .before .before .before .before .before .before .before .before .before .before .before .before .before .before .before .loop .inv .wf) (sym (c .before .before .before .before .before .before .before .before .before .before .before .before .before .before .how .given .1) ∙ c .before .before .before .before .before .before .before .before .before .before .before .before .before .before .before .before .part-at .ensures) (c .before .before .before .before .before .before .before .before .before .before .before .if4 .left) refl (plus (plusE (from (source (c .before .before .before .before .before .before .before .before .before .before .before .before .before .before .before .before .before .before .before .before .before .before .before .before .before .before .args .src .now) (c .before .before .before .before .before .before .before .before .before .before .before .before .before .before .before .before .before .before .before .before .before .before .before .before .before .before .args .ids .now) (c .before .before .before .before .before .before .before .before .before .before .before .before .before .before .before .before .before .before .before .before .before .before .before .before .before .before .args .ends .now)) (c .before .before .before .before .before .before .before .before .before .before .before .before .before .before .before .before .before .before .loop .s) (c .before .before .before .before .before .before .before .before .before .before .before .before .before .before .before .before .before .before .loop .events) (c .before .before .before .before .before .before .before .before .before .before .before .before .before .before .before .before .before .before .loop .errors) (c .before .before .before .before .before .before .before .before .before .before .before .before .before .before .before .before .before .before .loop .scratch) (c .before .before .before .before .before .before .before .before .before .before .before .before .before .before .before .before .before .before .loop .inv .wf)) (c .before .before .before .before .before .before .before .before .before .skip-trivia3 .ensures (c .before .before .before .before .before .before .before .before .before .before .before .before .before .before .before .before .before .before .before .before .before .before .before .before .before .before .args .src .now) (c .before .before .before .before .before .before .before .before .before .before .before .before .before .before .before .before .before .before .loop .s) (c .before .before .before .before .before .before .before .before .before .before .before .if4 .left) ((from (source (c .before .before .before .before .before .before .before .before .before .before .before .before .before .before .before .before .before .before .before .before .before .before .before .before .before .before .args .src .now) (c .before .before .before .before .before .before .before .before .before .before .before .before .before .before .before .before .before .before .before .before .before .before .before .before .before .before .args .ids .now) (c .before .before .before .before .before .before .before .before .before .before .before .before .before .before .before .before .before .before .before .before .before .before .before .before .before .before .args .ends .now)) (c .before .before .before .before .before .before .before .before .before .before .before .before .before .before .before .before .before .before .loop .s) (c .before .before .before .before .before .before .before .before .before .before .before .before .before .before .before .before .before .before .loop .events) (c .before .before .before .before .before .before .before .before .before .before .before .before .before .before .before .before .before .before .loop .errors) (c .before .before .before .before .before .before .before .before .before .before .before .before .before .before .before .before .before .before .loop .scratch) (c .before .before .before .before .before .before .before .before .before .before .before .before .before .before .before .before .before .before .loop .inv .wf)) .wf .0))) (first-missed (c .before .before .before .before .before .before .before .before .before .before .before .before .before .before .before .before .before .before .before .before .before .before .before .before .before .before .args .d) _ (omega (arith, row-sound (c .before .before .before .before .before .before .before .before .before .before .before .before .before .before .before .before .before .before .loop .i) ((c .before .before .before .before .before .before .before .before .before .before .before .before .before .before .before .before .before .loop-test .taken), (c .before .before .before .before .before .before .before .before .before .before .before .before .before .before .before .before .before .before .loop .inv .inside)) (sym (c .before .before .before .before .before .before .before .before .before .before .before .before .before .before .how .given .1) ∙ c .before .before .before .before .before .before .before .before .before .before .before .before .before .before .before .before .part-at .ensures) .0 .1, (c .before .before .before .before .before .before .before .before .before .before .before .before .before .before .before .before .before .before .loop .inv .inside))) ((plusE (from (source (c .before .before .before .before .before .before .before .before .before .before .before .before .before .before .before .before .before .before .before .before .before .before .before .before .before .before .args .src .now) (c .before .before .before .before .before .before .before .before .before .before .before .before .before .before .before .before .before .before .before .before .before .before .before .before .before .before .args .ids .now) (c .before .before .before .before .before .before .before .before .before .before .before .before .before .before .before .before .before .before .before .before .before .before .before .before .before .before .args .ends .now)) (c .before .before .before .before .before .before .before .before .before .before .before .before .before .before .before .before .before .before .loop .s) (c .before .before .before .before .before .before .before .before .before .before .before .before .before .before .before .before .before .before .loop .events) (c .before .before .before .before .before .before .before .before .before .before .before .before .before .before .before .before .before .before .loop .errors) (c .before .before .before .before .before .before .before .before .before .before .before .before .before .before .before .before .before .before .loop .scratch) (c .before .before .before .before .before .before .before .before .before .before .before .before .before .before .before .before .before .before .loop .inv .wf)) (c .before .before .before .before .before .before .before .before .before .skip-trivia3 .ensures (c .before .before .before .before .before .before .before .before .before .before .before .before .before .before .before .before .before .before .before .before .before .before .before .before .before .before .args .src .now) (c .before .before .before .before .before .before .before .before .before .before .before .before .before .before .before .before .before .before .loop .s) (c .before .before .before .before .before .before .before .before .before .before .before .if4 .left) ((from (source (c .before .before .before .before .before .before .before .before .before .before .before .before .before .before .before .before .before .before .before .before .before .before .before .before .before .before .args .src .now) (c .before .before .before .before .before .before .before .before .before .before .before .before .before .before .before .before .before .before .before .before .before .before .before .before .before .before .args .ids .now) (c .before .before .before .before .before .before .before .before .before .before .before .before .before .before .before .before .before .before .before .before .before .before .before .before .before .before .args .ends .now)) (c .before .before .before .before .before .before .before .before .before .before .before .before .before .before .before .before .before .before .loop .s) (c .before .before .before .before .before .before .before .before .before .before .before .before .before .before .before .before .before .before .loop .events) (c .before .before .before .before .before .before .before .before .before .before .before .before .before .before .before .before .before .before .loop .errors) (c .before .before .before .before .before .before .before .before .before .before .before .before .before .before .before .before .before .before .loop .scratch) (c .before .before .before .before .before .before .before .before .before .before .before .before .before .before .before .before .before .before .loop .inv .wf)) .wf .0))) .wf) (c .before .before .before .before .before .before .first-row .ensures .missed _ _ _ (c .before .before .before .before .set3 .given .1)) (row-sound (c .before .before .before .before .before .before .before .before .before .before .before .before .before .before .before .before .before .before .loop .i) ((c .before .before .before .before .before .before .before .before .before .before .before .before .before .before .before .before .before .loop-test .taken), (c .before .before .before .before .before .before .before .before .before .before .before .before .before .before .before .before .before .before .loop .inv .inside)) (sym (c .before .before .before .before .before .before .before .before .before .before .before .before .before .before .how .given .1) ∙ c .before .before .before .before .before .before .before .before .before .before .before .before .before .before .before .before .part-at .ensures) .3 ((c .before .before .before .before .before .before .first-row .ensures .missed _ _ _ (c .before .before .before .before .set3 .given .1)) .asked)) refl _ (c .before .before .label2 .ensures) (eat-missed _ _ (c .before .before .before .before .before .before .before .before .before .before .before .if4 .left) (refl, (c .before .before .before .before .before .before .first-row .ensures .missed _ _ _ (c .before .before .before .before .set3 .given .1)) .peeked, (c .before .before .before .before .before .before .first-row .ensures .missed _ _ _ (c .before .before .before .before .set3 .given .1)) .none) ((plusE (from (source (c .before .before .before .before .before .before .before .before .before .before .before .before .before .before .before .before .before .before .before .before .before .before .before .before .before .before .args .src .now) (c .before .before .before .before .before .before .before .before .before .before .before .before .before .before .before .before .before .before .before .before .before .before .before .before .before .before .args .ids .now) (c .before .before .before .before .before .before .before .before .before .before .before .before .before .before .before .before .before .before .before .before .before .before .before .before .before .before .args .ends .now)) (c .before .before .before .before .before .before .before .before .before .before .before .before .before .before .before .before .before .before .loop .s) (c .before .before .before .before .before .before .before .before .before .before .before .before .before .before .before .before .before .before .loop .events) (c .before .before .before .before .before .before .before .before .before .before .before .before .before .before .before .before .before .before .loop .errors) (c .before .before .before .before .before .before .before .before .before .before .before .before .before .before .before .before .before .before .loop .scratch) (c .before .before .before .before .before .before .before .before .before .before .before .before .before .before .before .before .before .before .loop .inv .wf)) (c .before .before .before .before .before .before .before .before .before .skip-trivia3 .ensures (c .before .before .before .before .before .before .before .before .before .before .before .before .before .before .before .before .before .before .before .before .before .before .before .before .before .before .args .src .now) (c .before .before .before .before .before .before .before .before .before .before .before .before .before .before .before .before .before .before .loop .s) (c .before .before .before .before .before .before .before .before .before .before .before .if4 .left) ((from (source (c .before .before .before .before .before .before .before .before .before .before .before .before .before .before .before .before .before .before .before .before .before .before .before .before .before .before .args .src .now) (c .before .before .before .before .before .before .before .before .before .before .before .before .before .before .before .before .before .before .before .before .before .before .before .before .before .before .args .ids .now) (c .before .before .before .before .before .before .before .before .before .before .before .before .before .before .before .before .before .before .before .before .before .before .before .before .before .before .args .ends .now)) (c .before .before .before .before .before .before .before .before .before .before .before .before .before .before .before .before .before .before .loop .s) (c .before .before .before .before .before .before .before .before .before .before .before .before .before .before .before .before .before .before .loop .events) (c .before .before .before .before .before .before .before .before .before .before .before .before .before .before .before .before .before .before .loop .errors) (c .before .before .before .before .before .before .before .before .before .before .before .before .before .before .before .before .before .before .loop .scratch) (c .before .before .before .before .before .before .before .before .before .before .before .before .before .before .before .before .before .before .loop .inv .wf)) .wf .0))) .wf .1 .events) (fails-after _ (c .before .expected .ensures (source (c .before .before .before .before .before .before .before .before .before .before .before .before .before .before .before .before .before .before .before .before .before .before .before .before .before .before .args .src .now) (c .before .before .before .before .before .before .before .before .before .before .before .before .before .before .before .before .before .before .before .before .before .before .before .before .before .before .args .ids .now) (c .before .before .before .before .before .before .before .before .before .before .before .before .before .before .before .before .before .before .before .before .before .before .before .before .before .before .args .ends .now)) ((plusE (from (source (c .before .before .before .before .before .before .before .before .before .before .before .before .before .before .before .before .before .before .before .before .before .before .before .before .before .before .args .src .now) (c .before .before .before .before .before .before .before .before .before .before .before .before .before .before .before .before .before .before .before .before .before .before .before .before .before .before .args .ids .now) (c .before .before .before .before .before .before .before .before .before .before .before .before .before .before .before .before .before .before .before .before .before .before .before .before .before .before .args .ends .now)) (c .before .before .before .before .before .before .before .before .before .before .before .before .before .before .before .before .before .before .loop .s) (c .before .before .before .before .before .before .before .before .before .before .before .before .before .before .before .before .before .before .loop .events) (c .before .before .before .before .before .before .before .before .before .before .before .before .before .before .before .before .before .before .loop .errors) (c .before .before .before .before .before .before .before .before .before .before .before .before .before .before .before .before .before .before .loop .scratch) (c .before .before .before .before .before .before .before .before .before .before .before .before .before .before .before .before .before .before .loop .inv .wf)) (c .before .before .before .before .before .before .before .before .before .skip-trivia3 .ensures (c .before .before .before .before .before .before .before .before .before .before .before .before .before .before .before .before .before .before .before .before .before .before .before .before .before .before .args .src .now) (c .before .before .before .before .before .before .before .before .before .before .before .before .before .before .before .before .before .before .loop .s) (c .before .before .before .before .before .before .before .before .before .before .before .if4 .left) ((from (source (c .before .before .before .before .before .before .before .before .before .before .before .before .before .before .before .before .before .before .before .before .before .before .before .before .before .before .args .src .now) (c .before .before .before .before .before .before .before .before .before .before .before .before .before .before .before .before .before .before .before .before .before .before .before .before .before .before .args .ids .now) (c .before .before .before .before .before .before .before .before .before .before .before .before .before .before .before .before .before .before .before .before .before .before .before .before .before .before .args .ends .now)) (c .before .before .before .before .before .before .before .before .before .before .before .before .before .before .before .before .before .before .loop .s) (c .before .before .before .before .before .before .before .before .before .before .before .before .before .before .before .before .before .before .loop .events) (c .before .before .before .before .before .before .before .before .before .before .before .before .before .before .before .before .before .before .loop .errors) (c .before .before .before .before .before .before .before .before .before .before .before .before .before .before .before .before .before .before .loop .scratch) (c .before .before .before .before .before .before .before .before .before .before .before .before .before .before .before .before .before .before .loop .inv .wf)) .wf .0))) .wf .0) ((c .before .before .before .before .before .before .first-row .ensures .missed _ _ _ (c .before .before .before .before .set3 .given .1)) .peeked)))))) refl (c .missed .ensures)) (row-sound (c .before .before .before .before .before .before .before .before .before .before .before .before .before .before .before .before .before .before .loop .i) ((c .before .before .before .before .before .before .before .before .before .before .before .before .before .before .before .before .before .loop-test .taken), (c .before .before .before .before .before .before .before .before .before .before .before .before .before .before .before .before .before .before .loop .inv .inside)) (sym (c .before .before .before .before .before .before .before .before .before .before .before .before .before .before .how .given .1) ∙ c .before .before .before .before .before .before .before .before .before .before .before .before .before .before .before .before .part-at .ensures) .1) (try-fails (c .before .before .before .before .before .before .before .before .before .before .before .before .before .before .before .before .before .before .before .before .before .before .before .before .before .before .args .d) (c .before .before .before .before .before .before .before .before .before .before .before .before .before .before .before .before .before .before .before .before .before .before .before .before .before .before .args .optional) (c .before .before .before .before .before .before .before .before .before .before .before .before .before .before .before .before .before .before .loop .i) (c .before .before .before .before .before .before .before .before .before .before .before .before .before .before .before .before .before .before .loop .inv .inside) (c .before .before .before .before .before .before .before .before .before .before .before .before .before .before .before .before .before .before .loop .events) (c .before .before .before .before .before .before .before .before .before .before .before .before .before .before .before .before .before .before .loop .errors) (c .before .before .before .before .before .before .before .before .before .before .before .before .before .before .before .before .before .before .loop .scratch) (c .before .before .before .before .before .before .before .before .before .before .before .before .before .before .before .before .before .before .loop .inv .wf) (sym (c .before .before .before .before .before .before .before .before .before .before .before .before .before .before .how .given .1) ∙ c .before .before .before .before .before .before .before .before .before .before .before .before .before .before .before .before .part-at .ensures) (c .before .before .before .before .before .before .before .before .before .before .before .if4 .left) refl (plus (plusE (from (source (c .before .before .before .before .before .before .before .before .before .before .before .before .before .before .before .before .before .before .before .before .before .before .before .before .before .before .args .src .now) (c .before .before .before .before .before .before .before .before .before .before .before .before .before .before .before .before .before .before .before .before .before .before .before .before .before .before .args .ids .now) (c .before .before .before .before .before .before .before .before .before .before .before .before .before .before .before .before .before .before .before .before .before .before .before .before .before .before .args .ends .now)) (c .before .before .before .before .before .before .before .before .before .before .before .before .before .before .before .before .before .before .loop .s) (c .before .before .before .before .before .before .before .before .before .before .before .before .before .before .before .before .before .before .loop .events) (c .before .before .before .before .before .before .before .before .before .before .before .before .before .before .before .before .before .before .loop .errors) (c .before .before .before .before .before .before .before .before .before .before .before .before .before .before .before .before .before .before .loop .scratch) (c .before .before .before .before .before .before .before .before .before .before .before .before .before .before .before .before .before .before .loop .inv .wf)) (c .before .before .before .before .before .before .before .before .before .skip-trivia3 .ensures (c .before .before .before .before .before .before .before .before .before .before .before .before .before .before .before .before .before .before .before .before .before .before .before .before .before .before .args .src .now) (c .before .before .before .before .before .before .before .before .before .before .before .before .before .before .before .before .before .before .loop .s) (c .before .before .before .before .before .before .before .before .before .before .before .if4 .left) ((from (source (c .before .before .before .before .before .before .before .before .before .before .before .before .before .before .before .before .before .before .before .before .before .before .before .before .before .before .args .src .now) (c .before .before .before .before .before .before .before .before .before .before .before .before .before .before .before .before .before .before .before .before .before .before .before .before .before .before .args .ids .now) (c .before .before .before .before .before .before .before .before .before .before .before .before .before .before .before .before .before .before .before .before .before .before .before .before .before .before .args .ends .now)) (c .before .before .before .before .before .before .before .before .before .before .before .before .before .before .before .before .before .before .loop .s) (c .before .before .before .before .before .before .before .before .before .before .before .before .before .before .before .before .before .before .loop .events) (c .before .before .before .before .before .before .before .before .before .before .before .before .before .before .before .before .before .before .loop .errors) (c .before .before .before .before .before .before .before .before .before .before .before .before .before .before .before .before .before .before .loop .scratch) (c .before .before .before .before .before .before .before .before .before .before .before .before .before .before .before .before .before .before .loop .inv .wf)) .wf .0))) (first-missed (c .before .before .before .before .before .before .before .before .before .before .before .before .before .before .before .before .before .before .before .before .before .before .before .before .before .before .args .d) _ (omega (arith, row-sound (c .before .before .before .before .before .before .before .before .before .before .before .before .before .before .before .before .before .before .loop .i) ((c .before .before .before .before .before .before .before .before .before .before .before .before .before .before .before .before .before .loop-test .taken), (c .before .before .before .before .before .before .before .before .before .before .before .before .before .before .before .before .before .before .loop .inv .inside)) (sym (c .before .before .before .before .before .before .before .before .before .before .before .before .before .before .how .given .1) ∙ c .before .before .before .before .before .before .before .before .before .before .before .before .before .before .before .before .part-at .ensures) .0 .1, (c .before .before .before .before .before .before .before .before .before .before .before .before .before .before .before .before .before .before .loop .inv .inside))) ((plusE (from (source (c .before .before .before .before .before .before .before .before .before .before .before .before .before .before .before .before .before .before .before .before .before .before .before .before .before .before .args .src .now) (c .before .before .before .before .before .before .before .before .before .before .before .before .before .before .before .before .before .before .before .before .before .before .before .before .before .before .args .ids .now) (c .before .before .before .before .before .before .before .before .before .before .before .before .before .before .before .before .before .before .before .before .before .before .before .before .before .before .args .ends .now)) (c .before .before .before .before .before .before .before .before .before .before .before .before .before .before .before .before .before .before .loop .s) (c .before .before .before .before .before .before .before .before .before .before .before .before .before .before .before .before .before .before .loop .events) (c .before .before .before .before .before .before .before .before .before .before .before .before .before .before .before .before .before .before .loop .errors) (c .before .before .before .before .before .before .before .before .before .before .before .before .before .before .before .before .before .before .loop .scratch) (c .before .before .before .before .before .before .before .before .before .before .before .before .before .before .before .before .before .before .loop .inv .wf)) (c .before .before .before .before .before .before .before .before .before .skip-trivia3 .ensures (c .before .before .before .before .before .before .before .before .before .before .before .before .before .before .before .before .before .before .before .before .before .before .before .before .before .before .args .src .now) (c .before .before .before .before .before .before .before .before .before .before .before .before .before .before .before .before .before .before .loop .s) (c .before .before .before .before .before .before .before .before .before .before .before .if4 .left) ((from (source (c .before .before .before .before .before .before .before .before .before .before .before .before .before .before .before .before .before .before .before .before .before .before .before .before .before .before .args .src .now) (c .before .before .before .before .before .before .before .before .before .before .before .before .before .before .before .before .before .before .before .before .before .before .before .before .before .before .args .ids .now) (c .before .before .before .before .before .before .before .before .before .before .before .before .before .before .before .before .before .before .before .before .before .before .before .before .before .before .args .ends .now)) (c .before .before .before .before .before .before .before .before .before .before .before .before .before .before .before .before .before .before .loop .s) (c .before .before .before .before .before .before .before .before .before .before .before .before .before .before .before .before .before .before .loop .events) (c .before .before .before .before .before .before .before .before .before .before .before .before .before .before .before .before .before .before .loop .errors) (c .before .before .before .before .before .before .before .before .before .before .before .before .before .before .before .before .before .before .loop .scratch) (c .before .before .before .before .before .before .before .before .before .before .before .before .before .before .before .before .before .before .loop .inv .wf)) .wf .0))) .wf) (c .before .before .before .before .before .before .first-row .ensures .missed _ _ _ (c .before .before .before .before .set3 .given .1)) (row-sound (c .before .before .before .before .before .before .before .before .before .before .before .before .before .before .before .before .before .before .loop .i) ((c .before .before .before .before .before .before .before .before .before .before .before .before .before .before .before .before .before .loop-test .taken), (c .before .before .before .before .before .before .before .before .before .before .before .before .before .before .before .before .before .before .loop .inv .inside)) (sym (c .before .before .before .before .before .before .before .before .before .before .before .before .before .before .how .given .1) ∙ c .before .before .before .before .before .before .before .before .before .before .before .before .before .before .before .before .part-at .ensures) .3 ((c .before .before .before .before .before .before .first-row .ensures .missed _ _ _ (c .before .before .before .before .set3 .given .1)) .asked)) refl _ (c .before .before .label2 .ensures) (eat-missed _ _ (c .before .before .before .before .before .before .before .before .before .before .before .if4 .left) (refl, (c .before .before .before .before .before .before .first-row .ensures .missed _ _ _ (c .before .before .before .before .set3 .given .1)) .peeked, (c .before .before .before .before .before .before .first-row .ensures .missed _ _ _ (c .before .before .before .before .set3 .given .1)) .none) ((plusE (from (source (c .before .before .before .before .before .before .before .before .before .before .before .before .before .before .before .before .before .before .before .before .before .before .before .before .before .before .args .src .now) (c .before .before .before .before .before .before .before .before .before .before .before .before .before .before .before .before .before .before .before .before .before .before .before .before .before .before .args .ids .now) (c .before .before .before .before .before .before .before .before .before .before .before .before .before .before .before .before .before .before .before .before .before .before .before .before .before .before .args .ends .now)) (c .before .before .before .before .before .before .before .before .before .before .before .before .before .before .before .before .before .before .loop .s) (c .before .before .before .before .before .before .before .before .before .before .before .before .before .before .before .before .before .before .loop .events) (c .before .before .before .before .before .before .before .before .before .before .before .before .before .before .before .before .before .before .loop .errors) (c .before .before .before .before .before .before .before .before .before .before .before .before .before .before .before .before .before .before .loop .scratch) (c .before .before .before .before .before .before .before .before .before .before .before .before .before .before .before .before .before .before .loop .inv .wf)) (c .before .before .before .before .before .before .before .before .before .skip-trivia3 .ensures (c .before .before .before .before .before .before .before .before .before .before .before .before .before .before .before .before .before .before .before .before .before .before .before .before .before .before .args .src .now) (c .before .before .before .before .before .before .before .before .before .before .before .before .before .before .before .before .before .before .loop .s) (c .before .before .before .before .before .before .before .before .before .before .before .if4 .left) ((from (source (c .before .before .before .before .before .before .before .before .before .before .before .before .before .before .before .before .before .before .before .before .before .before .before .before .before .before .args .src .now) (c .before .before .before .before .before .before .before .before .before .before .before .before .before .before .before .before .before .before .before .before .before .before .before .before .before .before .args .ids .now) (c .before .before .before .before .before .before .before .before .before .before .before .before .before .before .before .before .before .before .before .before .before .before .before .before .before .before .args .ends .now)) (c .before .before .before .before .before .before .before .before .before .before .before .before .before .before .before .before .before .before .loop .s) (c .before .before .before .before .before .before .before .before .before .before .before .before .before .before .before .before .before .before .loop .events) (c .before .before .before .before .before .before .before .before .before .before .before .before .before .before .before .before .before .before .loop .errors) (c .before .before .before .before .before .before .before .before .before .before .before .before .before .before .before .before .before .before .loop .scratch) (c .before .before .before .before .before .before .before .before .before .before .before .before .before .before .before .before .before .before .loop .inv .wf)) .wf .0))) .wf .1 .events) (fails-after _ (c .before .expected .ensures (source (c .before .before .before .before .before .before .before .before .before .before .before .before .before .before .before .before .before .before .before .before .before .before .before .before .before .before .args .src .now) (c .before .before .before .before .before .before .before .before .before .before .before .before .before .before .before .before .before .before .before .before .before .before .before .before .before .before .args .ids .now) (c .before .before .before .before .before .before .before .before .before .before .before .before .before .before .before .before .before .before .before .before .before .before .before .before .before .before .args .ends .now)) ((plusE (from (source (c .before .before .before .before .before .before .before .before .before .before .before .before .before .before .before .before .before .before .before .before .before .before .before .before .before .before .args .src .now) (c .before .before .before .before .before .before .before .before .before .before .before .before .before .before .before .before .before .before .before .before .before .before .before .before .before .before .args .ids .now) (c .before .before .before .before .before .before .before .before .before .before .before .before .before .before .before .before .before .before .before .before .before .before .before .before .before .before .args .ends .now)) (c .before .before .before .before .before .before .before .before .before .before .before .before .before .before .before .before .before .before .loop .s) (c .before .before .before .before .before .before .before .before .before .before .before .before .before .before .before .before .before .before .loop .events) (c .before .before .before .before .before .before .before .before .before .before .before .before .before .before .before .before .before .before .loop .errors) (c .before .before .before .before .before .before .before .before .before .before .before .before .before .before .before .before .before .before .loop .scratch) (c .before .before .before .before .before .before .before .before .before .before .before .before .before .before .before .before .before .before .loop .inv .wf)) (c .before .before .before .before .before .before .before .before .before .skip-trivia3 .ensures (c .before .before .before .before .before .before .before .before .before .before .before .before .before .before .before .before .before .before .before .before .before .before .before .before .before .before .args .src .now) (c .before .before .before .before .before .before .before .before .before .before .before .before .before .before .before .before .before .before .loop .s) (c .before .before .before .before .before .before .before .before .before .before .before .if4 .left) ((from (source (c .before .before .before .before .before .before .before .before .before .before .before .before .before .before .before .before .before .before .before .before .before .before .before .before .before .before .args .src .now) (c .before .before .before .before .before .before .before .before .before .before .before .before .before .before .before .before .before .before .before .before .before .before .before .before .before .before .args .ids .now) (c .before .before .before .before .before .before .before .before .before .before .before .before .before .before .before .before .before .before .before .before .before .before .before .before .before .before .args .ends .now)) (c .before .before .before .before .before .before .before .before .before .before .before .before .before .before .before .before .before .before .loop .s) (c .before .before .before .before .before .before .before .before .before .before .before .before .before .before .before .before .before .before .loop .events) (c .before .before .before .before .before .before .before .before .before .before .before .before .before .before .before .before .before .before .loop .errors) (c .before .before .before .before .before .before .before .before .before .before .before .before .before .before .before .before .before .before .loop .scratch) (c .before .before .before .before .before .before .before .before .before .before .before .before .before .before .before .before .before .before .loop .inv .wf)) .wf .0))) .wf .0) ((c .before .before .before .before .before .before .first-row .ensures .missed _ _ _ (c .before .before .before .before .set3 .given .1)) .peeked)))))) refl (c .missed .ensures) (row-sound (c .before .before .before .before .before .before .before .before .before .before .before .before .before .before .before .before .before .before .loop .i) ((c .before .before .before .before .before .before .before .before .before .before .before .before .before .before .before .before .before .loop-test .taken), (c .before .before .before .before .before .before .before .before .before .before .before .before .before .before .before .before .before .before .loop .inv .inside)) (sym (c .before .before .before .before .before .before .before .before .before .before .before .before .before .before .how .given .1) ∙ c .before .before .before .before .before .before .before .before .before .before .before .before .before .before .before .before .part-at .ensures) .2)) (c .before .before .before .before .before .before .before .before .before .skip-trivia3 .kept .1 .1 .1 .1 .1 .1 .0) (refl) (refl)
+
+exec-enum-told : (t : ℕ) → exec-lts.Need-enum-told (exec-cs t) (exec-at t) exec.Post exec-Inv-loop exec-μ-loop
+exec-enum-told t c = search needs
+
 exec-exec-requires-2 : (t : ℕ) → exec-lts.Need-exec-requires-2 (exec-cs t) (exec-at t) exec.Post exec-Inv-loop exec-μ-loop
-exec-exec-requires-2 t c κs = (omega (arith, c .before .before .before .before .before .before .before .before .before .before .before .before .before .before .before .before .before .before .before .before .before .before .pre .0, (c .before .before .before .before .before .before .before .before .before .before .before .before .before .before .loop .inv) .below, row-sound (c .before .before .before .before .before .before .before .before .before .before .before .before .before .before .loop .i) ((c .before .before .before .before .before .before .before .before .before .before .before .before .before .loop-test .taken), (c .before .before .before .before .before .before .before .before .before .before .before .before .before .before .loop .inv .inside)) (sym (c .before .before .before .before .before .before .before .before .before .before .how .given .1) ∙ c .before .before .before .before .before .before .before .before .before .before .before .before .part-at .ensures) .0 .1), ((c .before .before .before .before .before .before .before .before .before .before .before .before .before .before .before .before .before .before .before .before .before .before .pre .1 .0), (plusE (from (source (c .before .before .before .before .before .before .before .before .before .before .before .before .before .before .before .before .before .before .before .before .before .before .args .src .now) (c .before .before .before .before .before .before .before .before .before .before .before .before .before .before .before .before .before .before .before .before .before .before .args .ids .now) (c .before .before .before .before .before .before .before .before .before .before .before .before .before .before .before .before .before .before .before .before .before .before .args .ends .now)) (c .before .before .before .before .before .before .before .before .before .before .before .before .before .before .loop .s) (c .before .before .before .before .before .before .before .before .before .before .before .before .before .before .loop .events) (c .before .before .before .before .before .before .before .before .before .before .before .before .before .before .loop .errors) (c .before .before .before .before .before .before .before .before .before .before .before .before .before .before .loop .scratch) (c .before .before .before .before .before .before .before .before .before .before .before .before .before .before .loop .inv .wf)) (c .before .before .before .before .before .skip-trivia3 .ensures (c .before .before .before .before .before .before .before .before .before .before .before .before .before .before .before .before .before .before .before .before .before .before .args .src .now) (c .before .before .before .before .before .before .before .before .before .before .before .before .before .before .loop .s) (c .before .before .before .before .before .before .before .if5 .left) ((from (source (c .before .before .before .before .before .before .before .before .before .before .before .before .before .before .before .before .before .before .before .before .before .before .args .src .now) (c .before .before .before .before .before .before .before .before .before .before .before .before .before .before .before .before .before .before .before .before .before .before .args .ids .now) (c .before .before .before .before .before .before .before .before .before .before .before .before .before .before .before .before .before .before .before .before .before .before .args .ends .now)) (c .before .before .before .before .before .before .before .before .before .before .before .before .before .before .loop .s) (c .before .before .before .before .before .before .before .before .before .before .before .before .before .before .loop .events) (c .before .before .before .before .before .before .before .before .before .before .before .before .before .before .loop .errors) (c .before .before .before .before .before .before .before .before .before .before .before .before .before .before .loop .scratch) (c .before .before .before .before .before .before .before .before .before .before .before .before .before .before .loop .inv .wf)) .wf .0))) .wf, (row-sound (c .before .before .before .before .before .before .before .before .before .before .before .before .before .before .loop .i) ((c .before .before .before .before .before .before .before .before .before .before .before .before .before .loop-test .taken), (c .before .before .before .before .before .before .before .before .before .before .before .before .before .before .loop .inv .inside)) (sym (c .before .before .before .before .before .before .before .before .before .before .how .given .1) ∙ c .before .before .before .before .before .before .before .before .before .before .before .before .part-at .ensures) .0 .0, omega (arith, row-sound (c .before .before .before .before .before .before .before .before .before .before .before .before .before .before .loop .i) ((c .before .before .before .before .before .before .before .before .before .before .before .before .before .loop-test .taken), (c .before .before .before .before .before .before .before .before .before .before .before .before .before .before .loop .inv .inside)) (sym (c .before .before .before .before .before .before .before .before .before .before .how .given .1) ∙ c .before .before .before .before .before .before .before .before .before .before .before .before .part-at .ensures) .0 .1, (c .before .before .before .before .before .before .before .before .before .before .before .before .before .before .loop .inv .inside))), c .before .before .before .before .before .before .before .before .before .before .before .before .before .before .before .before .before .before .before .before .before .before .pre .1 .3))
+exec-exec-requires-2 t c κs = (omega (arith, c .before .before .before .before .before .before .before .before .before .before .before .before .before .before .before .before .before .before .before .before .before .before .before .before .before .pre .0, (c .before .before .before .before .before .before .before .before .before .before .before .before .before .before .before .before .before .loop .inv) .below, row-sound (c .before .before .before .before .before .before .before .before .before .before .before .before .before .before .before .before .before .loop .i) ((c .before .before .before .before .before .before .before .before .before .before .before .before .before .before .before .before .loop-test .taken), (c .before .before .before .before .before .before .before .before .before .before .before .before .before .before .before .before .before .loop .inv .inside)) (sym (c .before .before .before .before .before .before .before .before .before .before .before .before .before .how .given .1) ∙ c .before .before .before .before .before .before .before .before .before .before .before .before .before .before .before .part-at .ensures) .0 .1), ((c .before .before .before .before .before .before .before .before .before .before .before .before .before .before .before .before .before .before .before .before .before .before .before .before .before .pre .1 .0), (plusE (from (source (c .before .before .before .before .before .before .before .before .before .before .before .before .before .before .before .before .before .before .before .before .before .before .before .before .before .args .src .now) (c .before .before .before .before .before .before .before .before .before .before .before .before .before .before .before .before .before .before .before .before .before .before .before .before .before .args .ids .now) (c .before .before .before .before .before .before .before .before .before .before .before .before .before .before .before .before .before .before .before .before .before .before .before .before .before .args .ends .now)) (c .before .before .before .before .before .before .before .before .before .before .before .before .before .before .before .before .before .loop .s) (c .before .before .before .before .before .before .before .before .before .before .before .before .before .before .before .before .before .loop .events) (c .before .before .before .before .before .before .before .before .before .before .before .before .before .before .before .before .before .loop .errors) (c .before .before .before .before .before .before .before .before .before .before .before .before .before .before .before .before .before .loop .scratch) (c .before .before .before .before .before .before .before .before .before .before .before .before .before .before .before .before .before .loop .inv .wf)) (c .before .before .before .before .before .before .before .before .skip-trivia3 .ensures (c .before .before .before .before .before .before .before .before .before .before .before .before .before .before .before .before .before .before .before .before .before .before .before .before .before .args .src .now) (c .before .before .before .before .before .before .before .before .before .before .before .before .before .before .before .before .before .loop .s) (c .before .before .before .before .before .before .before .before .before .before .if4 .left) ((from (source (c .before .before .before .before .before .before .before .before .before .before .before .before .before .before .before .before .before .before .before .before .before .before .before .before .before .args .src .now) (c .before .before .before .before .before .before .before .before .before .before .before .before .before .before .before .before .before .before .before .before .before .before .before .before .before .args .ids .now) (c .before .before .before .before .before .before .before .before .before .before .before .before .before .before .before .before .before .before .before .before .before .before .before .before .before .args .ends .now)) (c .before .before .before .before .before .before .before .before .before .before .before .before .before .before .before .before .before .loop .s) (c .before .before .before .before .before .before .before .before .before .before .before .before .before .before .before .before .before .loop .events) (c .before .before .before .before .before .before .before .before .before .before .before .before .before .before .before .before .before .loop .errors) (c .before .before .before .before .before .before .before .before .before .before .before .before .before .before .before .before .before .loop .scratch) (c .before .before .before .before .before .before .before .before .before .before .before .before .before .before .before .before .before .loop .inv .wf)) .wf .0))) .wf, (row-sound (c .before .before .before .before .before .before .before .before .before .before .before .before .before .before .before .before .before .loop .i) ((c .before .before .before .before .before .before .before .before .before .before .before .before .before .before .before .before .loop-test .taken), (c .before .before .before .before .before .before .before .before .before .before .before .before .before .before .before .before .before .loop .inv .inside)) (sym (c .before .before .before .before .before .before .before .before .before .before .before .before .before .how .given .1) ∙ c .before .before .before .before .before .before .before .before .before .before .before .before .before .before .before .part-at .ensures) .0 .0, omega (arith, row-sound (c .before .before .before .before .before .before .before .before .before .before .before .before .before .before .before .before .before .loop .i) ((c .before .before .before .before .before .before .before .before .before .before .before .before .before .before .before .before .loop-test .taken), (c .before .before .before .before .before .before .before .before .before .before .before .before .before .before .before .before .before .loop .inv .inside)) (sym (c .before .before .before .before .before .before .before .before .before .before .before .before .before .how .given .1) ∙ c .before .before .before .before .before .before .before .before .before .before .before .before .before .before .before .part-at .ensures) .0 .1, (c .before .before .before .before .before .before .before .before .before .before .before .before .before .before .before .before .before .loop .inv .inside))), c .before .before .before .before .before .before .before .before .before .before .before .before .before .before .before .before .before .before .before .before .before .before .before .before .before .pre .1 .3))
 
 exec-same-length-10 : (t : ℕ) → exec-lts.Need-same-length-10 (exec-cs t) (exec-at t) exec.Post exec-Inv-loop exec-μ-loop
-exec-same-length-10 t c = c .before .before .before .before .before .before .before .before .exec2 .kept .1 .1 .1 .1 .1 .1 .1 .0 ∙ c .before .before .before .before .before .before .before .before .before .before .before .before .before .before .skip-trivia3 .kept .1 .1 .1 .1 .1 .1 .0 ∙ (c .before .before .before .before .before .before .before .before .before .before .before .before .before .before .before .before .before .before .before .before .before .before .before .loop .inv) .events
+exec-same-length-10 t c = c .before .before .before .before .before .before .before .before .exec2 .kept .1 .1 .1 .1 .1 .1 .1 .0 ∙ c .before .before .before .before .before .before .before .before .before .before .before .before .before .before .before .before .before .skip-trivia3 .kept .1 .1 .1 .1 .1 .1 .0 ∙ (c .before .before .before .before .before .before .before .before .before .before .before .before .before .before .before .before .before .before .before .before .before .before .before .before .before .before .loop .inv) .events
 
 exec-same-length-11 : (t : ℕ) → exec-lts.Need-same-length-11 (exec-cs t) (exec-at t) exec.Post exec-Inv-loop exec-μ-loop
-exec-same-length-11 t c = c .before .before .before .before .before .before .before .before .exec2 .kept .1 .1 .1 .1 .1 .1 .1 .1 .0 ∙ (c .before .before .before .before .before .before .before .before .before .before .before .before .before .before .before .before .before .before .before .before .before .before .before .loop .inv) .errors
+exec-same-length-11 t c = c .before .before .before .before .before .before .before .before .exec2 .kept .1 .1 .1 .1 .1 .1 .1 .1 .0 ∙ (c .before .before .before .before .before .before .before .before .before .before .before .before .before .before .before .before .before .before .before .before .before .before .before .before .before .before .loop .inv) .errors
 
 exec-same-length-12 : (t : ℕ) → exec-lts.Need-same-length-12 (exec-cs t) (exec-at t) exec.Post exec-Inv-loop exec-μ-loop
-exec-same-length-12 t c = c .before .before .before .before .before .before .before .before .exec2 .kept .1 .1 .1 .1 .1 .1 .1 .1 .1 .0 ∙ (c .before .before .before .before .before .before .before .before .before .before .before .before .before .before .before .before .before .before .before .before .before .before .before .loop .inv) .scratch
+exec-same-length-12 t c = c .before .before .before .before .before .before .before .before .exec2 .kept .1 .1 .1 .1 .1 .1 .1 .1 .1 .0 ∙ (c .before .before .before .before .before .before .before .before .before .before .before .before .before .before .before .before .before .before .before .before .before .before .before .before .before .before .loop .inv) .scratch
 
 exec-returns-4 : (t : ℕ) → exec-lts.Need-returns-4 (exec-cs t) (exec-at t) exec.Post exec-Inv-loop exec-μ-loop
-exec-returns-4 t c = ends-at (c .before .before .before .before .before .before .before .before .before .before .before .before .before .before .before .before .before .before .before .before .before .before .before .loop .inv) (c .before .before .before .before .before .before .before .before .before .before .before .before .before .before .before .before .before .before .before .before .before .before .loop-test .taken) (try-on (c .before .before .before .before .before .before .before .before .before .before .before .before .before .before .before .before .before .before .before .before .before .before .before .before .before .before .before .before .before .before .before .args .d) (c .before .before .before .before .before .before .before .before .before .before .before .before .before .before .before .before .before .before .before .before .before .before .before .before .before .before .before .before .before .before .before .args .optional) (c .before .before .before .before .before .before .before .before .before .before .before .before .before .before .before .before .before .before .before .before .before .before .before .loop .i) (c .before .before .before .before .before .before .before .before .before .before .before .before .before .before .before .before .before .before .before .before .before .before .before .loop .inv .inside) (c .before .before .before .before .before .before .before .before .before .before .before .before .before .before .before .before .before .before .before .before .before .before .before .loop .events) (c .before .before .before .before .before .before .before .before .before .before .before .before .before .before .before .before .before .before .before .before .before .before .before .loop .errors) (c .before .before .before .before .before .before .before .before .before .before .before .before .before .before .before .before .before .before .before .before .before .before .before .loop .scratch) (c .before .before .before .before .before .before .before .before .before .before .before .before .before .before .before .before .before .before .before .before .before .before .before .loop .inv .wf) (sym (c .before .before .before .before .before .before .before .before .before .before .before .before .before .before .before .before .before .before .before .how .given .1) ∙ c .before .before .before .before .before .before .before .before .before .before .before .before .before .before .before .before .before .before .before .before .before .part-at .ensures) (c .before .before .before .before .before .before .before .before .before .before .before .before .before .before .before .before .if5 .left) refl (plus (plusE (from (source (c .before .before .before .before .before .before .before .before .before .before .before .before .before .before .before .before .before .before .before .before .before .before .before .before .before .before .before .before .before .before .before .args .src .now) (c .before .before .before .before .before .before .before .before .before .before .before .before .before .before .before .before .before .before .before .before .before .before .before .before .before .before .before .before .before .before .before .args .ids .now) (c .before .before .before .before .before .before .before .before .before .before .before .before .before .before .before .before .before .before .before .before .before .before .before .before .before .before .before .before .before .before .before .args .ends .now)) (c .before .before .before .before .before .before .before .before .before .before .before .before .before .before .before .before .before .before .before .before .before .before .before .loop .s) (c .before .before .before .before .before .before .before .before .before .before .before .before .before .before .before .before .before .before .before .before .before .before .before .loop .events) (c .before .before .before .before .before .before .before .before .before .before .before .before .before .before .before .before .before .before .before .before .before .before .before .loop .errors) (c .before .before .before .before .before .before .before .before .before .before .before .before .before .before .before .before .before .before .before .before .before .before .before .loop .scratch) (c .before .before .before .before .before .before .before .before .before .before .before .before .before .before .before .before .before .before .before .before .before .before .before .loop .inv .wf)) (c .before .before .before .before .before .before .before .before .before .before .before .before .before .before .skip-trivia3 .ensures (c .before .before .before .before .before .before .before .before .before .before .before .before .before .before .before .before .before .before .before .before .before .before .before .before .before .before .before .before .before .before .before .args .src .now) (c .before .before .before .before .before .before .before .before .before .before .before .before .before .before .before .before .before .before .before .before .before .before .before .loop .s) (c .before .before .before .before .before .before .before .before .before .before .before .before .before .before .before .before .if5 .left) ((from (source (c .before .before .before .before .before .before .before .before .before .before .before .before .before .before .before .before .before .before .before .before .before .before .before .before .before .before .before .before .before .before .before .args .src .now) (c .before .before .before .before .before .before .before .before .before .before .before .before .before .before .before .before .before .before .before .before .before .before .before .before .before .before .before .before .before .before .before .args .ids .now) (c .before .before .before .before .before .before .before .before .before .before .before .before .before .before .before .before .before .before .before .before .before .before .before .before .before .before .before .before .before .before .before .args .ends .now)) (c .before .before .before .before .before .before .before .before .before .before .before .before .before .before .before .before .before .before .before .before .before .before .before .loop .s) (c .before .before .before .before .before .before .before .before .before .before .before .before .before .before .before .before .before .before .before .before .before .before .before .loop .events) (c .before .before .before .before .before .before .before .before .before .before .before .before .before .before .before .before .before .before .before .before .before .before .before .loop .errors) (c .before .before .before .before .before .before .before .before .before .before .before .before .before .before .before .before .before .before .before .before .before .before .before .loop .scratch) (c .before .before .before .before .before .before .before .before .before .before .before .before .before .before .before .before .before .before .before .before .before .before .before .loop .inv .wf)) .wf .0))) (c .before .before .before .before .before .before .before .before .exec2 .ensures)) (c .if6 .taken))
+exec-returns-4 t c = ends-at (c .before .before .before .before .before .before .before .before .before .before .before .before .before .before .before .before .before .before .before .before .before .before .before .before .before .before .loop .inv) (c .before .before .before .before .before .before .before .before .before .before .before .before .before .before .before .before .before .before .before .before .before .before .before .before .before .loop-test .taken) (try-on (c .before .before .before .before .before .before .before .before .before .before .before .before .before .before .before .before .before .before .before .before .before .before .before .before .before .before .before .before .before .before .before .before .before .before .args .d) (c .before .before .before .before .before .before .before .before .before .before .before .before .before .before .before .before .before .before .before .before .before .before .before .before .before .before .before .before .before .before .before .before .before .before .args .optional) (c .before .before .before .before .before .before .before .before .before .before .before .before .before .before .before .before .before .before .before .before .before .before .before .before .before .before .loop .i) (c .before .before .before .before .before .before .before .before .before .before .before .before .before .before .before .before .before .before .before .before .before .before .before .before .before .before .loop .inv .inside) (c .before .before .before .before .before .before .before .before .before .before .before .before .before .before .before .before .before .before .before .before .before .before .before .before .before .before .loop .events) (c .before .before .before .before .before .before .before .before .before .before .before .before .before .before .before .before .before .before .before .before .before .before .before .before .before .before .loop .errors) (c .before .before .before .before .before .before .before .before .before .before .before .before .before .before .before .before .before .before .before .before .before .before .before .before .before .before .loop .scratch) (c .before .before .before .before .before .before .before .before .before .before .before .before .before .before .before .before .before .before .before .before .before .before .before .before .before .before .loop .inv .wf) (sym (c .before .before .before .before .before .before .before .before .before .before .before .before .before .before .before .before .before .before .before .before .before .before .how .given .1) ∙ c .before .before .before .before .before .before .before .before .before .before .before .before .before .before .before .before .before .before .before .before .before .before .before .before .part-at .ensures) (c .before .before .before .before .before .before .before .before .before .before .before .before .before .before .before .before .before .before .before .if4 .left) refl (plus (plusE (from (source (c .before .before .before .before .before .before .before .before .before .before .before .before .before .before .before .before .before .before .before .before .before .before .before .before .before .before .before .before .before .before .before .before .before .before .args .src .now) (c .before .before .before .before .before .before .before .before .before .before .before .before .before .before .before .before .before .before .before .before .before .before .before .before .before .before .before .before .before .before .before .before .before .before .args .ids .now) (c .before .before .before .before .before .before .before .before .before .before .before .before .before .before .before .before .before .before .before .before .before .before .before .before .before .before .before .before .before .before .before .before .before .before .args .ends .now)) (c .before .before .before .before .before .before .before .before .before .before .before .before .before .before .before .before .before .before .before .before .before .before .before .before .before .before .loop .s) (c .before .before .before .before .before .before .before .before .before .before .before .before .before .before .before .before .before .before .before .before .before .before .before .before .before .before .loop .events) (c .before .before .before .before .before .before .before .before .before .before .before .before .before .before .before .before .before .before .before .before .before .before .before .before .before .before .loop .errors) (c .before .before .before .before .before .before .before .before .before .before .before .before .before .before .before .before .before .before .before .before .before .before .before .before .before .before .loop .scratch) (c .before .before .before .before .before .before .before .before .before .before .before .before .before .before .before .before .before .before .before .before .before .before .before .before .before .before .loop .inv .wf)) (c .before .before .before .before .before .before .before .before .before .before .before .before .before .before .before .before .before .skip-trivia3 .ensures (c .before .before .before .before .before .before .before .before .before .before .before .before .before .before .before .before .before .before .before .before .before .before .before .before .before .before .before .before .before .before .before .before .before .before .args .src .now) (c .before .before .before .before .before .before .before .before .before .before .before .before .before .before .before .before .before .before .before .before .before .before .before .before .before .before .loop .s) (c .before .before .before .before .before .before .before .before .before .before .before .before .before .before .before .before .before .before .before .if4 .left) ((from (source (c .before .before .before .before .before .before .before .before .before .before .before .before .before .before .before .before .before .before .before .before .before .before .before .before .before .before .before .before .before .before .before .before .before .before .args .src .now) (c .before .before .before .before .before .before .before .before .before .before .before .before .before .before .before .before .before .before .before .before .before .before .before .before .before .before .before .before .before .before .before .before .before .before .args .ids .now) (c .before .before .before .before .before .before .before .before .before .before .before .before .before .before .before .before .before .before .before .before .before .before .before .before .before .before .before .before .before .before .before .before .before .before .args .ends .now)) (c .before .before .before .before .before .before .before .before .before .before .before .before .before .before .before .before .before .before .before .before .before .before .before .before .before .before .loop .s) (c .before .before .before .before .before .before .before .before .before .before .before .before .before .before .before .before .before .before .before .before .before .before .before .before .before .before .loop .events) (c .before .before .before .before .before .before .before .before .before .before .before .before .before .before .before .before .before .before .before .before .before .before .before .before .before .before .loop .errors) (c .before .before .before .before .before .before .before .before .before .before .before .before .before .before .before .before .before .before .before .before .before .before .before .before .before .before .loop .scratch) (c .before .before .before .before .before .before .before .before .before .before .before .before .before .before .before .before .before .before .before .before .before .before .before .before .before .before .loop .inv .wf)) .wf .0))) (c .before .before .before .before .before .before .before .before .exec2 .ensures)) (c .if5 .taken))
 
-exec-same-length-13 : (t : ℕ) → exec-lts.Need-same-length-13 (exec-cs t) (exec-at t) exec.Post exec-Inv-loop exec-μ-loop
-exec-same-length-13 t c = c .before .before .before .before .before .before .before .before .before .exec2 .kept .1 .1 .1 .1 .1 .1 .1 .0 ∙ c .before .before .before .before .before .before .before .before .before .before .before .before .before .before .before .skip-trivia3 .kept .1 .1 .1 .1 .1 .1 .0 ∙ (c .before .before .before .before .before .before .before .before .before .before .before .before .before .before .before .before .before .before .before .before .before .before .before .before .loop .inv) .events
-
-exec-same-length-14 : (t : ℕ) → exec-lts.Need-same-length-14 (exec-cs t) (exec-at t) exec.Post exec-Inv-loop exec-μ-loop
-exec-same-length-14 t c = c .before .before .before .before .before .before .before .before .before .exec2 .kept .1 .1 .1 .1 .1 .1 .1 .1 .0 ∙ (c .before .before .before .before .before .before .before .before .before .before .before .before .before .before .before .before .before .before .before .before .before .before .before .before .loop .inv) .errors
-
-exec-same-length-15 : (t : ℕ) → exec-lts.Need-same-length-15 (exec-cs t) (exec-at t) exec.Post exec-Inv-loop exec-μ-loop
-exec-same-length-15 t c = c .before .before .before .before .before .before .before .before .before .exec2 .kept .1 .1 .1 .1 .1 .1 .1 .1 .1 .0 ∙ (c .before .before .before .before .before .before .before .before .before .before .before .before .before .before .before .before .before .before .before .before .before .before .before .before .loop .inv) .scratch
-
-exec-returns-5 : (t : ℕ) → exec-lts.Need-returns-5 (exec-cs t) (exec-at t) exec.Post exec-Inv-loop exec-μ-loop
-exec-returns-5 t c = ends-at (c .before .before .before .before .before .before .before .before .before .before .before .before .before .before .before .before .before .before .before .before .before .before .before .before .loop .inv) (c .before .before .before .before .before .before .before .before .before .before .before .before .before .before .before .before .before .before .before .before .before .before .before .loop-test .taken) (try-last (c .before .before .before .before .before .before .before .before .before .before .before .before .before .before .before .before .before .before .before .before .before .before .before .before .before .before .before .before .before .before .before .before .args .d) (c .before .before .before .before .before .before .before .before .before .before .before .before .before .before .before .before .before .before .before .before .before .before .before .before .before .before .before .before .before .before .before .before .args .optional) (c .before .before .before .before .before .before .before .before .before .before .before .before .before .before .before .before .before .before .before .before .before .before .before .before .loop .i) (c .before .before .before .before .before .before .before .before .before .before .before .before .before .before .before .before .before .before .before .before .before .before .before .before .loop .inv .inside) (c .before .before .before .before .before .before .before .before .before .before .before .before .before .before .before .before .before .before .before .before .before .before .before .before .loop .events) (c .before .before .before .before .before .before .before .before .before .before .before .before .before .before .before .before .before .before .before .before .before .before .before .before .loop .errors) (c .before .before .before .before .before .before .before .before .before .before .before .before .before .before .before .before .before .before .before .before .before .before .before .before .loop .scratch) (c .before .before .before .before .before .before .before .before .before .before .before .before .before .before .before .before .before .before .before .before .before .before .before .before .loop .inv .wf) (sym (c .before .before .before .before .before .before .before .before .before .before .before .before .before .before .before .before .before .before .before .before .how .given .1) ∙ c .before .before .before .before .before .before .before .before .before .before .before .before .before .before .before .before .before .before .before .before .before .before .part-at .ensures) (c .before .before .before .before .before .before .before .before .before .before .before .before .before .before .before .before .before .if5 .left) refl (plus (plusE (from (source (c .before .before .before .before .before .before .before .before .before .before .before .before .before .before .before .before .before .before .before .before .before .before .before .before .before .before .before .before .before .before .before .before .args .src .now) (c .before .before .before .before .before .before .before .before .before .before .before .before .before .before .before .before .before .before .before .before .before .before .before .before .before .before .before .before .before .before .before .before .args .ids .now) (c .before .before .before .before .before .before .before .before .before .before .before .before .before .before .before .before .before .before .before .before .before .before .before .before .before .before .before .before .before .before .before .before .args .ends .now)) (c .before .before .before .before .before .before .before .before .before .before .before .before .before .before .before .before .before .before .before .before .before .before .before .before .loop .s) (c .before .before .before .before .before .before .before .before .before .before .before .before .before .before .before .before .before .before .before .before .before .before .before .before .loop .events) (c .before .before .before .before .before .before .before .before .before .before .before .before .before .before .before .before .before .before .before .before .before .before .before .before .loop .errors) (c .before .before .before .before .before .before .before .before .before .before .before .before .before .before .before .before .before .before .before .before .before .before .before .before .loop .scratch) (c .before .before .before .before .before .before .before .before .before .before .before .before .before .before .before .before .before .before .before .before .before .before .before .before .loop .inv .wf)) (c .before .before .before .before .before .before .before .before .before .before .before .before .before .before .before .skip-trivia3 .ensures (c .before .before .before .before .before .before .before .before .before .before .before .before .before .before .before .before .before .before .before .before .before .before .before .before .before .before .before .before .before .before .before .before .args .src .now) (c .before .before .before .before .before .before .before .before .before .before .before .before .before .before .before .before .before .before .before .before .before .before .before .before .loop .s) (c .before .before .before .before .before .before .before .before .before .before .before .before .before .before .before .before .before .if5 .left) ((from (source (c .before .before .before .before .before .before .before .before .before .before .before .before .before .before .before .before .before .before .before .before .before .before .before .before .before .before .before .before .before .before .before .before .args .src .now) (c .before .before .before .before .before .before .before .before .before .before .before .before .before .before .before .before .before .before .before .before .before .before .before .before .before .before .before .before .before .before .before .before .args .ids .now) (c .before .before .before .before .before .before .before .before .before .before .before .before .before .before .before .before .before .before .before .before .before .before .before .before .before .before .before .before .before .before .before .before .args .ends .now)) (c .before .before .before .before .before .before .before .before .before .before .before .before .before .before .before .before .before .before .before .before .before .before .before .before .loop .s) (c .before .before .before .before .before .before .before .before .before .before .before .before .before .before .before .before .before .before .before .before .before .before .before .before .loop .events) (c .before .before .before .before .before .before .before .before .before .before .before .before .before .before .before .before .before .before .before .before .before .before .before .before .loop .errors) (c .before .before .before .before .before .before .before .before .before .before .before .before .before .before .before .before .before .before .before .before .before .before .before .before .loop .scratch) (c .before .before .before .before .before .before .before .before .before .before .before .before .before .before .before .before .before .before .before .before .before .before .before .before .loop .inv .wf)) .wf .0))) (c .before .before .before .before .before .before .before .before .before .exec2 .ensures)) (c .before .if6 .left) (λ e. omega (arith, e, c .if7 .taken)) (c .if7 .taken) refl)
-
-exec-same-length-16 : (t : ℕ) → exec-lts.Need-same-length-16 (exec-cs t) (exec-at t) exec.Post exec-Inv-loop exec-μ-loop
-exec-same-length-16 t c = c .before .before .before .before .before .before .before .before .before .before .exec2 .kept .1 .1 .1 .1 .1 .1 .1 .0 ∙ c .before .before .before .before .before .before .before .before .before .before .before .before .before .before .before .before .skip-trivia3 .kept .1 .1 .1 .1 .1 .1 .0 ∙ (c .before .before .before .before .before .before .before .before .before .before .before .before .before .before .before .before .before .before .before .before .before .before .before .before .before .loop .inv) .events
-
-exec-same-length-17 : (t : ℕ) → exec-lts.Need-same-length-17 (exec-cs t) (exec-at t) exec.Post exec-Inv-loop exec-μ-loop
-exec-same-length-17 t c = c .before .before .before .before .before .before .before .before .before .before .exec2 .kept .1 .1 .1 .1 .1 .1 .1 .1 .0 ∙ (c .before .before .before .before .before .before .before .before .before .before .before .before .before .before .before .before .before .before .before .before .before .before .before .before .before .loop .inv) .errors
-
-exec-same-length-18 : (t : ℕ) → exec-lts.Need-same-length-18 (exec-cs t) (exec-at t) exec.Post exec-Inv-loop exec-μ-loop
-exec-same-length-18 t c = c .before .before .before .before .before .before .before .before .before .before .exec2 .kept .1 .1 .1 .1 .1 .1 .1 .1 .1 .0 ∙ (c .before .before .before .before .before .before .before .before .before .before .before .before .before .before .before .before .before .before .before .before .before .before .before .before .before .loop .inv) .scratch
-
-exec-returns-6 : (t : ℕ) → exec-lts.Need-returns-6 (exec-cs t) (exec-at t) exec.Post exec-Inv-loop exec-μ-loop
-exec-returns-6 t c = ends-at (c .before .before .before .before .before .before .before .before .before .before .before .before .before .before .before .before .before .before .before .before .before .before .before .before .before .loop .inv) (c .before .before .before .before .before .before .before .before .before .before .before .before .before .before .before .before .before .before .before .before .before .before .before .before .loop-test .taken) (try-opt (c .before .before .before .before .before .before .before .before .before .before .before .before .before .before .before .before .before .before .before .before .before .before .before .before .before .before .before .before .before .before .before .before .before .args .d) (c .before .before .before .before .before .before .before .before .before .before .before .before .before .before .before .before .before .before .before .before .before .before .before .before .before .before .before .before .before .before .before .before .before .args .optional) (c .before .before .before .before .before .before .before .before .before .before .before .before .before .before .before .before .before .before .before .before .before .before .before .before .before .loop .i) (c .before .before .before .before .before .before .before .before .before .before .before .before .before .before .before .before .before .before .before .before .before .before .before .before .before .loop .inv .inside) (c .before .before .before .before .before .before .before .before .before .before .before .before .before .before .before .before .before .before .before .before .before .before .before .before .before .loop .events) (c .before .before .before .before .before .before .before .before .before .before .before .before .before .before .before .before .before .before .before .before .before .before .before .before .before .loop .errors) (c .before .before .before .before .before .before .before .before .before .before .before .before .before .before .before .before .before .before .before .before .before .before .before .before .before .loop .scratch) (c .before .before .before .before .before .before .before .before .before .before .before .before .before .before .before .before .before .before .before .before .before .before .before .before .before .loop .inv .wf) (sym (c .before .before .before .before .before .before .before .before .before .before .before .before .before .before .before .before .before .before .before .before .before .how .given .1) ∙ c .before .before .before .before .before .before .before .before .before .before .before .before .before .before .before .before .before .before .before .before .before .before .before .part-at .ensures) (c .before .before .before .before .before .before .before .before .before .before .before .before .before .before .before .before .before .before .if5 .left) refl (plus (plusE (from (source (c .before .before .before .before .before .before .before .before .before .before .before .before .before .before .before .before .before .before .before .before .before .before .before .before .before .before .before .before .before .before .before .before .before .args .src .now) (c .before .before .before .before .before .before .before .before .before .before .before .before .before .before .before .before .before .before .before .before .before .before .before .before .before .before .before .before .before .before .before .before .before .args .ids .now) (c .before .before .before .before .before .before .before .before .before .before .before .before .before .before .before .before .before .before .before .before .before .before .before .before .before .before .before .before .before .before .before .before .before .args .ends .now)) (c .before .before .before .before .before .before .before .before .before .before .before .before .before .before .before .before .before .before .before .before .before .before .before .before .before .loop .s) (c .before .before .before .before .before .before .before .before .before .before .before .before .before .before .before .before .before .before .before .before .before .before .before .before .before .loop .events) (c .before .before .before .before .before .before .before .before .before .before .before .before .before .before .before .before .before .before .before .before .before .before .before .before .before .loop .errors) (c .before .before .before .before .before .before .before .before .before .before .before .before .before .before .before .before .before .before .before .before .before .before .before .before .before .loop .scratch) (c .before .before .before .before .before .before .before .before .before .before .before .before .before .before .before .before .before .before .before .before .before .before .before .before .before .loop .inv .wf)) (c .before .before .before .before .before .before .before .before .before .before .before .before .before .before .before .before .skip-trivia3 .ensures (c .before .before .before .before .before .before .before .before .before .before .before .before .before .before .before .before .before .before .before .before .before .before .before .before .before .before .before .before .before .before .before .before .before .args .src .now) (c .before .before .before .before .before .before .before .before .before .before .before .before .before .before .before .before .before .before .before .before .before .before .before .before .before .loop .s) (c .before .before .before .before .before .before .before .before .before .before .before .before .before .before .before .before .before .before .if5 .left) ((from (source (c .before .before .before .before .before .before .before .before .before .before .before .before .before .before .before .before .before .before .before .before .before .before .before .before .before .before .before .before .before .before .before .before .before .args .src .now) (c .before .before .before .before .before .before .before .before .before .before .before .before .before .before .before .before .before .before .before .before .before .before .before .before .before .before .before .before .before .before .before .before .before .args .ids .now) (c .before .before .before .before .before .before .before .before .before .before .before .before .before .before .before .before .before .before .before .before .before .before .before .before .before .before .before .before .before .before .before .before .before .args .ends .now)) (c .before .before .before .before .before .before .before .before .before .before .before .before .before .before .before .before .before .before .before .before .before .before .before .before .before .loop .s) (c .before .before .before .before .before .before .before .before .before .before .before .before .before .before .before .before .before .before .before .before .before .before .before .before .before .loop .events) (c .before .before .before .before .before .before .before .before .before .before .before .before .before .before .before .before .before .before .before .before .before .before .before .before .before .loop .errors) (c .before .before .before .before .before .before .before .before .before .before .before .before .before .before .before .before .before .before .before .before .before .before .before .before .before .loop .scratch) (c .before .before .before .before .before .before .before .before .before .before .before .before .before .before .before .before .before .before .before .before .before .before .before .before .before .loop .inv .wf)) .wf .0))) (c .before .before .before .before .before .before .before .before .before .before .exec2 .ensures)) (c .before .before .if6 .left) (c .if8 .taken) refl)
+exec-missed-requires-2 : (t : ℕ) → exec-lts.Need-missed-requires-2 (exec-cs t) (exec-at t) exec.Post exec-Inv-loop exec-μ-loop
+exec-missed-requires-2 t c κs = search needs
 
 exec-loop-less-12 : (t : ℕ) → exec-lts.Need-loop-less-12 (exec-cs t) (exec-at t) exec.Post exec-Inv-loop exec-μ-loop
-exec-loop-less-12 t c = (row-sound (c .before .before .before .before .before .before .before .before .before .before .before .before .before .before .before .before .before .before .before .before .before .before .before .before .before .loop .i) ((c .before .before .before .before .before .before .before .before .before .before .before .before .before .before .before .before .before .before .before .before .before .before .before .before .loop-test .taken), (c .before .before .before .before .before .before .before .before .before .before .before .before .before .before .before .before .before .before .before .before .before .before .before .before .before .loop .inv .inside)) (sym (c .before .before .before .before .before .before .before .before .before .before .before .before .before .before .before .before .before .before .before .before .before .how .given .1) ∙ c .before .before .before .before .before .before .before .before .before .before .before .before .before .before .before .before .before .before .before .before .before .before .before .part-at .ensures) .1 (c .if8 .left) (c .before .if7 .left)) .1
+exec-loop-less-12 t c = row-sound (c .before .before .before .before .before .before .before .before .before .before .before .before .before .before .before .before .before .before .before .before .before .before .before .before .before .before .before .loop .i) ((c .before .before .before .before .before .before .before .before .before .before .before .before .before .before .before .before .before .before .before .before .before .before .before .before .before .before .loop-test .taken), (c .before .before .before .before .before .before .before .before .before .before .before .before .before .before .before .before .before .before .before .before .before .before .before .before .before .before .before .loop .inv .inside)) (sym (c .before .before .before .before .before .before .before .before .before .before .before .before .before .before .before .before .before .before .before .before .before .before .before .how .given .1) ∙ c .before .before .before .before .before .before .before .before .before .before .before .before .before .before .before .before .before .before .before .before .before .before .before .before .before .part-at .ensures) .1
 
 exec-loop-again-12 : (t : ℕ) → exec-lts.Need-loop-again-12 (exec-cs t) (exec-at t) exec.Post exec-Inv-loop exec-μ-loop
-exec-loop-again-12 t c = goes-on (c .before .before .before .before .before .before .before .before .before .before .before .before .before .before .before .before .before .before .before .before .before .before .before .before .before .loop .inv) (c .before .before .before .before .before .before .before .before .before .before .before .before .before .before .before .before .before .before .before .before .before .before .before .before .loop-test .taken) ((others (c .before .before .before .before .before .before .before .before .before .before .before .before .before .before .before .before .before .before .before .before .before .before .before .before .before .before .before .before .before .before .before .before .before .args .d) (c .before .before .before .before .before .before .before .before .before .before .before .before .before .before .before .before .before .before .before .before .before .before .before .before .before .before .before .before .before .before .before .before .before .args .optional) (c .before .before .before .before .before .before .before .before .before .before .before .before .before .before .before .before .before .before .before .before .before .before .before .before .before .loop .i) (c .before .before .before .before .before .before .before .before .before .before .before .before .before .before .before .before .before .before .before .before .before .before .before .before .before .loop .inv .inside) (c .before .before .before .before .before .before .before .before .before .before .before .before .before .before .before .before .before .before .before .before .before .before .before .before .before .loop .events) (c .before .before .before .before .before .before .before .before .before .before .before .before .before .before .before .before .before .before .before .before .before .before .before .before .before .loop .errors) (c .before .before .before .before .before .before .before .before .before .before .before .before .before .before .before .before .before .before .before .before .before .before .before .before .before .loop .scratch) (c .before .before .before .before .before .before .before .before .before .before .before .before .before .before .before .before .before .before .before .before .before .before .before .before .before .loop .inv .wf) (sym (c .before .before .before .before .before .before .before .before .before .before .before .before .before .before .before .before .before .before .before .before .before .how .given .1) ∙ c .before .before .before .before .before .before .before .before .before .before .before .before .before .before .before .before .before .before .before .before .before .before .before .part-at .ensures) (c .before .before .before .before .before .before .before .before .before .before .before .before .before .before .before .before .before .before .if5 .left) refl (plus (plusE (from (source (c .before .before .before .before .before .before .before .before .before .before .before .before .before .before .before .before .before .before .before .before .before .before .before .before .before .before .before .before .before .before .before .before .before .args .src .now) (c .before .before .before .before .before .before .before .before .before .before .before .before .before .before .before .before .before .before .before .before .before .before .before .before .before .before .before .before .before .before .before .before .before .args .ids .now) (c .before .before .before .before .before .before .before .before .before .before .before .before .before .before .before .before .before .before .before .before .before .before .before .before .before .before .before .before .before .before .before .before .before .args .ends .now)) (c .before .before .before .before .before .before .before .before .before .before .before .before .before .before .before .before .before .before .before .before .before .before .before .before .before .loop .s) (c .before .before .before .before .before .before .before .before .before .before .before .before .before .before .before .before .before .before .before .before .before .before .before .before .before .loop .events) (c .before .before .before .before .before .before .before .before .before .before .before .before .before .before .before .before .before .before .before .before .before .before .before .before .before .loop .errors) (c .before .before .before .before .before .before .before .before .before .before .before .before .before .before .before .before .before .before .before .before .before .before .before .before .before .loop .scratch) (c .before .before .before .before .before .before .before .before .before .before .before .before .before .before .before .before .before .before .before .before .before .before .before .before .before .loop .inv .wf)) (c .before .before .before .before .before .before .before .before .before .before .before .before .before .before .before .before .skip-trivia3 .ensures (c .before .before .before .before .before .before .before .before .before .before .before .before .before .before .before .before .before .before .before .before .before .before .before .before .before .before .before .before .before .before .before .before .before .args .src .now) (c .before .before .before .before .before .before .before .before .before .before .before .before .before .before .before .before .before .before .before .before .before .before .before .before .before .loop .s) (c .before .before .before .before .before .before .before .before .before .before .before .before .before .before .before .before .before .before .if5 .left) ((from (source (c .before .before .before .before .before .before .before .before .before .before .before .before .before .before .before .before .before .before .before .before .before .before .before .before .before .before .before .before .before .before .before .before .before .args .src .now) (c .before .before .before .before .before .before .before .before .before .before .before .before .before .before .before .before .before .before .before .before .before .before .before .before .before .before .before .before .before .before .before .before .before .args .ids .now) (c .before .before .before .before .before .before .before .before .before .before .before .before .before .before .before .before .before .before .before .before .before .before .before .before .before .before .before .before .before .before .before .before .before .args .ends .now)) (c .before .before .before .before .before .before .before .before .before .before .before .before .before .before .before .before .before .before .before .before .before .before .before .before .before .loop .s) (c .before .before .before .before .before .before .before .before .before .before .before .before .before .before .before .before .before .before .before .before .before .before .before .before .before .loop .events) (c .before .before .before .before .before .before .before .before .before .before .before .before .before .before .before .before .before .before .before .before .before .before .before .before .before .loop .errors) (c .before .before .before .before .before .before .before .before .before .before .before .before .before .before .before .before .before .before .before .before .before .before .before .before .before .loop .scratch) (c .before .before .before .before .before .before .before .before .before .before .before .before .before .before .before .before .before .before .before .before .before .before .before .before .before .loop .inv .wf)) .wf .0))) (c .before .before .before .before .before .before .before .before .before .before .exec2 .ensures)) (c .before .before .if6 .left) refl .here) .wf) ((row-sound (c .before .before .before .before .before .before .before .before .before .before .before .before .before .before .before .before .before .before .before .before .before .before .before .before .before .loop .i) ((c .before .before .before .before .before .before .before .before .before .before .before .before .before .before .before .before .before .before .before .before .before .before .before .before .loop-test .taken), (c .before .before .before .before .before .before .before .before .before .before .before .before .before .before .before .before .before .before .before .before .before .before .before .before .before .loop .inv .inside)) (sym (c .before .before .before .before .before .before .before .before .before .before .before .before .before .before .before .before .before .before .before .before .before .how .given .1) ∙ c .before .before .before .before .before .before .before .before .before .before .before .before .before .before .before .before .before .before .before .before .before .before .before .part-at .ensures) .1 (c .if8 .left) (c .before .if7 .left)) .1) (try-others (c .before .before .before .before .before .before .before .before .before .before .before .before .before .before .before .before .before .before .before .before .before .before .before .before .before .before .before .before .before .before .before .before .before .args .d) (c .before .before .before .before .before .before .before .before .before .before .before .before .before .before .before .before .before .before .before .before .before .before .before .before .before .before .before .before .before .before .before .before .before .args .optional) (c .before .before .before .before .before .before .before .before .before .before .before .before .before .before .before .before .before .before .before .before .before .before .before .before .before .loop .i) (c .before .before .before .before .before .before .before .before .before .before .before .before .before .before .before .before .before .before .before .before .before .before .before .before .before .loop .inv .inside) (c .before .before .before .before .before .before .before .before .before .before .before .before .before .before .before .before .before .before .before .before .before .before .before .before .before .loop .events) (c .before .before .before .before .before .before .before .before .before .before .before .before .before .before .before .before .before .before .before .before .before .before .before .before .before .loop .errors) (c .before .before .before .before .before .before .before .before .before .before .before .before .before .before .before .before .before .before .before .before .before .before .before .before .before .loop .scratch) (c .before .before .before .before .before .before .before .before .before .before .before .before .before .before .before .before .before .before .before .before .before .before .before .before .before .loop .inv .wf) (sym (c .before .before .before .before .before .before .before .before .before .before .before .before .before .before .before .before .before .before .before .before .before .how .given .1) ∙ c .before .before .before .before .before .before .before .before .before .before .before .before .before .before .before .before .before .before .before .before .before .before .before .part-at .ensures) (c .before .before .before .before .before .before .before .before .before .before .before .before .before .before .before .before .before .before .if5 .left) refl (plus (plusE (from (source (c .before .before .before .before .before .before .before .before .before .before .before .before .before .before .before .before .before .before .before .before .before .before .before .before .before .before .before .before .before .before .before .before .before .args .src .now) (c .before .before .before .before .before .before .before .before .before .before .before .before .before .before .before .before .before .before .before .before .before .before .before .before .before .before .before .before .before .before .before .before .before .args .ids .now) (c .before .before .before .before .before .before .before .before .before .before .before .before .before .before .before .before .before .before .before .before .before .before .before .before .before .before .before .before .before .before .before .before .before .args .ends .now)) (c .before .before .before .before .before .before .before .before .before .before .before .before .before .before .before .before .before .before .before .before .before .before .before .before .before .loop .s) (c .before .before .before .before .before .before .before .before .before .before .before .before .before .before .before .before .before .before .before .before .before .before .before .before .before .loop .events) (c .before .before .before .before .before .before .before .before .before .before .before .before .before .before .before .before .before .before .before .before .before .before .before .before .before .loop .errors) (c .before .before .before .before .before .before .before .before .before .before .before .before .before .before .before .before .before .before .before .before .before .before .before .before .before .loop .scratch) (c .before .before .before .before .before .before .before .before .before .before .before .before .before .before .before .before .before .before .before .before .before .before .before .before .before .loop .inv .wf)) (c .before .before .before .before .before .before .before .before .before .before .before .before .before .before .before .before .skip-trivia3 .ensures (c .before .before .before .before .before .before .before .before .before .before .before .before .before .before .before .before .before .before .before .before .before .before .before .before .before .before .before .before .before .before .before .before .before .args .src .now) (c .before .before .before .before .before .before .before .before .before .before .before .before .before .before .before .before .before .before .before .before .before .before .before .before .before .loop .s) (c .before .before .before .before .before .before .before .before .before .before .before .before .before .before .before .before .before .before .if5 .left) ((from (source (c .before .before .before .before .before .before .before .before .before .before .before .before .before .before .before .before .before .before .before .before .before .before .before .before .before .before .before .before .before .before .before .before .before .args .src .now) (c .before .before .before .before .before .before .before .before .before .before .before .before .before .before .before .before .before .before .before .before .before .before .before .before .before .before .before .before .before .before .before .before .before .args .ids .now) (c .before .before .before .before .before .before .before .before .before .before .before .before .before .before .before .before .before .before .before .before .before .before .before .before .before .before .before .before .before .before .before .before .before .args .ends .now)) (c .before .before .before .before .before .before .before .before .before .before .before .before .before .before .before .before .before .before .before .before .before .before .before .before .before .loop .s) (c .before .before .before .before .before .before .before .before .before .before .before .before .before .before .before .before .before .before .before .before .before .before .before .before .before .loop .events) (c .before .before .before .before .before .before .before .before .before .before .before .before .before .before .before .before .before .before .before .before .before .before .before .before .before .loop .errors) (c .before .before .before .before .before .before .before .before .before .before .before .before .before .before .before .before .before .before .before .before .before .before .before .before .before .loop .scratch) (c .before .before .before .before .before .before .before .before .before .before .before .before .before .before .before .before .before .before .before .before .before .before .before .before .before .loop .inv .wf)) .wf .0))) (c .before .before .before .before .before .before .before .before .before .before .exec2 .ensures)) (c .if8 .left) (c .before .if7 .left) ((row-sound (c .before .before .before .before .before .before .before .before .before .before .before .before .before .before .before .before .before .before .before .before .before .before .before .before .before .loop .i) ((c .before .before .before .before .before .before .before .before .before .before .before .before .before .before .before .before .before .before .before .before .before .before .before .before .loop-test .taken), (c .before .before .before .before .before .before .before .before .before .before .before .before .before .before .before .before .before .before .before .before .before .before .before .before .before .loop .inv .inside)) (sym (c .before .before .before .before .before .before .before .before .before .before .before .before .before .before .before .before .before .before .before .before .before .how .given .1) ∙ c .before .before .before .before .before .before .before .before .before .before .before .before .before .before .before .before .before .before .before .before .before .before .before .part-at .ensures) .1 (c .if8 .left) (c .before .if7 .left)) .0) (c .before .before .if6 .left) refl) (c .before .before .before .before .before .before .before .before .before .before .exec2 .kept .1 .1 .1 .1 .1 .1 .1 .0 ∙ c .before .before .before .before .before .before .before .before .before .before .before .before .before .before .before .before .skip-trivia3 .kept .1 .1 .1 .1 .1 .1 .0) (c .before .before .before .before .before .before .before .before .before .before .exec2 .kept .1 .1 .1 .1 .1 .1 .1 .1 .0) (c .before .before .before .before .before .before .before .before .before .before .exec2 .kept .1 .1 .1 .1 .1 .1 .1 .1 .1 .0)
+exec-loop-again-12 t c = goes-on (c .before .before .before .before .before .before .before .before .before .before .before .before .before .before .before .before .before .before .before .before .before .before .before .before .before .before .before .loop .inv) (c .before .before .before .before .before .before .before .before .before .before .before .before .before .before .before .before .before .before .before .before .before .before .before .before .before .before .loop-test .taken) (failed-wf (c .before .before .before .before .before .before .before .before .before .before .before .before .before .before .before .before .before .before .before .before .before .before .before .before .before .before .before .before .before .before .before .before .before .before .before .args .d) (c .before .before .before .before .before .before .before .before .before .before .before .before .before .before .before .before .before .before .before .before .before .before .before .before .before .before .before .before .before .before .before .before .before .before .before .args .optional) (c .before .before .before .before .before .before .before .before .before .before .before .before .before .before .before .before .before .before .before .before .before .before .before .before .before .before .before .loop .i) (c .before .before .before .before .before .before .before .before .before .before .before .before .before .before .before .before .before .before .before .before .before .before .before .before .before .before .before .loop .inv .inside) (c .before .before .before .before .before .before .before .before .before .before .before .before .before .before .before .before .before .before .before .before .before .before .before .before .before .before .before .loop .events) (c .before .before .before .before .before .before .before .before .before .before .before .before .before .before .before .before .before .before .before .before .before .before .before .before .before .before .before .loop .errors) (c .before .before .before .before .before .before .before .before .before .before .before .before .before .before .before .before .before .before .before .before .before .before .before .before .before .before .before .loop .scratch) (c .before .before .before .before .before .before .before .before .before .before .before .before .before .before .before .before .before .before .before .before .before .before .before .before .before .before .before .loop .inv .wf) (sym (c .before .before .before .before .before .before .before .before .before .before .before .before .before .before .before .before .before .before .before .before .before .before .before .how .given .1) ∙ c .before .before .before .before .before .before .before .before .before .before .before .before .before .before .before .before .before .before .before .before .before .before .before .before .before .part-at .ensures) (c .before .before .before .before .before .before .before .before .before .before .before .before .before .before .before .before .before .before .before .before .if4 .left) refl (plus (plusE (from (source (c .before .before .before .before .before .before .before .before .before .before .before .before .before .before .before .before .before .before .before .before .before .before .before .before .before .before .before .before .before .before .before .before .before .before .before .args .src .now) (c .before .before .before .before .before .before .before .before .before .before .before .before .before .before .before .before .before .before .before .before .before .before .before .before .before .before .before .before .before .before .before .before .before .before .before .args .ids .now) (c .before .before .before .before .before .before .before .before .before .before .before .before .before .before .before .before .before .before .before .before .before .before .before .before .before .before .before .before .before .before .before .before .before .before .before .args .ends .now)) (c .before .before .before .before .before .before .before .before .before .before .before .before .before .before .before .before .before .before .before .before .before .before .before .before .before .before .before .loop .s) (c .before .before .before .before .before .before .before .before .before .before .before .before .before .before .before .before .before .before .before .before .before .before .before .before .before .before .before .loop .events) (c .before .before .before .before .before .before .before .before .before .before .before .before .before .before .before .before .before .before .before .before .before .before .before .before .before .before .before .loop .errors) (c .before .before .before .before .before .before .before .before .before .before .before .before .before .before .before .before .before .before .before .before .before .before .before .before .before .before .before .loop .scratch) (c .before .before .before .before .before .before .before .before .before .before .before .before .before .before .before .before .before .before .before .before .before .before .before .before .before .before .before .loop .inv .wf)) (c .before .before .before .before .before .before .before .before .before .before .before .before .before .before .before .before .before .before .skip-trivia3 .ensures (c .before .before .before .before .before .before .before .before .before .before .before .before .before .before .before .before .before .before .before .before .before .before .before .before .before .before .before .before .before .before .before .before .before .before .before .args .src .now) (c .before .before .before .before .before .before .before .before .before .before .before .before .before .before .before .before .before .before .before .before .before .before .before .before .before .before .before .loop .s) (c .before .before .before .before .before .before .before .before .before .before .before .before .before .before .before .before .before .before .before .before .if4 .left) ((from (source (c .before .before .before .before .before .before .before .before .before .before .before .before .before .before .before .before .before .before .before .before .before .before .before .before .before .before .before .before .before .before .before .before .before .before .before .args .src .now) (c .before .before .before .before .before .before .before .before .before .before .before .before .before .before .before .before .before .before .before .before .before .before .before .before .before .before .before .before .before .before .before .before .before .before .before .args .ids .now) (c .before .before .before .before .before .before .before .before .before .before .before .before .before .before .before .before .before .before .before .before .before .before .before .before .before .before .before .before .before .before .before .before .before .before .before .args .ends .now)) (c .before .before .before .before .before .before .before .before .before .before .before .before .before .before .before .before .before .before .before .before .before .before .before .before .before .before .before .loop .s) (c .before .before .before .before .before .before .before .before .before .before .before .before .before .before .before .before .before .before .before .before .before .before .before .before .before .before .before .loop .events) (c .before .before .before .before .before .before .before .before .before .before .before .before .before .before .before .before .before .before .before .before .before .before .before .before .before .before .before .loop .errors) (c .before .before .before .before .before .before .before .before .before .before .before .before .before .before .before .before .before .before .before .before .before .before .before .before .before .before .before .loop .scratch) (c .before .before .before .before .before .before .before .before .before .before .before .before .before .before .before .before .before .before .before .before .before .before .before .before .before .before .before .loop .inv .wf)) .wf .0))) (c .before .before .before .before .before .before .before .before .before .exec2 .ensures)) (c .before .if5 .left) (c .missed2 .ensures)) (row-sound (c .before .before .before .before .before .before .before .before .before .before .before .before .before .before .before .before .before .before .before .before .before .before .before .before .before .before .before .loop .i) ((c .before .before .before .before .before .before .before .before .before .before .before .before .before .before .before .before .before .before .before .before .before .before .before .before .before .before .loop-test .taken), (c .before .before .before .before .before .before .before .before .before .before .before .before .before .before .before .before .before .before .before .before .before .before .before .before .before .before .before .loop .inv .inside)) (sym (c .before .before .before .before .before .before .before .before .before .before .before .before .before .before .before .before .before .before .before .before .before .before .before .how .given .1) ∙ c .before .before .before .before .before .before .before .before .before .before .before .before .before .before .before .before .before .before .before .before .before .before .before .before .before .part-at .ensures) .1) (try-fails (c .before .before .before .before .before .before .before .before .before .before .before .before .before .before .before .before .before .before .before .before .before .before .before .before .before .before .before .before .before .before .before .before .before .before .before .args .d) (c .before .before .before .before .before .before .before .before .before .before .before .before .before .before .before .before .before .before .before .before .before .before .before .before .before .before .before .before .before .before .before .before .before .before .before .args .optional) (c .before .before .before .before .before .before .before .before .before .before .before .before .before .before .before .before .before .before .before .before .before .before .before .before .before .before .before .loop .i) (c .before .before .before .before .before .before .before .before .before .before .before .before .before .before .before .before .before .before .before .before .before .before .before .before .before .before .before .loop .inv .inside) (c .before .before .before .before .before .before .before .before .before .before .before .before .before .before .before .before .before .before .before .before .before .before .before .before .before .before .before .loop .events) (c .before .before .before .before .before .before .before .before .before .before .before .before .before .before .before .before .before .before .before .before .before .before .before .before .before .before .before .loop .errors) (c .before .before .before .before .before .before .before .before .before .before .before .before .before .before .before .before .before .before .before .before .before .before .before .before .before .before .before .loop .scratch) (c .before .before .before .before .before .before .before .before .before .before .before .before .before .before .before .before .before .before .before .before .before .before .before .before .before .before .before .loop .inv .wf) (sym (c .before .before .before .before .before .before .before .before .before .before .before .before .before .before .before .before .before .before .before .before .before .before .before .how .given .1) ∙ c .before .before .before .before .before .before .before .before .before .before .before .before .before .before .before .before .before .before .before .before .before .before .before .before .before .part-at .ensures) (c .before .before .before .before .before .before .before .before .before .before .before .before .before .before .before .before .before .before .before .before .if4 .left) refl (plus (plusE (from (source (c .before .before .before .before .before .before .before .before .before .before .before .before .before .before .before .before .before .before .before .before .before .before .before .before .before .before .before .before .before .before .before .before .before .before .before .args .src .now) (c .before .before .before .before .before .before .before .before .before .before .before .before .before .before .before .before .before .before .before .before .before .before .before .before .before .before .before .before .before .before .before .before .before .before .before .args .ids .now) (c .before .before .before .before .before .before .before .before .before .before .before .before .before .before .before .before .before .before .before .before .before .before .before .before .before .before .before .before .before .before .before .before .before .before .before .args .ends .now)) (c .before .before .before .before .before .before .before .before .before .before .before .before .before .before .before .before .before .before .before .before .before .before .before .before .before .before .before .loop .s) (c .before .before .before .before .before .before .before .before .before .before .before .before .before .before .before .before .before .before .before .before .before .before .before .before .before .before .before .loop .events) (c .before .before .before .before .before .before .before .before .before .before .before .before .before .before .before .before .before .before .before .before .before .before .before .before .before .before .before .loop .errors) (c .before .before .before .before .before .before .before .before .before .before .before .before .before .before .before .before .before .before .before .before .before .before .before .before .before .before .before .loop .scratch) (c .before .before .before .before .before .before .before .before .before .before .before .before .before .before .before .before .before .before .before .before .before .before .before .before .before .before .before .loop .inv .wf)) (c .before .before .before .before .before .before .before .before .before .before .before .before .before .before .before .before .before .before .skip-trivia3 .ensures (c .before .before .before .before .before .before .before .before .before .before .before .before .before .before .before .before .before .before .before .before .before .before .before .before .before .before .before .before .before .before .before .before .before .before .before .args .src .now) (c .before .before .before .before .before .before .before .before .before .before .before .before .before .before .before .before .before .before .before .before .before .before .before .before .before .before .before .loop .s) (c .before .before .before .before .before .before .before .before .before .before .before .before .before .before .before .before .before .before .before .before .if4 .left) ((from (source (c .before .before .before .before .before .before .before .before .before .before .before .before .before .before .before .before .before .before .before .before .before .before .before .before .before .before .before .before .before .before .before .before .before .before .before .args .src .now) (c .before .before .before .before .before .before .before .before .before .before .before .before .before .before .before .before .before .before .before .before .before .before .before .before .before .before .before .before .before .before .before .before .before .before .before .args .ids .now) (c .before .before .before .before .before .before .before .before .before .before .before .before .before .before .before .before .before .before .before .before .before .before .before .before .before .before .before .before .before .before .before .before .before .before .before .args .ends .now)) (c .before .before .before .before .before .before .before .before .before .before .before .before .before .before .before .before .before .before .before .before .before .before .before .before .before .before .before .loop .s) (c .before .before .before .before .before .before .before .before .before .before .before .before .before .before .before .before .before .before .before .before .before .before .before .before .before .before .before .loop .events) (c .before .before .before .before .before .before .before .before .before .before .before .before .before .before .before .before .before .before .before .before .before .before .before .before .before .before .before .loop .errors) (c .before .before .before .before .before .before .before .before .before .before .before .before .before .before .before .before .before .before .before .before .before .before .before .before .before .before .before .loop .scratch) (c .before .before .before .before .before .before .before .before .before .before .before .before .before .before .before .before .before .before .before .before .before .before .before .before .before .before .before .loop .inv .wf)) .wf .0))) (c .before .before .before .before .before .before .before .before .before .exec2 .ensures)) (c .before .if5 .left) (c .missed2 .ensures) (row-sound (c .before .before .before .before .before .before .before .before .before .before .before .before .before .before .before .before .before .before .before .before .before .before .before .before .before .before .before .loop .i) ((c .before .before .before .before .before .before .before .before .before .before .before .before .before .before .before .before .before .before .before .before .before .before .before .before .before .before .loop-test .taken), (c .before .before .before .before .before .before .before .before .before .before .before .before .before .before .before .before .before .before .before .before .before .before .before .before .before .before .before .loop .inv .inside)) (sym (c .before .before .before .before .before .before .before .before .before .before .before .before .before .before .before .before .before .before .before .before .before .before .before .how .given .1) ∙ c .before .before .before .before .before .before .before .before .before .before .before .before .before .before .before .before .before .before .before .before .before .before .before .before .before .part-at .ensures) .2)) (c .before .before .before .before .before .before .before .before .before .exec2 .kept .1 .1 .1 .1 .1 .1 .1 .0 ∙ c .before .before .before .before .before .before .before .before .before .before .before .before .before .before .before .before .before .before .skip-trivia3 .kept .1 .1 .1 .1 .1 .1 .0) (c .before .before .before .before .before .before .before .before .before .exec2 .kept .1 .1 .1 .1 .1 .1 .1 .1 .0) (c .before .before .before .before .before .before .before .before .before .exec2 .kept .1 .1 .1 .1 .1 .1 .1 .1 .1 .0)
 
-exec-same-length-19 : (t : ℕ) → exec-lts.Need-same-length-19 (exec-cs t) (exec-at t) exec.Post exec-Inv-loop exec-μ-loop
-exec-same-length-19 t c = (c .before .loop .inv) .events
+exec-same-length-13 : (t : ℕ) → exec-lts.Need-same-length-13 (exec-cs t) (exec-at t) exec.Post exec-Inv-loop exec-μ-loop
+exec-same-length-13 t c = (c .before .loop .inv) .events
 
-exec-same-length-20 : (t : ℕ) → exec-lts.Need-same-length-20 (exec-cs t) (exec-at t) exec.Post exec-Inv-loop exec-μ-loop
-exec-same-length-20 t c = (c .before .loop .inv) .errors
+exec-same-length-14 : (t : ℕ) → exec-lts.Need-same-length-14 (exec-cs t) (exec-at t) exec.Post exec-Inv-loop exec-μ-loop
+exec-same-length-14 t c = (c .before .loop .inv) .errors
 
-exec-same-length-21 : (t : ℕ) → exec-lts.Need-same-length-21 (exec-cs t) (exec-at t) exec.Post exec-Inv-loop exec-μ-loop
-exec-same-length-21 t c = (c .before .loop .inv) .scratch
+exec-same-length-15 : (t : ℕ) → exec-lts.Need-same-length-15 (exec-cs t) (exec-at t) exec.Post exec-Inv-loop exec-μ-loop
+exec-same-length-15 t c = (c .before .loop .inv) .scratch
 
-exec-returns-7 : (t : ℕ) → exec-lts.Need-returns-7 (exec-cs t) (exec-at t) exec.Post exec-Inv-loop exec-μ-loop
-exec-returns-7 t c = ends (c .before .loop .inv) (c .loop-test .left)
+exec-returns-5 : (t : ℕ) → exec-lts.Need-returns-5 (exec-cs t) (exec-at t) exec.Post exec-Inv-loop exec-μ-loop
+exec-returns-5 t c = ends (c .before .loop .inv) (c .loop-test .left)
 
 abbrev many-Inv-loop : many-lts.InvT-loop
 many-Inv-loop p s₀ d src ids ends events₀ errors₀ scratch₀ table n₀ s events errors scratch n = Turns (reads d true (prog p)) (source src ids ends) s₀ s n₀ n events₀ errors₀ scratch₀ events errors scratch
@@ -548,43 +544,40 @@ pub +cached+exec+many+node-spec : {M : Type 1} → statement M
     (exec-loop-less t)
     (exec-loop-again t)
     (exec-enum-known-at t)
-    (exec-add-if2 t)
-    (exec-loop-less-2 t)
-    (exec-loop-again-2 t)
     (exec-label-requires t)
     (exec-miss-requires t)
+    (exec-loop-less-2 t)
+    (exec-loop-again-2 t)
     (exec-loop-less-3 t)
     (exec-loop-again-3 t)
-    (exec-loop-less-4 t)
-    (exec-loop-again-4 t)
     (exec-enum-known-which t)
     (exec-step-requires t)
-    (exec-loop-less-5 t)
-    (exec-loop-again-5 t)
+    (exec-loop-less-4 t)
+    (exec-loop-again-4 t)
     (exec-enum-known-kind t)
     (exec-node-requires t)
-    (exec-loop-less-6 t)
-    (exec-loop-again-6 t)
+    (exec-loop-less-5 t)
+    (exec-loop-again-5 t)
     (exec-enum-known-kind-2 t)
     (exec-cached-requires t)
-    (exec-loop-less-7 t)
-    (exec-loop-again-7 t)
+    (exec-loop-less-6 t)
+    (exec-loop-again-6 t)
     (exec-enum-known-p t)
     (exec-many-requires t)
-    (exec-loop-less-8 t)
-    (exec-loop-again-8 t)
+    (exec-loop-less-7 t)
+    (exec-loop-again-7 t)
     (exec-enum-known-p-2 t)
     (exec-exec-requires t)
-    (exec-loop-less-9 t)
-    (exec-loop-again-9 t)
+    (exec-loop-less-8 t)
+    (exec-loop-again-8 t)
     (exec-enum-known-p-3 t)
     (exec-same-length t)
     (exec-same-length-2 t)
     (exec-same-length-3 t)
     (exec-returns t)
     (exec-skip-trivia-requires t)
-    (exec-loop-less-10 t)
-    (exec-loop-again-10 t)
+    (exec-loop-less-9 t)
+    (exec-loop-again-9 t)
     (exec-enum-known-set-2 t)
     (exec-sees-requires t)
     (exec-step-requires-2 t)
@@ -593,33 +586,34 @@ pub +cached+exec+many+node-spec : {M : Type 1} → statement M
     (exec-same-length-6 t)
     (exec-returns-2 t)
     (exec-skip-trivia-requires-2 t)
-    (exec-loop-less-11 t)
-    (exec-loop-again-11 t)
+    (exec-loop-less-10 t)
+    (exec-loop-again-10 t)
     (exec-enum-known-how t)
     (exec-same-length-7 t)
     (exec-same-length-8 t)
     (exec-same-length-9 t)
     (exec-returns-3 t)
     (exec-skip-trivia-requires-3 t)
+    (exec-first-row-requires t)
+    (exec-enum-known-set-3 t)
+    (exec-label-requires-2 t)
+    (exec-expected-requires t)
+    (exec-missed-requires t)
+    (exec-loop-less-11 t)
+    (exec-loop-again-11 t)
+    (exec-enum-told t)
     (exec-exec-requires-2 t)
     (exec-same-length-10 t)
     (exec-same-length-11 t)
     (exec-same-length-12 t)
     (exec-returns-4 t)
+    (exec-missed-requires-2 t)
+    (exec-loop-less-12 t)
+    (exec-loop-again-12 t)
     (exec-same-length-13 t)
     (exec-same-length-14 t)
     (exec-same-length-15 t)
-    (exec-returns-5 t)
-    (exec-same-length-16 t)
-    (exec-same-length-17 t)
-    (exec-same-length-18 t)
-    (exec-returns-6 t)
-    (exec-loop-less-12 t)
-    (exec-loop-again-12 t)
-    (exec-same-length-19 t)
-    (exec-same-length-20 t)
-    (exec-same-length-21 t)
-    (exec-returns-7 t))
+    (exec-returns-5 t))
     (λ t. many-lts.spec (many-cs t) (many-at t)
     many.Post
     many-Inv-loop
