@@ -199,7 +199,8 @@ fn exec(
                             s.full = past.full;
                         }
                         Eaten::Miss(at) => {
-                            s = s.miss(set, label(name), at);
+                            s = s.expected(set, label(name), at);
+                            s.mode = 1;
                         }
                     }
                 }

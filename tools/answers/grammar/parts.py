@@ -164,7 +164,7 @@ GOOD = ["({if2} .left)", f"(when-good ({{args}} .ids .now) ({{loop}} .s) {I} {ro
 THEN, WHEN, TRIES = trivia("", GOOD[0]), trivia(2, GOOD[1]), trivia(3, GOOD[2])
 EATEN = f"({{eat-at}} .ensures .row _ ({{past}} .given .1) N {S} ({{loop}} .s) ({{if1}} .taken) ({HERE} .wf .0))"
 NONE = "({eat-at} .ensures .none _ ({at} .given .1))"
-MISSED = f"(eat-missed _ _ ({{if1}} .taken) {NONE} ({HERE} .wf .1 .events) ({{miss}} .ensures {X} ({HERE} .wf .0) ({NONE} .1)))"
+MISSED = f"(eat-missed _ _ ({{if1}} .taken) {NONE} ({HERE} .wf .1 .events) (fails-after _ ({{expected}} .ensures {X} ({HERE} .wf .0) ({NONE} .1))))"
 
 
 def none(fact):
@@ -178,7 +178,7 @@ FIRST_IN = f"omega (arith, {sound('how')} .0 .1, {IN})"
 FIRST_ROW = f"({sound('how')} .0 .0, {FIRST_IN})"
 MISSING = "({first-row} .ensures .missed _ _ _ ({set3} .given .1))"
 NAMED = f"(row-sound _ {FIRST_ROW} ({MISSING} .row) .0)"
-MISSES = f"(eat-missed _ _ ({{if4}} .left) (refl, {MISSING} .peeked, {MISSING} .none) ({AHEAD} .wf .1 .events) (fails-after _ ({{expected}} .ensures {X} ({AHEAD} .wf .0) ({MISSING} .peeked))))"
+MISSES = f"(eat-missed _ _ ({{if4}} .left) (refl, {MISSING} .peeked, {MISSING} .none) ({AHEAD} .wf .1 .events) (fails-after _ ({{expected2}} .ensures {X} ({AHEAD} .wf .0) ({MISSING} .peeked))))"
 LED = f"(first-missed {D} _ ({FIRST_IN}) ({AHEAD} .wf) {MISSING} ({sound('how')} .3 ({MISSING} .asked)) refl _ ({{label2}} .ensures) {MISSES})"
 TRY = f"{AT} {row('how')}"
 
@@ -202,7 +202,7 @@ EXEC = {
     "eat-at-requires": f"({ROWS} .lines, {HERE} .wf .0 .0 .here, {HERE} .wf .0 .2 .events, {HERE} .wf .1 .events)",
     **again(1, f"(plusE {HERE} {none(EATEN)})", f"{sound('set')} .1", f"eat-goes {AT} {row('set')} (λ N. {EATEN})", ["eat-at"]),
     "label-requires": f"{sound('set')} .0",
-    "miss-requires": f"({HERE} .wf .0 .1, proper _ ({sound('set')} .0) ({{label}} .ensures), omega (arith, {NONE} .1 .within, {ROWS} .lines .few))",
+    "expected-requires": f"({HERE} .wf .0 .1, proper _ ({sound('set')} .0) ({{label}} .ensures), omega (arith, {NONE} .1 .within, {ROWS} .lines .few))",
     **again(2, f"(plusE {HERE} {MISSED})", f"{sound('set')} .1", f"eat-fails {AT} {row('set')} _ ({{label}} .ensures) {MISSED}", ["eat-at"]),
     **again(3, HERE, f"{sound('set')} .1", f"eat-idle {AT} {row('set')} ({{if1}} .left)", []),
     "step-requires": f"asksS {HERE} {ROWS} ({sound('which')} .0)",
@@ -227,7 +227,7 @@ EXEC = {
     "skip-trivia-requires-3": SKIPS,
     "first-row-requires": f"({FIRST_IN}, {LENT}, {AHEAD} .wf .0 .0 .here)",
     "label-requires-2": NAMED,
-    "expected-requires": f"({AHEAD} .wf .0 .1, proper _ {NAMED} ({{label2}} .ensures), omega (arith, {MISSING} .peeked .within, {ROWS} .lines .few))",
+    "expected-requires-2": f"({AHEAD} .wf .0 .1, proper _ {NAMED} ({{label2}} .ensures), omega (arith, {MISSING} .peeked .within, {ROWS} .lines .few))",
     **fails(11, LED, "missed", "refl", ["skip-trivia3"]),
     "exec-requires-2": below(f"{AHEAD} .wf, {FIRST_ROW}", f"{sound('how')} .0 .1"),
     **leaves(4, ["exec2", "skip-trivia3"], f"try-on {came('({exec2} .ensures)')} ({{if5}} .taken)"),

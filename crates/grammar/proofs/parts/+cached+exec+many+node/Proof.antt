@@ -40,7 +40,6 @@ use Rattle.reader.proofs.cache.seen.Reads as seen-reads
 use Rattle.reader.proofs.state.State.end.Reads as end-reads
 use Rattle.reader.proofs.state.State.expected.Reads as expected-reads
 use Rattle.reader.proofs.state.State.mark.Reads as mark-reads
-use Rattle.reader.proofs.state.State.miss.Reads as miss-reads
 use Rattle.reader.proofs.state.State.remembers.Reads as remembers-reads
 use Rattle.reader.proofs.state.State.sees.Reads as sees-reads
 use Rattle.reader.proofs.state.State.trivia.Reads as trivia-reads
@@ -143,7 +142,7 @@ abbrev exec-μ-loop : exec-lts.MeasureT-loop
 exec-μ-loop i₀ s₀ d optional src ids ends events₀ errors₀ scratch₀ table i s events errors scratch = i
 
 abbrev exec-cs : ℕ → exec-lts.Claims
-exec-cs t = (part-at-reads.Asked, part-at-reads.Learnt, eat-at-reads.Asked, eat-at-reads.Learnt, label-reads.Asked, label-reads.Learnt, miss-reads.Asked, miss-reads.Learnt, step-reads.Asked, step-reads.Learnt, node-below t, node.Post, cached-below t, cached.Post, many-below t, many.Post, exec-below t, exec.Post, skip-trivia-reads.Asked, skip-trivia-reads.Learnt, sees-reads.Asked, sees-reads.Learnt, first-row-reads.Asked, first-row-reads.Learnt, expected-reads.Asked, expected-reads.Learnt, missed-reads.Asked, missed-reads.Learnt)
+exec-cs t = (part-at-reads.Asked, part-at-reads.Learnt, eat-at-reads.Asked, eat-at-reads.Learnt, label-reads.Asked, label-reads.Learnt, expected-reads.Asked, expected-reads.Learnt, step-reads.Asked, step-reads.Learnt, node-below t, node.Post, cached-below t, cached.Post, many-below t, many.Post, exec-below t, exec.Post, skip-trivia-reads.Asked, skip-trivia-reads.Learnt, sees-reads.Asked, sees-reads.Learnt, first-row-reads.Asked, first-row-reads.Learnt, missed-reads.Asked, missed-reads.Learnt)
 
 exec-loop-holds : (t : ℕ) → exec-lts.Need-loop-holds (exec-cs t) (exec-at t) exec.Post exec-Inv-loop exec-μ-loop
 exec-loop-holds t c = going (c .before .before .before .before .before .before .before .args .d) (c .before .before .before .before .before .before .before .args .optional) (c .before .before .before .before .before .before .before .args .i) (c .before .before .before .before .before .before .before .args .events .now) (c .before .before .before .before .before .before .before .args .errors .now) (c .before .before .before .before .before .before .before .args .scratch .now) (c .before .before .before .before .before .before .before .pre .1 .1) (c .before .before .before .before .before .before .before .pre .1 .2)
@@ -172,14 +171,14 @@ exec-enum-known-at t c = search needs
 exec-label-requires : (t : ℕ) → exec-lts.Need-label-requires (exec-cs t) (exec-at t) exec.Post exec-Inv-loop exec-μ-loop
 exec-label-requires t c κs = row-sound (c .before .before .before .before .before .before .before .before .before .before .before .before .before .before .loop .i) ((c .before .before .before .before .before .before .before .before .before .before .before .before .before .loop-test .taken), (c .before .before .before .before .before .before .before .before .before .before .before .before .before .before .loop .inv .inside)) (sym (c .before .before .before .before .before .before .before .before .before .before .set .given .1) ∙ c .before .before .before .before .before .before .before .before .before .before .before .before .part-at .ensures) .0
 
-exec-miss-requires : (t : ℕ) → exec-lts.Need-miss-requires (exec-cs t) (exec-at t) exec.Post exec-Inv-loop exec-μ-loop
-exec-miss-requires t c κs = ((from (source (c .before .before .before .before .before .before .before .before .before .before .before .before .before .before .before .before .before .before .before .before .before .before .before .args .src .now) (c .before .before .before .before .before .before .before .before .before .before .before .before .before .before .before .before .before .before .before .before .before .before .before .args .ids .now) (c .before .before .before .before .before .before .before .before .before .before .before .before .before .before .before .before .before .before .before .before .before .before .before .args .ends .now)) (c .before .before .before .before .before .before .before .before .before .before .before .before .before .before .before .loop .s) (c .before .before .before .before .before .before .before .before .before .before .before .before .before .before .before .loop .events) (c .before .before .before .before .before .before .before .before .before .before .before .before .before .before .before .loop .errors) (c .before .before .before .before .before .before .before .before .before .before .before .before .before .before .before .loop .scratch) (c .before .before .before .before .before .before .before .before .before .before .before .before .before .before .before .loop .inv .wf)) .wf .0 .1, proper _ (row-sound (c .before .before .before .before .before .before .before .before .before .before .before .before .before .before .before .loop .i) ((c .before .before .before .before .before .before .before .before .before .before .before .before .before .before .loop-test .taken), (c .before .before .before .before .before .before .before .before .before .before .before .before .before .before .before .loop .inv .inside)) (sym (c .before .before .before .before .before .before .before .before .before .before .before .set .given .1) ∙ c .before .before .before .before .before .before .before .before .before .before .before .before .before .part-at .ensures) .0) (c .label .ensures), omega (arith, (c .before .before .before .before .before .before .eat-at .ensures .none _ (c .before .before .at .given .1)) .1 .within, (c .before .before .before .before .before .before .before .before .before .before .before .before .before .before .before .before .before .before .before .before .before .before .before .pre .1 .0) .lines .few))
+exec-expected-requires : (t : ℕ) → exec-lts.Need-expected-requires (exec-cs t) (exec-at t) exec.Post exec-Inv-loop exec-μ-loop
+exec-expected-requires t c κs = ((from (source (c .before .before .before .before .before .before .before .before .before .before .before .before .before .before .before .before .before .before .before .before .before .before .before .args .src .now) (c .before .before .before .before .before .before .before .before .before .before .before .before .before .before .before .before .before .before .before .before .before .before .before .args .ids .now) (c .before .before .before .before .before .before .before .before .before .before .before .before .before .before .before .before .before .before .before .before .before .before .before .args .ends .now)) (c .before .before .before .before .before .before .before .before .before .before .before .before .before .before .before .loop .s) (c .before .before .before .before .before .before .before .before .before .before .before .before .before .before .before .loop .events) (c .before .before .before .before .before .before .before .before .before .before .before .before .before .before .before .loop .errors) (c .before .before .before .before .before .before .before .before .before .before .before .before .before .before .before .loop .scratch) (c .before .before .before .before .before .before .before .before .before .before .before .before .before .before .before .loop .inv .wf)) .wf .0 .1, proper _ (row-sound (c .before .before .before .before .before .before .before .before .before .before .before .before .before .before .before .loop .i) ((c .before .before .before .before .before .before .before .before .before .before .before .before .before .before .loop-test .taken), (c .before .before .before .before .before .before .before .before .before .before .before .before .before .before .before .loop .inv .inside)) (sym (c .before .before .before .before .before .before .before .before .before .before .before .set .given .1) ∙ c .before .before .before .before .before .before .before .before .before .before .before .before .before .part-at .ensures) .0) (c .label .ensures), omega (arith, (c .before .before .before .before .before .before .eat-at .ensures .none _ (c .before .before .at .given .1)) .1 .within, (c .before .before .before .before .before .before .before .before .before .before .before .before .before .before .before .before .before .before .before .before .before .before .before .pre .1 .0) .lines .few))
 
 exec-loop-less-2 : (t : ℕ) → exec-lts.Need-loop-less-2 (exec-cs t) (exec-at t) exec.Post exec-Inv-loop exec-μ-loop
 exec-loop-less-2 t c = row-sound (c .before .before .before .before .before .before .before .before .before .before .before .before .before .before .before .before .loop .i) ((c .before .before .before .before .before .before .before .before .before .before .before .before .before .before .before .loop-test .taken), (c .before .before .before .before .before .before .before .before .before .before .before .before .before .before .before .before .loop .inv .inside)) (sym (c .before .before .before .before .before .before .before .before .before .before .before .before .set .given .1) ∙ c .before .before .before .before .before .before .before .before .before .before .before .before .before .before .part-at .ensures) .1
 
 exec-loop-again-2 : (t : ℕ) → exec-lts.Need-loop-again-2 (exec-cs t) (exec-at t) exec.Post exec-Inv-loop exec-μ-loop
-exec-loop-again-2 t c = goes-on (c .before .before .before .before .before .before .before .before .before .before .before .before .before .before .before .before .loop .inv) (c .before .before .before .before .before .before .before .before .before .before .before .before .before .before .before .loop-test .taken) ((plusE (from (source (c .before .before .before .before .before .before .before .before .before .before .before .before .before .before .before .before .before .before .before .before .before .before .before .before .args .src .now) (c .before .before .before .before .before .before .before .before .before .before .before .before .before .before .before .before .before .before .before .before .before .before .before .before .args .ids .now) (c .before .before .before .before .before .before .before .before .before .before .before .before .before .before .before .before .before .before .before .before .before .before .before .before .args .ends .now)) (c .before .before .before .before .before .before .before .before .before .before .before .before .before .before .before .before .loop .s) (c .before .before .before .before .before .before .before .before .before .before .before .before .before .before .before .before .loop .events) (c .before .before .before .before .before .before .before .before .before .before .before .before .before .before .before .before .loop .errors) (c .before .before .before .before .before .before .before .before .before .before .before .before .before .before .before .before .loop .scratch) (c .before .before .before .before .before .before .before .before .before .before .before .before .before .before .before .before .loop .inv .wf)) (eat-missed _ _ (c .before .before .before .before .before .before .before .before .before .if1 .taken) (c .before .before .before .before .before .before .before .eat-at .ensures .none _ (c .before .before .before .at .given .1)) ((from (source (c .before .before .before .before .before .before .before .before .before .before .before .before .before .before .before .before .before .before .before .before .before .before .before .before .args .src .now) (c .before .before .before .before .before .before .before .before .before .before .before .before .before .before .before .before .before .before .before .before .before .before .before .before .args .ids .now) (c .before .before .before .before .before .before .before .before .before .before .before .before .before .before .before .before .before .before .before .before .before .before .before .before .args .ends .now)) (c .before .before .before .before .before .before .before .before .before .before .before .before .before .before .before .before .loop .s) (c .before .before .before .before .before .before .before .before .before .before .before .before .before .before .before .before .loop .events) (c .before .before .before .before .before .before .before .before .before .before .before .before .before .before .before .before .loop .errors) (c .before .before .before .before .before .before .before .before .before .before .before .before .before .before .before .before .loop .scratch) (c .before .before .before .before .before .before .before .before .before .before .before .before .before .before .before .before .loop .inv .wf)) .wf .1 .events) (c .miss .ensures (source (c .before .before .before .before .before .before .before .before .before .before .before .before .before .before .before .before .before .before .before .before .before .before .before .before .args .src .now) (c .before .before .before .before .before .before .before .before .before .before .before .before .before .before .before .before .before .before .before .before .before .before .before .before .args .ids .now) (c .before .before .before .before .before .before .before .before .before .before .before .before .before .before .before .before .before .before .before .before .before .before .before .before .args .ends .now)) ((from (source (c .before .before .before .before .before .before .before .before .before .before .before .before .before .before .before .before .before .before .before .before .before .before .before .before .args .src .now) (c .before .before .before .before .before .before .before .before .before .before .before .before .before .before .before .before .before .before .before .before .before .before .before .before .args .ids .now) (c .before .before .before .before .before .before .before .before .before .before .before .before .before .before .before .before .before .before .before .before .before .before .before .before .args .ends .now)) (c .before .before .before .before .before .before .before .before .before .before .before .before .before .before .before .before .loop .s) (c .before .before .before .before .before .before .before .before .before .before .before .before .before .before .before .before .loop .events) (c .before .before .before .before .before .before .before .before .before .before .before .before .before .before .before .before .loop .errors) (c .before .before .before .before .before .before .before .before .before .before .before .before .before .before .before .before .loop .scratch) (c .before .before .before .before .before .before .before .before .before .before .before .before .before .before .before .before .loop .inv .wf)) .wf .0) ((c .before .before .before .before .before .before .before .eat-at .ensures .none _ (c .before .before .before .at .given .1)) .1)))) .wf) (row-sound (c .before .before .before .before .before .before .before .before .before .before .before .before .before .before .before .before .loop .i) ((c .before .before .before .before .before .before .before .before .before .before .before .before .before .before .before .loop-test .taken), (c .before .before .before .before .before .before .before .before .before .before .before .before .before .before .before .before .loop .inv .inside)) (sym (c .before .before .before .before .before .before .before .before .before .before .before .before .set .given .1) ∙ c .before .before .before .before .before .before .before .before .before .before .before .before .before .before .part-at .ensures) .1) (eat-fails (c .before .before .before .before .before .before .before .before .before .before .before .before .before .before .before .before .before .before .before .before .before .before .before .before .args .d) (c .before .before .before .before .before .before .before .before .before .before .before .before .before .before .before .before .before .before .before .before .before .before .before .before .args .optional) (c .before .before .before .before .before .before .before .before .before .before .before .before .before .before .before .before .loop .i) (c .before .before .before .before .before .before .before .before .before .before .before .before .before .before .before .before .loop .inv .inside) (c .before .before .before .before .before .before .before .before .before .before .before .before .before .before .before .before .loop .events) (c .before .before .before .before .before .before .before .before .before .before .before .before .before .before .before .before .loop .errors) (c .before .before .before .before .before .before .before .before .before .before .before .before .before .before .before .before .loop .scratch) (c .before .before .before .before .before .before .before .before .before .before .before .before .before .before .before .before .loop .inv .wf) (sym (c .before .before .before .before .before .before .before .before .before .before .before .before .set .given .1) ∙ c .before .before .before .before .before .before .before .before .before .before .before .before .before .before .part-at .ensures) _ (c .before .label .ensures) (eat-missed _ _ (c .before .before .before .before .before .before .before .before .before .if1 .taken) (c .before .before .before .before .before .before .before .eat-at .ensures .none _ (c .before .before .before .at .given .1)) ((from (source (c .before .before .before .before .before .before .before .before .before .before .before .before .before .before .before .before .before .before .before .before .before .before .before .before .args .src .now) (c .before .before .before .before .before .before .before .before .before .before .before .before .before .before .before .before .before .before .before .before .before .before .before .before .args .ids .now) (c .before .before .before .before .before .before .before .before .before .before .before .before .before .before .before .before .before .before .before .before .before .before .before .before .args .ends .now)) (c .before .before .before .before .before .before .before .before .before .before .before .before .before .before .before .before .loop .s) (c .before .before .before .before .before .before .before .before .before .before .before .before .before .before .before .before .loop .events) (c .before .before .before .before .before .before .before .before .before .before .before .before .before .before .before .before .loop .errors) (c .before .before .before .before .before .before .before .before .before .before .before .before .before .before .before .before .loop .scratch) (c .before .before .before .before .before .before .before .before .before .before .before .before .before .before .before .before .loop .inv .wf)) .wf .1 .events) (c .miss .ensures (source (c .before .before .before .before .before .before .before .before .before .before .before .before .before .before .before .before .before .before .before .before .before .before .before .before .args .src .now) (c .before .before .before .before .before .before .before .before .before .before .before .before .before .before .before .before .before .before .before .before .before .before .before .before .args .ids .now) (c .before .before .before .before .before .before .before .before .before .before .before .before .before .before .before .before .before .before .before .before .before .before .before .before .args .ends .now)) ((from (source (c .before .before .before .before .before .before .before .before .before .before .before .before .before .before .before .before .before .before .before .before .before .before .before .before .args .src .now) (c .before .before .before .before .before .before .before .before .before .before .before .before .before .before .before .before .before .before .before .before .before .before .before .before .args .ids .now) (c .before .before .before .before .before .before .before .before .before .before .before .before .before .before .before .before .before .before .before .before .before .before .before .before .args .ends .now)) (c .before .before .before .before .before .before .before .before .before .before .before .before .before .before .before .before .loop .s) (c .before .before .before .before .before .before .before .before .before .before .before .before .before .before .before .before .loop .events) (c .before .before .before .before .before .before .before .before .before .before .before .before .before .before .before .before .loop .errors) (c .before .before .before .before .before .before .before .before .before .before .before .before .before .before .before .before .loop .scratch) (c .before .before .before .before .before .before .before .before .before .before .before .before .before .before .before .before .loop .inv .wf)) .wf .0) ((c .before .before .before .before .before .before .before .eat-at .ensures .none _ (c .before .before .before .at .given .1)) .1)))) (c .before .before .before .before .before .before .before .eat-at .kept .1 .1 .1 .1 .1 .1 .1 .0) (refl) (refl)
+exec-loop-again-2 t c = goes-on (c .before .before .before .before .before .before .before .before .before .before .before .before .before .before .before .before .loop .inv) (c .before .before .before .before .before .before .before .before .before .before .before .before .before .before .before .loop-test .taken) ((plusE (from (source (c .before .before .before .before .before .before .before .before .before .before .before .before .before .before .before .before .before .before .before .before .before .before .before .before .args .src .now) (c .before .before .before .before .before .before .before .before .before .before .before .before .before .before .before .before .before .before .before .before .before .before .before .before .args .ids .now) (c .before .before .before .before .before .before .before .before .before .before .before .before .before .before .before .before .before .before .before .before .before .before .before .before .args .ends .now)) (c .before .before .before .before .before .before .before .before .before .before .before .before .before .before .before .before .loop .s) (c .before .before .before .before .before .before .before .before .before .before .before .before .before .before .before .before .loop .events) (c .before .before .before .before .before .before .before .before .before .before .before .before .before .before .before .before .loop .errors) (c .before .before .before .before .before .before .before .before .before .before .before .before .before .before .before .before .loop .scratch) (c .before .before .before .before .before .before .before .before .before .before .before .before .before .before .before .before .loop .inv .wf)) (eat-missed _ _ (c .before .before .before .before .before .before .before .before .before .if1 .taken) (c .before .before .before .before .before .before .before .eat-at .ensures .none _ (c .before .before .before .at .given .1)) ((from (source (c .before .before .before .before .before .before .before .before .before .before .before .before .before .before .before .before .before .before .before .before .before .before .before .before .args .src .now) (c .before .before .before .before .before .before .before .before .before .before .before .before .before .before .before .before .before .before .before .before .before .before .before .before .args .ids .now) (c .before .before .before .before .before .before .before .before .before .before .before .before .before .before .before .before .before .before .before .before .before .before .before .before .args .ends .now)) (c .before .before .before .before .before .before .before .before .before .before .before .before .before .before .before .before .loop .s) (c .before .before .before .before .before .before .before .before .before .before .before .before .before .before .before .before .loop .events) (c .before .before .before .before .before .before .before .before .before .before .before .before .before .before .before .before .loop .errors) (c .before .before .before .before .before .before .before .before .before .before .before .before .before .before .before .before .loop .scratch) (c .before .before .before .before .before .before .before .before .before .before .before .before .before .before .before .before .loop .inv .wf)) .wf .1 .events) (fails-after _ (c .expected .ensures (source (c .before .before .before .before .before .before .before .before .before .before .before .before .before .before .before .before .before .before .before .before .before .before .before .before .args .src .now) (c .before .before .before .before .before .before .before .before .before .before .before .before .before .before .before .before .before .before .before .before .before .before .before .before .args .ids .now) (c .before .before .before .before .before .before .before .before .before .before .before .before .before .before .before .before .before .before .before .before .before .before .before .before .args .ends .now)) ((from (source (c .before .before .before .before .before .before .before .before .before .before .before .before .before .before .before .before .before .before .before .before .before .before .before .before .args .src .now) (c .before .before .before .before .before .before .before .before .before .before .before .before .before .before .before .before .before .before .before .before .before .before .before .before .args .ids .now) (c .before .before .before .before .before .before .before .before .before .before .before .before .before .before .before .before .before .before .before .before .before .before .before .before .args .ends .now)) (c .before .before .before .before .before .before .before .before .before .before .before .before .before .before .before .before .loop .s) (c .before .before .before .before .before .before .before .before .before .before .before .before .before .before .before .before .loop .events) (c .before .before .before .before .before .before .before .before .before .before .before .before .before .before .before .before .loop .errors) (c .before .before .before .before .before .before .before .before .before .before .before .before .before .before .before .before .loop .scratch) (c .before .before .before .before .before .before .before .before .before .before .before .before .before .before .before .before .loop .inv .wf)) .wf .0) ((c .before .before .before .before .before .before .before .eat-at .ensures .none _ (c .before .before .before .at .given .1)) .1))))) .wf) (row-sound (c .before .before .before .before .before .before .before .before .before .before .before .before .before .before .before .before .loop .i) ((c .before .before .before .before .before .before .before .before .before .before .before .before .before .before .before .loop-test .taken), (c .before .before .before .before .before .before .before .before .before .before .before .before .before .before .before .before .loop .inv .inside)) (sym (c .before .before .before .before .before .before .before .before .before .before .before .before .set .given .1) ∙ c .before .before .before .before .before .before .before .before .before .before .before .before .before .before .part-at .ensures) .1) (eat-fails (c .before .before .before .before .before .before .before .before .before .before .before .before .before .before .before .before .before .before .before .before .before .before .before .before .args .d) (c .before .before .before .before .before .before .before .before .before .before .before .before .before .before .before .before .before .before .before .before .before .before .before .before .args .optional) (c .before .before .before .before .before .before .before .before .before .before .before .before .before .before .before .before .loop .i) (c .before .before .before .before .before .before .before .before .before .before .before .before .before .before .before .before .loop .inv .inside) (c .before .before .before .before .before .before .before .before .before .before .before .before .before .before .before .before .loop .events) (c .before .before .before .before .before .before .before .before .before .before .before .before .before .before .before .before .loop .errors) (c .before .before .before .before .before .before .before .before .before .before .before .before .before .before .before .before .loop .scratch) (c .before .before .before .before .before .before .before .before .before .before .before .before .before .before .before .before .loop .inv .wf) (sym (c .before .before .before .before .before .before .before .before .before .before .before .before .set .given .1) ∙ c .before .before .before .before .before .before .before .before .before .before .before .before .before .before .part-at .ensures) _ (c .before .label .ensures) (eat-missed _ _ (c .before .before .before .before .before .before .before .before .before .if1 .taken) (c .before .before .before .before .before .before .before .eat-at .ensures .none _ (c .before .before .before .at .given .1)) ((from (source (c .before .before .before .before .before .before .before .before .before .before .before .before .before .before .before .before .before .before .before .before .before .before .before .before .args .src .now) (c .before .before .before .before .before .before .before .before .before .before .before .before .before .before .before .before .before .before .before .before .before .before .before .before .args .ids .now) (c .before .before .before .before .before .before .before .before .before .before .before .before .before .before .before .before .before .before .before .before .before .before .before .before .args .ends .now)) (c .before .before .before .before .before .before .before .before .before .before .before .before .before .before .before .before .loop .s) (c .before .before .before .before .before .before .before .before .before .before .before .before .before .before .before .before .loop .events) (c .before .before .before .before .before .before .before .before .before .before .before .before .before .before .before .before .loop .errors) (c .before .before .before .before .before .before .before .before .before .before .before .before .before .before .before .before .loop .scratch) (c .before .before .before .before .before .before .before .before .before .before .before .before .before .before .before .before .loop .inv .wf)) .wf .1 .events) (fails-after _ (c .expected .ensures (source (c .before .before .before .before .before .before .before .before .before .before .before .before .before .before .before .before .before .before .before .before .before .before .before .before .args .src .now) (c .before .before .before .before .before .before .before .before .before .before .before .before .before .before .before .before .before .before .before .before .before .before .before .before .args .ids .now) (c .before .before .before .before .before .before .before .before .before .before .before .before .before .before .before .before .before .before .before .before .before .before .before .before .args .ends .now)) ((from (source (c .before .before .before .before .before .before .before .before .before .before .before .before .before .before .before .before .before .before .before .before .before .before .before .before .args .src .now) (c .before .before .before .before .before .before .before .before .before .before .before .before .before .before .before .before .before .before .before .before .before .before .before .before .args .ids .now) (c .before .before .before .before .before .before .before .before .before .before .before .before .before .before .before .before .before .before .before .before .before .before .before .before .args .ends .now)) (c .before .before .before .before .before .before .before .before .before .before .before .before .before .before .before .before .loop .s) (c .before .before .before .before .before .before .before .before .before .before .before .before .before .before .before .before .loop .events) (c .before .before .before .before .before .before .before .before .before .before .before .before .before .before .before .before .loop .errors) (c .before .before .before .before .before .before .before .before .before .before .before .before .before .before .before .before .loop .scratch) (c .before .before .before .before .before .before .before .before .before .before .before .before .before .before .before .before .loop .inv .wf)) .wf .0) ((c .before .before .before .before .before .before .before .eat-at .ensures .none _ (c .before .before .before .at .given .1)) .1))))) (c .before .before .before .before .before .before .before .eat-at .kept .1 .1 .1 .1 .1 .1 .1 .0) (refl) (refl)
 
 exec-loop-less-3 : (t : ℕ) → exec-lts.Need-loop-less-3 (exec-cs t) (exec-at t) exec.Post exec-Inv-loop exec-μ-loop
 exec-loop-less-3 t c = row-sound (c .before .before .before .before .before .before .before .loop .i) ((c .before .before .before .before .before .before .loop-test .taken), (c .before .before .before .before .before .before .before .loop .inv .inside)) (sym (c .before .before .before .set .given .1) ∙ c .before .before .before .before .before .part-at .ensures) .1
@@ -328,8 +327,8 @@ exec-enum-known-set-3 t c = search needs
 exec-label-requires-2 : (t : ℕ) → exec-lts.Need-label-requires-2 (exec-cs t) (exec-at t) exec.Post exec-Inv-loop exec-μ-loop
 exec-label-requires-2 t c κs = (row-sound _ (row-sound (c .before .before .before .before .before .before .before .before .before .before .before .before .before .before .before .loop .i) ((c .before .before .before .before .before .before .before .before .before .before .before .before .before .before .loop-test .taken), (c .before .before .before .before .before .before .before .before .before .before .before .before .before .before .before .loop .inv .inside)) (sym (c .before .before .before .before .before .before .before .before .before .before .before .how .given .1) ∙ c .before .before .before .before .before .before .before .before .before .before .before .before .before .part-at .ensures) .0 .0, omega (arith, row-sound (c .before .before .before .before .before .before .before .before .before .before .before .before .before .before .before .loop .i) ((c .before .before .before .before .before .before .before .before .before .before .before .before .before .before .loop-test .taken), (c .before .before .before .before .before .before .before .before .before .before .before .before .before .before .before .loop .inv .inside)) (sym (c .before .before .before .before .before .before .before .before .before .before .before .how .given .1) ∙ c .before .before .before .before .before .before .before .before .before .before .before .before .before .part-at .ensures) .0 .1, (c .before .before .before .before .before .before .before .before .before .before .before .before .before .before .before .loop .inv .inside))) ((c .before .before .before .first-row .ensures .missed _ _ _ (c .before .set3 .given .1)) .row) .0)
 
-exec-expected-requires : (t : ℕ) → exec-lts.Need-expected-requires (exec-cs t) (exec-at t) exec.Post exec-Inv-loop exec-μ-loop
-exec-expected-requires t c κs = ((plusE (from (source (c .before .before .before .before .before .before .before .before .before .before .before .before .before .before .before .before .before .before .before .before .before .before .before .before .args .src .now) (c .before .before .before .before .before .before .before .before .before .before .before .before .before .before .before .before .before .before .before .before .before .before .before .before .args .ids .now) (c .before .before .before .before .before .before .before .before .before .before .before .before .before .before .before .before .before .before .before .before .before .before .before .before .args .ends .now)) (c .before .before .before .before .before .before .before .before .before .before .before .before .before .before .before .before .loop .s) (c .before .before .before .before .before .before .before .before .before .before .before .before .before .before .before .before .loop .events) (c .before .before .before .before .before .before .before .before .before .before .before .before .before .before .before .before .loop .errors) (c .before .before .before .before .before .before .before .before .before .before .before .before .before .before .before .before .loop .scratch) (c .before .before .before .before .before .before .before .before .before .before .before .before .before .before .before .before .loop .inv .wf)) (c .before .before .before .before .before .before .before .skip-trivia3 .ensures (c .before .before .before .before .before .before .before .before .before .before .before .before .before .before .before .before .before .before .before .before .before .before .before .before .args .src .now) (c .before .before .before .before .before .before .before .before .before .before .before .before .before .before .before .before .loop .s) (c .before .before .before .before .before .before .before .before .before .if4 .left) ((from (source (c .before .before .before .before .before .before .before .before .before .before .before .before .before .before .before .before .before .before .before .before .before .before .before .before .args .src .now) (c .before .before .before .before .before .before .before .before .before .before .before .before .before .before .before .before .before .before .before .before .before .before .before .before .args .ids .now) (c .before .before .before .before .before .before .before .before .before .before .before .before .before .before .before .before .before .before .before .before .before .before .before .before .args .ends .now)) (c .before .before .before .before .before .before .before .before .before .before .before .before .before .before .before .before .loop .s) (c .before .before .before .before .before .before .before .before .before .before .before .before .before .before .before .before .loop .events) (c .before .before .before .before .before .before .before .before .before .before .before .before .before .before .before .before .loop .errors) (c .before .before .before .before .before .before .before .before .before .before .before .before .before .before .before .before .loop .scratch) (c .before .before .before .before .before .before .before .before .before .before .before .before .before .before .before .before .loop .inv .wf)) .wf .0))) .wf .0 .1, proper _ (row-sound _ (row-sound (c .before .before .before .before .before .before .before .before .before .before .before .before .before .before .before .before .loop .i) ((c .before .before .before .before .before .before .before .before .before .before .before .before .before .before .before .loop-test .taken), (c .before .before .before .before .before .before .before .before .before .before .before .before .before .before .before .before .loop .inv .inside)) (sym (c .before .before .before .before .before .before .before .before .before .before .before .before .how .given .1) ∙ c .before .before .before .before .before .before .before .before .before .before .before .before .before .before .part-at .ensures) .0 .0, omega (arith, row-sound (c .before .before .before .before .before .before .before .before .before .before .before .before .before .before .before .before .loop .i) ((c .before .before .before .before .before .before .before .before .before .before .before .before .before .before .before .loop-test .taken), (c .before .before .before .before .before .before .before .before .before .before .before .before .before .before .before .before .loop .inv .inside)) (sym (c .before .before .before .before .before .before .before .before .before .before .before .before .how .given .1) ∙ c .before .before .before .before .before .before .before .before .before .before .before .before .before .before .part-at .ensures) .0 .1, (c .before .before .before .before .before .before .before .before .before .before .before .before .before .before .before .before .loop .inv .inside))) ((c .before .before .before .before .first-row .ensures .missed _ _ _ (c .before .before .set3 .given .1)) .row) .0) (c .label2 .ensures), omega (arith, (c .before .before .before .before .first-row .ensures .missed _ _ _ (c .before .before .set3 .given .1)) .peeked .within, (c .before .before .before .before .before .before .before .before .before .before .before .before .before .before .before .before .before .before .before .before .before .before .before .before .pre .1 .0) .lines .few))
+exec-expected-requires-2 : (t : ℕ) → exec-lts.Need-expected-requires-2 (exec-cs t) (exec-at t) exec.Post exec-Inv-loop exec-μ-loop
+exec-expected-requires-2 t c κs = ((plusE (from (source (c .before .before .before .before .before .before .before .before .before .before .before .before .before .before .before .before .before .before .before .before .before .before .before .before .args .src .now) (c .before .before .before .before .before .before .before .before .before .before .before .before .before .before .before .before .before .before .before .before .before .before .before .before .args .ids .now) (c .before .before .before .before .before .before .before .before .before .before .before .before .before .before .before .before .before .before .before .before .before .before .before .before .args .ends .now)) (c .before .before .before .before .before .before .before .before .before .before .before .before .before .before .before .before .loop .s) (c .before .before .before .before .before .before .before .before .before .before .before .before .before .before .before .before .loop .events) (c .before .before .before .before .before .before .before .before .before .before .before .before .before .before .before .before .loop .errors) (c .before .before .before .before .before .before .before .before .before .before .before .before .before .before .before .before .loop .scratch) (c .before .before .before .before .before .before .before .before .before .before .before .before .before .before .before .before .loop .inv .wf)) (c .before .before .before .before .before .before .before .skip-trivia3 .ensures (c .before .before .before .before .before .before .before .before .before .before .before .before .before .before .before .before .before .before .before .before .before .before .before .before .args .src .now) (c .before .before .before .before .before .before .before .before .before .before .before .before .before .before .before .before .loop .s) (c .before .before .before .before .before .before .before .before .before .if4 .left) ((from (source (c .before .before .before .before .before .before .before .before .before .before .before .before .before .before .before .before .before .before .before .before .before .before .before .before .args .src .now) (c .before .before .before .before .before .before .before .before .before .before .before .before .before .before .before .before .before .before .before .before .before .before .before .before .args .ids .now) (c .before .before .before .before .before .before .before .before .before .before .before .before .before .before .before .before .before .before .before .before .before .before .before .before .args .ends .now)) (c .before .before .before .before .before .before .before .before .before .before .before .before .before .before .before .before .loop .s) (c .before .before .before .before .before .before .before .before .before .before .before .before .before .before .before .before .loop .events) (c .before .before .before .before .before .before .before .before .before .before .before .before .before .before .before .before .loop .errors) (c .before .before .before .before .before .before .before .before .before .before .before .before .before .before .before .before .loop .scratch) (c .before .before .before .before .before .before .before .before .before .before .before .before .before .before .before .before .loop .inv .wf)) .wf .0))) .wf .0 .1, proper _ (row-sound _ (row-sound (c .before .before .before .before .before .before .before .before .before .before .before .before .before .before .before .before .loop .i) ((c .before .before .before .before .before .before .before .before .before .before .before .before .before .before .before .loop-test .taken), (c .before .before .before .before .before .before .before .before .before .before .before .before .before .before .before .before .loop .inv .inside)) (sym (c .before .before .before .before .before .before .before .before .before .before .before .before .how .given .1) ∙ c .before .before .before .before .before .before .before .before .before .before .before .before .before .before .part-at .ensures) .0 .0, omega (arith, row-sound (c .before .before .before .before .before .before .before .before .before .before .before .before .before .before .before .before .loop .i) ((c .before .before .before .before .before .before .before .before .before .before .before .before .before .before .before .loop-test .taken), (c .before .before .before .before .before .before .before .before .before .before .before .before .before .before .before .before .loop .inv .inside)) (sym (c .before .before .before .before .before .before .before .before .before .before .before .before .how .given .1) ∙ c .before .before .before .before .before .before .before .before .before .before .before .before .before .before .part-at .ensures) .0 .1, (c .before .before .before .before .before .before .before .before .before .before .before .before .before .before .before .before .loop .inv .inside))) ((c .before .before .before .before .first-row .ensures .missed _ _ _ (c .before .before .set3 .given .1)) .row) .0) (c .label2 .ensures), omega (arith, (c .before .before .before .before .first-row .ensures .missed _ _ _ (c .before .before .set3 .given .1)) .peeked .within, (c .before .before .before .before .before .before .before .before .before .before .before .before .before .before .before .before .before .before .before .before .before .before .before .before .pre .1 .0) .lines .few))
 
 exec-missed-requires : (t : ℕ) → exec-lts.Need-missed-requires (exec-cs t) (exec-at t) exec.Post exec-Inv-loop exec-μ-loop
 exec-missed-requires t c κs = search needs
@@ -338,7 +337,7 @@ exec-loop-less-11 : (t : ℕ) → exec-lts.Need-loop-less-11 (exec-cs t) (exec-a
 exec-loop-less-11 t c = row-sound (c .before .before .before .before .before .before .before .before .before .before .before .before .before .before .before .before .before .before .loop .i) ((c .before .before .before .before .before .before .before .before .before .before .before .before .before .before .before .before .before .loop-test .taken), (c .before .before .before .before .before .before .before .before .before .before .before .before .before .before .before .before .before .before .loop .inv .inside)) (sym (c .before .before .before .before .before .before .before .before .before .before .before .before .before .before .how .given .1) ∙ c .before .before .before .before .before .before .before .before .before .before .before .before .before .before .before .before .part-at .ensures) .1
 
 exec-loop-again-11 : (t : ℕ) → exec-lts.Need-loop-again-11 (exec-cs t) (exec-at t) exec.Post exec-Inv-loop exec-μ-loop
-exec-loop-again-11 t c = goes-on (c .before .before .before .before .before .before .before .before .before .before .before .before .before .before .before .before .before .before .loop .inv) (c .before .before .before .before .before .before .before .before .before .before .before .before .before .before .before .before .before .loop-test .taken) (failed-wf (c .before .before .before .before .before .before .before .before .before .before .before .before .before .before .before .before .before .before .before .before .before .before .before .before .before .before .args .d) (c .before .before .before .before .before .before .before .before .before .before .before .before .before .before .before .before .before .before .before .before .before .before .before .before .before .before .args .optional) (c .before .before .before .before .before .before .before .before .before .before .before .before .before .before .before .before .before .before .loop .i) (c .before .before .before .before .before .before .before .before .before .before .before .before .before .before .before .before .before .before .loop .inv .inside) (c .before .before .before .before .before .before .before .before .before .before .before .before .before .before .before .before .before .before .loop .events) (c .before .before .before .before .before .before .before .before .before .before .before .before .before .before .before .before .before .before .loop .errors) (c .before .before .before .before .before .before .before .before .before .before .before .before .before .before .before .before .before .before .loop .scratch) (c .before .before .before .before .before .before .before .before .before .before .before .before .before .before .before .before .before .before .loop .inv .wf) (sym (c .before .before .before .before .before .before .before .before .before .before .before .before .before .before .how .given .1) ∙ c .before .before .before .before .before .before .before .before .before .before .before .before .before .before .before .before .part-at .ensures) (c .before .before .before .before .before .before .before .before .before .before .before .if4 .left) refl (plus (plusE (from (source (c .before .before .before .before .before .before .before .before .before .before .before .before .before .before .before .before .before .before .before .before .before .before .before .before .before .before .args .src .now) (c .before .before .before .before .before .before .before .before .before .before .before .before .before .before .before .before .before .before .before .before .before .before .before .before .before .before .args .ids .now) (c .before .before .before .before .before .before .before .before .before .before .before .before .before .before .before .before .before .before .before .before .before .before .before .before .before .before .args .ends .now)) (c .before .before .before .before .before .before .before .before .before .before .before .before .before .before .before .before .before .before .loop .s) (c .before .before .before .before .before .before .before .before .before .before .before .before .before .before .before .before .before .before .loop .events) (c .before .before .before .before .before .before .before .before .before .before .before .before .before .before .before .before .before .before .loop .errors) (c .before .before .before .before .before .before .before .before .before .before .before .before .before .before .before .before .before .before .loop .scratch) (c .before .before .before .before .before .before .before .before .before .before .before .before .before .before .before .before .before .before .loop .inv .wf)) (c .before .before .before .before .before .before .before .before .before .skip-trivia3 .ensures (c .before .before .before .before .before .before .before .before .before .before .before .before .before .before .before .before .before .before .before .before .before .before .before .before .before .before .args .src .now) (c .before .before .before .before .before .before .before .before .before .before .before .before .before .before .before .before .before .before .loop .s) (c .before .before .before .before .before .before .before .before .before .before .before .if4 .left) ((from (source (c .before .before .before .before .before .before .before .before .before .before .before .before .before .before .before .before .before .before .before .before .before .before .before .before .before .before .args .src .now) (c .before .before .before .before .before .before .before .before .before .before .before .before .before .before .before .before .before .before .before .before .before .before .before .before .before .before .args .ids .now) (c .before .before .before .before .before .before .before .before .before .before .before .before .before .before .before .before .before .before .before .before .before .before .before .before .before .before .args .ends .now)) (c .before .before .before .before .before .before .before .before .before .before .before .before .before .before .before .before .before .before .loop .s) (c .before .before .before .before .before .before .before .before .before .before .before .before .before .before .before .before .before .before .loop .events) (c .before .before .before .before .before .before .before .before .before .before .before .before .before .before .before .before .before .before .loop .errors) (c .before .before .before .before .before .before .before .before .before .before .before .before .before .before .before .before .before .before .loop .scratch) (c .before .before .before .before .before .before .before .before .before .before .before .before .before .before .before .before .before .before .loop .inv .wf)) .wf .0))) (first-missed (c .before .before .before .before .before .before .before .before .before .before .before .before .before .before .before .before .before .before .before .before .before .before .before .before .before .before .args .d) _ (omega (arith, row-sound (c .before .before .before .before .before .before .before .before .before .before .before .before .before .before .before .before .before .before .loop .i) ((c .before .before .before .before .before .before .before .before .before .before .before .before .before .before .before .before .before .loop-test .taken), (c .before .before .before .before .before .before .before .before .before .before .before .before .before .before .before .before .before .before .loop .inv .inside)) (sym (c .before .before .before .before .before .before .before .before .before .before .before .before .before .before .how .given .1) ∙ c .before .before .before .before .before .before .before .before .before .before .before .before .before .before .before .before .part-at .ensures) .0 .1, (c .before .before .before .before .before .before .before .before .before .before .before .before .before .before .before .before .before .before .loop .inv .inside))) ((plusE (from (source (c .before .before .before .before .before .before .before .before .before .before .before .before .before .before .before .before .before .before .before .before .before .before .before .before .before .before .args .src .now) (c .before .before .before .before .before .before .before .before .before .before .before .before .before .before .before .before .before .before .before .before .before .before .before .before .before .before .args .ids .now) (c .before .before .before .before .before .before .before .before .before .before .before .before .before .before .before .before .before .before .before .before .before .before .before .before .before .before .args .ends .now)) (c .before .before .before .before .before .before .before .before .before .before .before .before .before .before .before .before .before .before .loop .s) (c .before .before .before .before .before .before .before .before .before .before .before .before .before .before .before .before .before .before .loop .events) (c .before .before .before .before .before .before .before .before .before .before .before .before .before .before .before .before .before .before .loop .errors) (c .before .before .before .before .before .before .before .before .before .before .before .before .before .before .before .before .before .before .loop .scratch) (c .before .before .before .before .before .before .before .before .before .before .before .before .before .before .before .before .before .before .loop .inv .wf)) (c .before .before .before .before .before .before .before .before .before .skip-trivia3 .ensures (c .before .before .before .before .before .before .before .before .before .before .before .before .before .before .before .before .before .before .before .before .before .before .before .before .before .before .args .src .now) (c .before .before .before .before .before .before .before .before .before .before .before .before .before .before .before .before .before .before .loop .s) (c .before .before .before .before .before .before .before .before .before .before .before .if4 .left) ((from (source (c .before .before .before .before .before .before .before .before .before .before .before .before .before .before .before .before .before .before .before .before .before .before .before .before .before .before .args .src .now) (c .before .before .before .before .before .before .before .before .before .before .before .before .before .before .before .before .before .before .before .before .before .before .before .before .before .before .args .ids .now) (c .before .before .before .before .before .before .before .before .before .before .before .before .before .before .before .before .before .before .before .before .before .before .before .before .before .before .args .ends .now)) (c .before .before .before .before .before .before .before .before .before .before .before .before .before .before .before .before .before .before .loop .s) (c .before .before .before .before .before .before .before .before .before .before .before .before .before .before .before .before .before .before .loop .events) (c .before .before .before .before .before .before .before .before .before .before .before .before .before .before .before .before .before .before .loop .errors) (c .before .before .before .before .before .before .before .before .before .before .before .before .before .before .before .before .before .before .loop .scratch) (c .before .before .before .before .before .before .before .before .before .before .before .before .before .before .before .before .before .before .loop .inv .wf)) .wf .0))) .wf) (c .before .before .before .before .before .before .first-row .ensures .missed _ _ _ (c .before .before .before .before .set3 .given .1)) (row-sound (c .before .before .before .before .before .before .before .before .before .before .before .before .before .before .before .before .before .before .loop .i) ((c .before .before .before .before .before .before .before .before .before .before .before .before .before .before .before .before .before .loop-test .taken), (c .before .before .before .before .before .before .before .before .before .before .before .before .before .before .before .before .before .before .loop .inv .inside)) (sym (c .before .before .before .before .before .before .before .before .before .before .before .before .before .before .how .given .1) ∙ c .before .before .before .before .before .before .before .before .before .before .before .before .before .before .before .before .part-at .ensures) .3 ((c .before .before .before .before .before .before .first-row .ensures .missed _ _ _ (c .before .before .before .before .set3 .given .1)) .asked)) refl _ (c .before .before .label2 .ensures) (eat-missed _ _ (c .before .before .before .before .before .before .before .before .before .before .before .if4 .left) (refl, (c .before .before .before .before .before .before .first-row .ensures .missed _ _ _ (c .before .before .before .before .set3 .given .1)) .peeked, (c .before .before .before .before .before .before .first-row .ensures .missed _ _ _ (c .before .before .before .before .set3 .given .1)) .none) ((plusE (from (source (c .before .before .before .before .before .before .before .before .before .before .before .before .before .before .before .before .before .before .before .before .before .before .before .before .before .before .args .src .now) (c .before .before .before .before .before .before .before .before .before .before .before .before .before .before .before .before .before .before .before .before .before .before .before .before .before .before .args .ids .now) (c .before .before .before .before .before .before .before .before .before .before .before .before .before .before .before .before .before .before .before .before .before .before .before .before .before .before .args .ends .now)) (c .before .before .before .before .before .before .before .before .before .before .before .before .before .before .before .before .before .before .loop .s) (c .before .before .before .before .before .before .before .before .before .before .before .before .before .before .before .before .before .before .loop .events) (c .before .before .before .before .before .before .before .before .before .before .before .before .before .before .before .before .before .before .loop .errors) (c .before .before .before .before .before .before .before .before .before .before .before .before .before .before .before .before .before .before .loop .scratch) (c .before .before .before .before .before .before .before .before .before .before .before .before .before .before .before .before .before .before .loop .inv .wf)) (c .before .before .before .before .before .before .before .before .before .skip-trivia3 .ensures (c .before .before .before .before .before .before .before .before .before .before .before .before .before .before .before .before .before .before .before .before .before .before .before .before .before .before .args .src .now) (c .before .before .before .before .before .before .before .before .before .before .before .before .before .before .before .before .before .before .loop .s) (c .before .before .before .before .before .before .before .before .before .before .before .if4 .left) ((from (source (c .before .before .before .before .before .before .before .before .before .before .before .before .before .before .before .before .before .before .before .before .before .before .before .before .before .before .args .src .now) (c .before .before .before .before .before .before .before .before .before .before .before .before .before .before .before .before .before .before .before .before .before .before .before .before .before .before .args .ids .now) (c .before .before .before .before .before .before .before .before .before .before .before .before .before .before .before .before .before .before .before .before .before .before .before .before .before .before .args .ends .now)) (c .before .before .before .before .before .before .before .before .before .before .before .before .before .before .before .before .before .before .loop .s) (c .before .before .before .before .before .before .before .before .before .before .before .before .before .before .before .before .before .before .loop .events) (c .before .before .before .before .before .before .before .before .before .before .before .before .before .before .before .before .before .before .loop .errors) (c .before .before .before .before .before .before .before .before .before .before .before .before .before .before .before .before .before .before .loop .scratch) (c .before .before .before .before .before .before .before .before .before .before .before .before .before .before .before .before .before .before .loop .inv .wf)) .wf .0))) .wf .1 .events) (fails-after _ (c .before .expected .ensures (source (c .before .before .before .before .before .before .before .before .before .before .before .before .before .before .before .before .before .before .before .before .before .before .before .before .before .before .args .src .now) (c .before .before .before .before .before .before .before .before .before .before .before .before .before .before .before .before .before .before .before .before .before .before .before .before .before .before .args .ids .now) (c .before .before .before .before .before .before .before .before .before .before .before .before .before .before .before .before .before .before .before .before .before .before .before .before .before .before .args .ends .now)) ((plusE (from (source (c .before .before .before .before .before .before .before .before .before .before .before .before .before .before .before .before .before .before .before .before .before .before .before .before .before .before .args .src .now) (c .before .before .before .before .before .before .before .before .before .before .before .before .before .before .before .before .before .before .before .before .before .before .before .before .before .before .args .ids .now) (c .before .before .before .before .before .before .before .before .before .before .before .before .before .before .before .before .before .before .before .before .before .before .before .before .before .before .args .ends .now)) (c .before .before .before .before .before .before .before .before .before .before .before .before .before .before .before .before .before .before .loop .s) (c .before .before .before .before .before .before .before .before .before .before .before .before .before .before .before .before .before .before .loop .events) (c .before .before .before .before .before .before .before .before .before .before .before .before .before .before .before .before .before .before .loop .errors) (c .before .before .before .before .before .before .before .before .before .before .before .before .before .before .before .before .before .before .loop .scratch) (c .before .before .before .before .before .before .before .before .before .before .before .before .before .before .before .before .before .before .loop .inv .wf)) (c .before .before .before .before .before .before .before .before .before .skip-trivia3 .ensures (c .before .before .before .before .before .before .before .before .before .before .before .before .before .before .before .before .before .before .before .before .before .before .before .before .before .before .args .src .now) (c .before .before .before .before .before .before .before .before .before .before .before .before .before .before .before .before .before .before .loop .s) (c .before .before .before .before .before .before .before .before .before .before .before .if4 .left) ((from (source (c .before .before .before .before .before .before .before .before .before .before .before .before .before .before .before .before .before .before .before .before .before .before .before .before .before .before .args .src .now) (c .before .before .before .before .before .before .before .before .before .before .before .before .before .before .before .before .before .before .before .before .before .before .before .before .before .before .args .ids .now) (c .before .before .before .before .before .before .before .before .before .before .before .before .before .before .before .before .before .before .before .before .before .before .before .before .before .before .args .ends .now)) (c .before .before .before .before .before .before .before .before .before .before .before .before .before .before .before .before .before .before .loop .s) (c .before .before .before .before .before .before .before .before .before .before .before .before .before .before .before .before .before .before .loop .events) (c .before .before .before .before .before .before .before .before .before .before .before .before .before .before .before .before .before .before .loop .errors) (c .before .before .before .before .before .before .before .before .before .before .before .before .before .before .before .before .before .before .loop .scratch) (c .before .before .before .before .before .before .before .before .before .before .before .before .before .before .before .before .before .before .loop .inv .wf)) .wf .0))) .wf .0) ((c .before .before .before .before .before .before .first-row .ensures .missed _ _ _ (c .before .before .before .before .set3 .given .1)) .peeked)))))) refl (c .missed .ensures)) (row-sound (c .before .before .before .before .before .before .before .before .before .before .before .before .before .before .before .before .before .before .loop .i) ((c .before .before .before .before .before .before .before .before .before .before .before .before .before .before .before .before .before .loop-test .taken), (c .before .before .before .before .before .before .before .before .before .before .before .before .before .before .before .before .before .before .loop .inv .inside)) (sym (c .before .before .before .before .before .before .before .before .before .before .before .before .before .before .how .given .1) ∙ c .before .before .before .before .before .before .before .before .before .before .before .before .before .before .before .before .part-at .ensures) .1) (try-fails (c .before .before .before .before .before .before .before .before .before .before .before .before .before .before .before .before .before .before .before .before .before .before .before .before .before .before .args .d) (c .before .before .before .before .before .before .before .before .before .before .before .before .before .before .before .before .before .before .before .before .before .before .before .before .before .before .args .optional) (c .before .before .before .before .before .before .before .before .before .before .before .before .before .before .before .before .before .before .loop .i) (c .before .before .before .before .before .before .before .before .before .before .before .before .before .before .before .before .before .before .loop .inv .inside) (c .before .before .before .before .before .before .before .before .before .before .before .before .before .before .before .before .before .before .loop .events) (c .before .before .before .before .before .before .before .before .before .before .before .before .before .before .before .before .before .before .loop .errors) (c .before .before .before .before .before .before .before .before .before .before .before .before .before .before .before .before .before .before .loop .scratch) (c .before .before .before .before .before .before .before .before .before .before .before .before .before .before .before .before .before .before .loop .inv .wf) (sym (c .before .before .before .before .before .before .before .before .before .before .before .before .before .before .how .given .1) ∙ c .before .before .before .before .before .before .before .before .before .before .before .before .before .before .before .before .part-at .ensures) (c .before .before .before .before .before .before .before .before .before .before .before .if4 .left) refl (plus (plusE (from (source (c .before .before .before .before .before .before .before .before .before .before .before .before .before .before .before .before .before .before .before .before .before .before .before .before .before .before .args .src .now) (c .before .before .before .before .before .before .before .before .before .before .before .before .before .before .before .before .before .before .before .before .before .before .before .before .before .before .args .ids .now) (c .before .before .before .before .before .before .before .before .before .before .before .before .before .before .before .before .before .before .before .before .before .before .before .before .before .before .args .ends .now)) (c .before .before .before .before .before .before .before .before .before .before .before .before .before .before .before .before .before .before .loop .s) (c .before .before .before .before .before .before .before .before .before .before .before .before .before .before .before .before .before .before .loop .events) (c .before .before .before .before .before .before .before .before .before .before .before .before .before .before .before .before .before .before .loop .errors) (c .before .before .before .before .before .before .before .before .before .before .before .before .before .before .before .before .before .before .loop .scratch) (c .before .before .before .before .before .before .before .before .before .before .before .before .before .before .before .before .before .before .loop .inv .wf)) (c .before .before .before .before .before .before .before .before .before .skip-trivia3 .ensures (c .before .before .before .before .before .before .before .before .before .before .before .before .before .before .before .before .before .before .before .before .before .before .before .before .before .before .args .src .now) (c .before .before .before .before .before .before .before .before .before .before .before .before .before .before .before .before .before .before .loop .s) (c .before .before .before .before .before .before .before .before .before .before .before .if4 .left) ((from (source (c .before .before .before .before .before .before .before .before .before .before .before .before .before .before .before .before .before .before .before .before .before .before .before .before .before .before .args .src .now) (c .before .before .before .before .before .before .before .before .before .before .before .before .before .before .before .before .before .before .before .before .before .before .before .before .before .before .args .ids .now) (c .before .before .before .before .before .before .before .before .before .before .before .before .before .before .before .before .before .before .before .before .before .before .before .before .before .before .args .ends .now)) (c .before .before .before .before .before .before .before .before .before .before .before .before .before .before .before .before .before .before .loop .s) (c .before .before .before .before .before .before .before .before .before .before .before .before .before .before .before .before .before .before .loop .events) (c .before .before .before .before .before .before .before .before .before .before .before .before .before .before .before .before .before .before .loop .errors) (c .before .before .before .before .before .before .before .before .before .before .before .before .before .before .before .before .before .before .loop .scratch) (c .before .before .before .before .before .before .before .before .before .before .before .before .before .before .before .before .before .before .loop .inv .wf)) .wf .0))) (first-missed (c .before .before .before .before .before .before .before .before .before .before .before .before .before .before .before .before .before .before .before .before .before .before .before .before .before .before .args .d) _ (omega (arith, row-sound (c .before .before .before .before .before .before .before .before .before .before .before .before .before .before .before .before .before .before .loop .i) ((c .before .before .before .before .before .before .before .before .before .before .before .before .before .before .before .before .before .loop-test .taken), (c .before .before .before .before .before .before .before .before .before .before .before .before .before .before .before .before .before .before .loop .inv .inside)) (sym (c .before .before .before .before .before .before .before .before .before .before .before .before .before .before .how .given .1) ∙ c .before .before .before .before .before .before .before .before .before .before .before .before .before .before .before .before .part-at .ensures) .0 .1, (c .before .before .before .before .before .before .before .before .before .before .before .before .before .before .before .before .before .before .loop .inv .inside))) ((plusE (from (source (c .before .before .before .before .before .before .before .before .before .before .before .before .before .before .before .before .before .before .before .before .before .before .before .before .before .before .args .src .now) (c .before .before .before .before .before .before .before .before .before .before .before .before .before .before .before .before .before .before .before .before .before .before .before .before .before .before .args .ids .now) (c .before .before .before .before .before .before .before .before .before .before .before .before .before .before .before .before .before .before .before .before .before .before .before .before .before .before .args .ends .now)) (c .before .before .before .before .before .before .before .before .before .before .before .before .before .before .before .before .before .before .loop .s) (c .before .before .before .before .before .before .before .before .before .before .before .before .before .before .before .before .before .before .loop .events) (c .before .before .before .before .before .before .before .before .before .before .before .before .before .before .before .before .before .before .loop .errors) (c .before .before .before .before .before .before .before .before .before .before .before .before .before .before .before .before .before .before .loop .scratch) (c .before .before .before .before .before .before .before .before .before .before .before .before .before .before .before .before .before .before .loop .inv .wf)) (c .before .before .before .before .before .before .before .before .before .skip-trivia3 .ensures (c .before .before .before .before .before .before .before .before .before .before .before .before .before .before .before .before .before .before .before .before .before .before .before .before .before .before .args .src .now) (c .before .before .before .before .before .before .before .before .before .before .before .before .before .before .before .before .before .before .loop .s) (c .before .before .before .before .before .before .before .before .before .before .before .if4 .left) ((from (source (c .before .before .before .before .before .before .before .before .before .before .before .before .before .before .before .before .before .before .before .before .before .before .before .before .before .before .args .src .now) (c .before .before .before .before .before .before .before .before .before .before .before .before .before .before .before .before .before .before .before .before .before .before .before .before .before .before .args .ids .now) (c .before .before .before .before .before .before .before .before .before .before .before .before .before .before .before .before .before .before .before .before .before .before .before .before .before .before .args .ends .now)) (c .before .before .before .before .before .before .before .before .before .before .before .before .before .before .before .before .before .before .loop .s) (c .before .before .before .before .before .before .before .before .before .before .before .before .before .before .before .before .before .before .loop .events) (c .before .before .before .before .before .before .before .before .before .before .before .before .before .before .before .before .before .before .loop .errors) (c .before .before .before .before .before .before .before .before .before .before .before .before .before .before .before .before .before .before .loop .scratch) (c .before .before .before .before .before .before .before .before .before .before .before .before .before .before .before .before .before .before .loop .inv .wf)) .wf .0))) .wf) (c .before .before .before .before .before .before .first-row .ensures .missed _ _ _ (c .before .before .before .before .set3 .given .1)) (row-sound (c .before .before .before .before .before .before .before .before .before .before .before .before .before .before .before .before .before .before .loop .i) ((c .before .before .before .before .before .before .before .before .before .before .before .before .before .before .before .before .before .loop-test .taken), (c .before .before .before .before .before .before .before .before .before .before .before .before .before .before .before .before .before .before .loop .inv .inside)) (sym (c .before .before .before .before .before .before .before .before .before .before .before .before .before .before .how .given .1) ∙ c .before .before .before .before .before .before .before .before .before .before .before .before .before .before .before .before .part-at .ensures) .3 ((c .before .before .before .before .before .before .first-row .ensures .missed _ _ _ (c .before .before .before .before .set3 .given .1)) .asked)) refl _ (c .before .before .label2 .ensures) (eat-missed _ _ (c .before .before .before .before .before .before .before .before .before .before .before .if4 .left) (refl, (c .before .before .before .before .before .before .first-row .ensures .missed _ _ _ (c .before .before .before .before .set3 .given .1)) .peeked, (c .before .before .before .before .before .before .first-row .ensures .missed _ _ _ (c .before .before .before .before .set3 .given .1)) .none) ((plusE (from (source (c .before .before .before .before .before .before .before .before .before .before .before .before .before .before .before .before .before .before .before .before .before .before .before .before .before .before .args .src .now) (c .before .before .before .before .before .before .before .before .before .before .before .before .before .before .before .before .before .before .before .before .before .before .before .before .before .before .args .ids .now) (c .before .before .before .before .before .before .before .before .before .before .before .before .before .before .before .before .before .before .before .before .before .before .before .before .before .before .args .ends .now)) (c .before .before .before .before .before .before .before .before .before .before .before .before .before .before .before .before .before .before .loop .s) (c .before .before .before .before .before .before .before .before .before .before .before .before .before .before .before .before .before .before .loop .events) (c .before .before .before .before .before .before .before .before .before .before .before .before .before .before .before .before .before .before .loop .errors) (c .before .before .before .before .before .before .before .before .before .before .before .before .before .before .before .before .before .before .loop .scratch) (c .before .before .before .before .before .before .before .before .before .before .before .before .before .before .before .before .before .before .loop .inv .wf)) (c .before .before .before .before .before .before .before .before .before .skip-trivia3 .ensures (c .before .before .before .before .before .before .before .before .before .before .before .before .before .before .before .before .before .before .before .before .before .before .before .before .before .before .args .src .now) (c .before .before .before .before .before .before .before .before .before .before .before .before .before .before .before .before .before .before .loop .s) (c .before .before .before .before .before .before .before .before .before .before .before .if4 .left) ((from (source (c .before .before .before .before .before .before .before .before .before .before .before .before .before .before .before .before .before .before .before .before .before .before .before .before .before .before .args .src .now) (c .before .before .before .before .before .before .before .before .before .before .before .before .before .before .before .before .before .before .before .before .before .before .before .before .before .before .args .ids .now) (c .before .before .before .before .before .before .before .before .before .before .before .before .before .before .before .before .before .before .before .before .before .before .before .before .before .before .args .ends .now)) (c .before .before .before .before .before .before .before .before .before .before .before .before .before .before .before .before .before .before .loop .s) (c .before .before .before .before .before .before .before .before .before .before .before .before .before .before .before .before .before .before .loop .events) (c .before .before .before .before .before .before .before .before .before .before .before .before .before .before .before .before .before .before .loop .errors) (c .before .before .before .before .before .before .before .before .before .before .before .before .before .before .before .before .before .before .loop .scratch) (c .before .before .before .before .before .before .before .before .before .before .before .before .before .before .before .before .before .before .loop .inv .wf)) .wf .0))) .wf .1 .events) (fails-after _ (c .before .expected .ensures (source (c .before .before .before .before .before .before .before .before .before .before .before .before .before .before .before .before .before .before .before .before .before .before .before .before .before .before .args .src .now) (c .before .before .before .before .before .before .before .before .before .before .before .before .before .before .before .before .before .before .before .before .before .before .before .before .before .before .args .ids .now) (c .before .before .before .before .before .before .before .before .before .before .before .before .before .before .before .before .before .before .before .before .before .before .before .before .before .before .args .ends .now)) ((plusE (from (source (c .before .before .before .before .before .before .before .before .before .before .before .before .before .before .before .before .before .before .before .before .before .before .before .before .before .before .args .src .now) (c .before .before .before .before .before .before .before .before .before .before .before .before .before .before .before .before .before .before .before .before .before .before .before .before .before .before .args .ids .now) (c .before .before .before .before .before .before .before .before .before .before .before .before .before .before .before .before .before .before .before .before .before .before .before .before .before .before .args .ends .now)) (c .before .before .before .before .before .before .before .before .before .before .before .before .before .before .before .before .before .before .loop .s) (c .before .before .before .before .before .before .before .before .before .before .before .before .before .before .before .before .before .before .loop .events) (c .before .before .before .before .before .before .before .before .before .before .before .before .before .before .before .before .before .before .loop .errors) (c .before .before .before .before .before .before .before .before .before .before .before .before .before .before .before .before .before .before .loop .scratch) (c .before .before .before .before .before .before .before .before .before .before .before .before .before .before .before .before .before .before .loop .inv .wf)) (c .before .before .before .before .before .before .before .before .before .skip-trivia3 .ensures (c .before .before .before .before .before .before .before .before .before .before .before .before .before .before .before .before .before .before .before .before .before .before .before .before .before .before .args .src .now) (c .before .before .before .before .before .before .before .before .before .before .before .before .before .before .before .before .before .before .loop .s) (c .before .before .before .before .before .before .before .before .before .before .before .if4 .left) ((from (source (c .before .before .before .before .before .before .before .before .before .before .before .before .before .before .before .before .before .before .before .before .before .before .before .before .before .before .args .src .now) (c .before .before .before .before .before .before .before .before .before .before .before .before .before .before .before .before .before .before .before .before .before .before .before .before .before .before .args .ids .now) (c .before .before .before .before .before .before .before .before .before .before .before .before .before .before .before .before .before .before .before .before .before .before .before .before .before .before .args .ends .now)) (c .before .before .before .before .before .before .before .before .before .before .before .before .before .before .before .before .before .before .loop .s) (c .before .before .before .before .before .before .before .before .before .before .before .before .before .before .before .before .before .before .loop .events) (c .before .before .before .before .before .before .before .before .before .before .before .before .before .before .before .before .before .before .loop .errors) (c .before .before .before .before .before .before .before .before .before .before .before .before .before .before .before .before .before .before .loop .scratch) (c .before .before .before .before .before .before .before .before .before .before .before .before .before .before .before .before .before .before .loop .inv .wf)) .wf .0))) .wf .0) ((c .before .before .before .before .before .before .first-row .ensures .missed _ _ _ (c .before .before .before .before .set3 .given .1)) .peeked)))))) refl (c .missed .ensures) (row-sound (c .before .before .before .before .before .before .before .before .before .before .before .before .before .before .before .before .before .before .loop .i) ((c .before .before .before .before .before .before .before .before .before .before .before .before .before .before .before .before .before .loop-test .taken), (c .before .before .before .before .before .before .before .before .before .before .before .before .before .before .before .before .before .before .loop .inv .inside)) (sym (c .before .before .before .before .before .before .before .before .before .before .before .before .before .before .how .given .1) ∙ c .before .before .before .before .before .before .before .before .before .before .before .before .before .before .before .before .part-at .ensures) .2)) (c .before .before .before .before .before .before .before .before .before .skip-trivia3 .kept .1 .1 .1 .1 .1 .1 .0) (refl) (refl)
+exec-loop-again-11 t c = goes-on (c .before .before .before .before .before .before .before .before .before .before .before .before .before .before .before .before .before .before .loop .inv) (c .before .before .before .before .before .before .before .before .before .before .before .before .before .before .before .before .before .loop-test .taken) (failed-wf (c .before .before .before .before .before .before .before .before .before .before .before .before .before .before .before .before .before .before .before .before .before .before .before .before .before .before .args .d) (c .before .before .before .before .before .before .before .before .before .before .before .before .before .before .before .before .before .before .before .before .before .before .before .before .before .before .args .optional) (c .before .before .before .before .before .before .before .before .before .before .before .before .before .before .before .before .before .before .loop .i) (c .before .before .before .before .before .before .before .before .before .before .before .before .before .before .before .before .before .before .loop .inv .inside) (c .before .before .before .before .before .before .before .before .before .before .before .before .before .before .before .before .before .before .loop .events) (c .before .before .before .before .before .before .before .before .before .before .before .before .before .before .before .before .before .before .loop .errors) (c .before .before .before .before .before .before .before .before .before .before .before .before .before .before .before .before .before .before .loop .scratch) (c .before .before .before .before .before .before .before .before .before .before .before .before .before .before .before .before .before .before .loop .inv .wf) (sym (c .before .before .before .before .before .before .before .before .before .before .before .before .before .before .how .given .1) ∙ c .before .before .before .before .before .before .before .before .before .before .before .before .before .before .before .before .part-at .ensures) (c .before .before .before .before .before .before .before .before .before .before .before .if4 .left) refl (plus (plusE (from (source (c .before .before .before .before .before .before .before .before .before .before .before .before .before .before .before .before .before .before .before .before .before .before .before .before .before .before .args .src .now) (c .before .before .before .before .before .before .before .before .before .before .before .before .before .before .before .before .before .before .before .before .before .before .before .before .before .before .args .ids .now) (c .before .before .before .before .before .before .before .before .before .before .before .before .before .before .before .before .before .before .before .before .before .before .before .before .before .before .args .ends .now)) (c .before .before .before .before .before .before .before .before .before .before .before .before .before .before .before .before .before .before .loop .s) (c .before .before .before .before .before .before .before .before .before .before .before .before .before .before .before .before .before .before .loop .events) (c .before .before .before .before .before .before .before .before .before .before .before .before .before .before .before .before .before .before .loop .errors) (c .before .before .before .before .before .before .before .before .before .before .before .before .before .before .before .before .before .before .loop .scratch) (c .before .before .before .before .before .before .before .before .before .before .before .before .before .before .before .before .before .before .loop .inv .wf)) (c .before .before .before .before .before .before .before .before .before .skip-trivia3 .ensures (c .before .before .before .before .before .before .before .before .before .before .before .before .before .before .before .before .before .before .before .before .before .before .before .before .before .before .args .src .now) (c .before .before .before .before .before .before .before .before .before .before .before .before .before .before .before .before .before .before .loop .s) (c .before .before .before .before .before .before .before .before .before .before .before .if4 .left) ((from (source (c .before .before .before .before .before .before .before .before .before .before .before .before .before .before .before .before .before .before .before .before .before .before .before .before .before .before .args .src .now) (c .before .before .before .before .before .before .before .before .before .before .before .before .before .before .before .before .before .before .before .before .before .before .before .before .before .before .args .ids .now) (c .before .before .before .before .before .before .before .before .before .before .before .before .before .before .before .before .before .before .before .before .before .before .before .before .before .before .args .ends .now)) (c .before .before .before .before .before .before .before .before .before .before .before .before .before .before .before .before .before .before .loop .s) (c .before .before .before .before .before .before .before .before .before .before .before .before .before .before .before .before .before .before .loop .events) (c .before .before .before .before .before .before .before .before .before .before .before .before .before .before .before .before .before .before .loop .errors) (c .before .before .before .before .before .before .before .before .before .before .before .before .before .before .before .before .before .before .loop .scratch) (c .before .before .before .before .before .before .before .before .before .before .before .before .before .before .before .before .before .before .loop .inv .wf)) .wf .0))) (first-missed (c .before .before .before .before .before .before .before .before .before .before .before .before .before .before .before .before .before .before .before .before .before .before .before .before .before .before .args .d) _ (omega (arith, row-sound (c .before .before .before .before .before .before .before .before .before .before .before .before .before .before .before .before .before .before .loop .i) ((c .before .before .before .before .before .before .before .before .before .before .before .before .before .before .before .before .before .loop-test .taken), (c .before .before .before .before .before .before .before .before .before .before .before .before .before .before .before .before .before .before .loop .inv .inside)) (sym (c .before .before .before .before .before .before .before .before .before .before .before .before .before .before .how .given .1) ∙ c .before .before .before .before .before .before .before .before .before .before .before .before .before .before .before .before .part-at .ensures) .0 .1, (c .before .before .before .before .before .before .before .before .before .before .before .before .before .before .before .before .before .before .loop .inv .inside))) ((plusE (from (source (c .before .before .before .before .before .before .before .before .before .before .before .before .before .before .before .before .before .before .before .before .before .before .before .before .before .before .args .src .now) (c .before .before .before .before .before .before .before .before .before .before .before .before .before .before .before .before .before .before .before .before .before .before .before .before .before .before .args .ids .now) (c .before .before .before .before .before .before .before .before .before .before .before .before .before .before .before .before .before .before .before .before .before .before .before .before .before .before .args .ends .now)) (c .before .before .before .before .before .before .before .before .before .before .before .before .before .before .before .before .before .before .loop .s) (c .before .before .before .before .before .before .before .before .before .before .before .before .before .before .before .before .before .before .loop .events) (c .before .before .before .before .before .before .before .before .before .before .before .before .before .before .before .before .before .before .loop .errors) (c .before .before .before .before .before .before .before .before .before .before .before .before .before .before .before .before .before .before .loop .scratch) (c .before .before .before .before .before .before .before .before .before .before .before .before .before .before .before .before .before .before .loop .inv .wf)) (c .before .before .before .before .before .before .before .before .before .skip-trivia3 .ensures (c .before .before .before .before .before .before .before .before .before .before .before .before .before .before .before .before .before .before .before .before .before .before .before .before .before .before .args .src .now) (c .before .before .before .before .before .before .before .before .before .before .before .before .before .before .before .before .before .before .loop .s) (c .before .before .before .before .before .before .before .before .before .before .before .if4 .left) ((from (source (c .before .before .before .before .before .before .before .before .before .before .before .before .before .before .before .before .before .before .before .before .before .before .before .before .before .before .args .src .now) (c .before .before .before .before .before .before .before .before .before .before .before .before .before .before .before .before .before .before .before .before .before .before .before .before .before .before .args .ids .now) (c .before .before .before .before .before .before .before .before .before .before .before .before .before .before .before .before .before .before .before .before .before .before .before .before .before .before .args .ends .now)) (c .before .before .before .before .before .before .before .before .before .before .before .before .before .before .before .before .before .before .loop .s) (c .before .before .before .before .before .before .before .before .before .before .before .before .before .before .before .before .before .before .loop .events) (c .before .before .before .before .before .before .before .before .before .before .before .before .before .before .before .before .before .before .loop .errors) (c .before .before .before .before .before .before .before .before .before .before .before .before .before .before .before .before .before .before .loop .scratch) (c .before .before .before .before .before .before .before .before .before .before .before .before .before .before .before .before .before .before .loop .inv .wf)) .wf .0))) .wf) (c .before .before .before .before .before .before .first-row .ensures .missed _ _ _ (c .before .before .before .before .set3 .given .1)) (row-sound (c .before .before .before .before .before .before .before .before .before .before .before .before .before .before .before .before .before .before .loop .i) ((c .before .before .before .before .before .before .before .before .before .before .before .before .before .before .before .before .before .loop-test .taken), (c .before .before .before .before .before .before .before .before .before .before .before .before .before .before .before .before .before .before .loop .inv .inside)) (sym (c .before .before .before .before .before .before .before .before .before .before .before .before .before .before .how .given .1) ∙ c .before .before .before .before .before .before .before .before .before .before .before .before .before .before .before .before .part-at .ensures) .3 ((c .before .before .before .before .before .before .first-row .ensures .missed _ _ _ (c .before .before .before .before .set3 .given .1)) .asked)) refl _ (c .before .before .label2 .ensures) (eat-missed _ _ (c .before .before .before .before .before .before .before .before .before .before .before .if4 .left) (refl, (c .before .before .before .before .before .before .first-row .ensures .missed _ _ _ (c .before .before .before .before .set3 .given .1)) .peeked, (c .before .before .before .before .before .before .first-row .ensures .missed _ _ _ (c .before .before .before .before .set3 .given .1)) .none) ((plusE (from (source (c .before .before .before .before .before .before .before .before .before .before .before .before .before .before .before .before .before .before .before .before .before .before .before .before .before .before .args .src .now) (c .before .before .before .before .before .before .before .before .before .before .before .before .before .before .before .before .before .before .before .before .before .before .before .before .before .before .args .ids .now) (c .before .before .before .before .before .before .before .before .before .before .before .before .before .before .before .before .before .before .before .before .before .before .before .before .before .before .args .ends .now)) (c .before .before .before .before .before .before .before .before .before .before .before .before .before .before .before .before .before .before .loop .s) (c .before .before .before .before .before .before .before .before .before .before .before .before .before .before .before .before .before .before .loop .events) (c .before .before .before .before .before .before .before .before .before .before .before .before .before .before .before .before .before .before .loop .errors) (c .before .before .before .before .before .before .before .before .before .before .before .before .before .before .before .before .before .before .loop .scratch) (c .before .before .before .before .before .before .before .before .before .before .before .before .before .before .before .before .before .before .loop .inv .wf)) (c .before .before .before .before .before .before .before .before .before .skip-trivia3 .ensures (c .before .before .before .before .before .before .before .before .before .before .before .before .before .before .before .before .before .before .before .before .before .before .before .before .before .before .args .src .now) (c .before .before .before .before .before .before .before .before .before .before .before .before .before .before .before .before .before .before .loop .s) (c .before .before .before .before .before .before .before .before .before .before .before .if4 .left) ((from (source (c .before .before .before .before .before .before .before .before .before .before .before .before .before .before .before .before .before .before .before .before .before .before .before .before .before .before .args .src .now) (c .before .before .before .before .before .before .before .before .before .before .before .before .before .before .before .before .before .before .before .before .before .before .before .before .before .before .args .ids .now) (c .before .before .before .before .before .before .before .before .before .before .before .before .before .before .before .before .before .before .before .before .before .before .before .before .before .before .args .ends .now)) (c .before .before .before .before .before .before .before .before .before .before .before .before .before .before .before .before .before .before .loop .s) (c .before .before .before .before .before .before .before .before .before .before .before .before .before .before .before .before .before .before .loop .events) (c .before .before .before .before .before .before .before .before .before .before .before .before .before .before .before .before .before .before .loop .errors) (c .before .before .before .before .before .before .before .before .before .before .before .before .before .before .before .before .before .before .loop .scratch) (c .before .before .before .before .before .before .before .before .before .before .before .before .before .before .before .before .before .before .loop .inv .wf)) .wf .0))) .wf .1 .events) (fails-after _ (c .before .expected2 .ensures (source (c .before .before .before .before .before .before .before .before .before .before .before .before .before .before .before .before .before .before .before .before .before .before .before .before .before .before .args .src .now) (c .before .before .before .before .before .before .before .before .before .before .before .before .before .before .before .before .before .before .before .before .before .before .before .before .before .before .args .ids .now) (c .before .before .before .before .before .before .before .before .before .before .before .before .before .before .before .before .before .before .before .before .before .before .before .before .before .before .args .ends .now)) ((plusE (from (source (c .before .before .before .before .before .before .before .before .before .before .before .before .before .before .before .before .before .before .before .before .before .before .before .before .before .before .args .src .now) (c .before .before .before .before .before .before .before .before .before .before .before .before .before .before .before .before .before .before .before .before .before .before .before .before .before .before .args .ids .now) (c .before .before .before .before .before .before .before .before .before .before .before .before .before .before .before .before .before .before .before .before .before .before .before .before .before .before .args .ends .now)) (c .before .before .before .before .before .before .before .before .before .before .before .before .before .before .before .before .before .before .loop .s) (c .before .before .before .before .before .before .before .before .before .before .before .before .before .before .before .before .before .before .loop .events) (c .before .before .before .before .before .before .before .before .before .before .before .before .before .before .before .before .before .before .loop .errors) (c .before .before .before .before .before .before .before .before .before .before .before .before .before .before .before .before .before .before .loop .scratch) (c .before .before .before .before .before .before .before .before .before .before .before .before .before .before .before .before .before .before .loop .inv .wf)) (c .before .before .before .before .before .before .before .before .before .skip-trivia3 .ensures (c .before .before .before .before .before .before .before .before .before .before .before .before .before .before .before .before .before .before .before .before .before .before .before .before .before .before .args .src .now) (c .before .before .before .before .before .before .before .before .before .before .before .before .before .before .before .before .before .before .loop .s) (c .before .before .before .before .before .before .before .before .before .before .before .if4 .left) ((from (source (c .before .before .before .before .before .before .before .before .before .before .before .before .before .before .before .before .before .before .before .before .before .before .before .before .before .before .args .src .now) (c .before .before .before .before .before .before .before .before .before .before .before .before .before .before .before .before .before .before .before .before .before .before .before .before .before .before .args .ids .now) (c .before .before .before .before .before .before .before .before .before .before .before .before .before .before .before .before .before .before .before .before .before .before .before .before .before .before .args .ends .now)) (c .before .before .before .before .before .before .before .before .before .before .before .before .before .before .before .before .before .before .loop .s) (c .before .before .before .before .before .before .before .before .before .before .before .before .before .before .before .before .before .before .loop .events) (c .before .before .before .before .before .before .before .before .before .before .before .before .before .before .before .before .before .before .loop .errors) (c .before .before .before .before .before .before .before .before .before .before .before .before .before .before .before .before .before .before .loop .scratch) (c .before .before .before .before .before .before .before .before .before .before .before .before .before .before .before .before .before .before .loop .inv .wf)) .wf .0))) .wf .0) ((c .before .before .before .before .before .before .first-row .ensures .missed _ _ _ (c .before .before .before .before .set3 .given .1)) .peeked)))))) refl (c .missed .ensures)) (row-sound (c .before .before .before .before .before .before .before .before .before .before .before .before .before .before .before .before .before .before .loop .i) ((c .before .before .before .before .before .before .before .before .before .before .before .before .before .before .before .before .before .loop-test .taken), (c .before .before .before .before .before .before .before .before .before .before .before .before .before .before .before .before .before .before .loop .inv .inside)) (sym (c .before .before .before .before .before .before .before .before .before .before .before .before .before .before .how .given .1) ∙ c .before .before .before .before .before .before .before .before .before .before .before .before .before .before .before .before .part-at .ensures) .1) (try-fails (c .before .before .before .before .before .before .before .before .before .before .before .before .before .before .before .before .before .before .before .before .before .before .before .before .before .before .args .d) (c .before .before .before .before .before .before .before .before .before .before .before .before .before .before .before .before .before .before .before .before .before .before .before .before .before .before .args .optional) (c .before .before .before .before .before .before .before .before .before .before .before .before .before .before .before .before .before .before .loop .i) (c .before .before .before .before .before .before .before .before .before .before .before .before .before .before .before .before .before .before .loop .inv .inside) (c .before .before .before .before .before .before .before .before .before .before .before .before .before .before .before .before .before .before .loop .events) (c .before .before .before .before .before .before .before .before .before .before .before .before .before .before .before .before .before .before .loop .errors) (c .before .before .before .before .before .before .before .before .before .before .before .before .before .before .before .before .before .before .loop .scratch) (c .before .before .before .before .before .before .before .before .before .before .before .before .before .before .before .before .before .before .loop .inv .wf) (sym (c .before .before .before .before .before .before .before .before .before .before .before .before .before .before .how .given .1) ∙ c .before .before .before .before .before .before .before .before .before .before .before .before .before .before .before .before .part-at .ensures) (c .before .before .before .before .before .before .before .before .before .before .before .if4 .left) refl (plus (plusE (from (source (c .before .before .before .before .before .before .before .before .before .before .before .before .before .before .before .before .before .before .before .before .before .before .before .before .before .before .args .src .now) (c .before .before .before .before .before .before .before .before .before .before .before .before .before .before .before .before .before .before .before .before .before .before .before .before .before .before .args .ids .now) (c .before .before .before .before .before .before .before .before .before .before .before .before .before .before .before .before .before .before .before .before .before .before .before .before .before .before .args .ends .now)) (c .before .before .before .before .before .before .before .before .before .before .before .before .before .before .before .before .before .before .loop .s) (c .before .before .before .before .before .before .before .before .before .before .before .before .before .before .before .before .before .before .loop .events) (c .before .before .before .before .before .before .before .before .before .before .before .before .before .before .before .before .before .before .loop .errors) (c .before .before .before .before .before .before .before .before .before .before .before .before .before .before .before .before .before .before .loop .scratch) (c .before .before .before .before .before .before .before .before .before .before .before .before .before .before .before .before .before .before .loop .inv .wf)) (c .before .before .before .before .before .before .before .before .before .skip-trivia3 .ensures (c .before .before .before .before .before .before .before .before .before .before .before .before .before .before .before .before .before .before .before .before .before .before .before .before .before .before .args .src .now) (c .before .before .before .before .before .before .before .before .before .before .before .before .before .before .before .before .before .before .loop .s) (c .before .before .before .before .before .before .before .before .before .before .before .if4 .left) ((from (source (c .before .before .before .before .before .before .before .before .before .before .before .before .before .before .before .before .before .before .before .before .before .before .before .before .before .before .args .src .now) (c .before .before .before .before .before .before .before .before .before .before .before .before .before .before .before .before .before .before .before .before .before .before .before .before .before .before .args .ids .now) (c .before .before .before .before .before .before .before .before .before .before .before .before .before .before .before .before .before .before .before .before .before .before .before .before .before .before .args .ends .now)) (c .before .before .before .before .before .before .before .before .before .before .before .before .before .before .before .before .before .before .loop .s) (c .before .before .before .before .before .before .before .before .before .before .before .before .before .before .before .before .before .before .loop .events) (c .before .before .before .before .before .before .before .before .before .before .before .before .before .before .before .before .before .before .loop .errors) (c .before .before .before .before .before .before .before .before .before .before .before .before .before .before .before .before .before .before .loop .scratch) (c .before .before .before .before .before .before .before .before .before .before .before .before .before .before .before .before .before .before .loop .inv .wf)) .wf .0))) (first-missed (c .before .before .before .before .before .before .before .before .before .before .before .before .before .before .before .before .before .before .before .before .before .before .before .before .before .before .args .d) _ (omega (arith, row-sound (c .before .before .before .before .before .before .before .before .before .before .before .before .before .before .before .before .before .before .loop .i) ((c .before .before .before .before .before .before .before .before .before .before .before .before .before .before .before .before .before .loop-test .taken), (c .before .before .before .before .before .before .before .before .before .before .before .before .before .before .before .before .before .before .loop .inv .inside)) (sym (c .before .before .before .before .before .before .before .before .before .before .before .before .before .before .how .given .1) ∙ c .before .before .before .before .before .before .before .before .before .before .before .before .before .before .before .before .part-at .ensures) .0 .1, (c .before .before .before .before .before .before .before .before .before .before .before .before .before .before .before .before .before .before .loop .inv .inside))) ((plusE (from (source (c .before .before .before .before .before .before .before .before .before .before .before .before .before .before .before .before .before .before .before .before .before .before .before .before .before .before .args .src .now) (c .before .before .before .before .before .before .before .before .before .before .before .before .before .before .before .before .before .before .before .before .before .before .before .before .before .before .args .ids .now) (c .before .before .before .before .before .before .before .before .before .before .before .before .before .before .before .before .before .before .before .before .before .before .before .before .before .before .args .ends .now)) (c .before .before .before .before .before .before .before .before .before .before .before .before .before .before .before .before .before .before .loop .s) (c .before .before .before .before .before .before .before .before .before .before .before .before .before .before .before .before .before .before .loop .events) (c .before .before .before .before .before .before .before .before .before .before .before .before .before .before .before .before .before .before .loop .errors) (c .before .before .before .before .before .before .before .before .before .before .before .before .before .before .before .before .before .before .loop .scratch) (c .before .before .before .before .before .before .before .before .before .before .before .before .before .before .before .before .before .before .loop .inv .wf)) (c .before .before .before .before .before .before .before .before .before .skip-trivia3 .ensures (c .before .before .before .before .before .before .before .before .before .before .before .before .before .before .before .before .before .before .before .before .before .before .before .before .before .before .args .src .now) (c .before .before .before .before .before .before .before .before .before .before .before .before .before .before .before .before .before .before .loop .s) (c .before .before .before .before .before .before .before .before .before .before .before .if4 .left) ((from (source (c .before .before .before .before .before .before .before .before .before .before .before .before .before .before .before .before .before .before .before .before .before .before .before .before .before .before .args .src .now) (c .before .before .before .before .before .before .before .before .before .before .before .before .before .before .before .before .before .before .before .before .before .before .before .before .before .before .args .ids .now) (c .before .before .before .before .before .before .before .before .before .before .before .before .before .before .before .before .before .before .before .before .before .before .before .before .before .before .args .ends .now)) (c .before .before .before .before .before .before .before .before .before .before .before .before .before .before .before .before .before .before .loop .s) (c .before .before .before .before .before .before .before .before .before .before .before .before .before .before .before .before .before .before .loop .events) (c .before .before .before .before .before .before .before .before .before .before .before .before .before .before .before .before .before .before .loop .errors) (c .before .before .before .before .before .before .before .before .before .before .before .before .before .before .before .before .before .before .loop .scratch) (c .before .before .before .before .before .before .before .before .before .before .before .before .before .before .before .before .before .before .loop .inv .wf)) .wf .0))) .wf) (c .before .before .before .before .before .before .first-row .ensures .missed _ _ _ (c .before .before .before .before .set3 .given .1)) (row-sound (c .before .before .before .before .before .before .before .before .before .before .before .before .before .before .before .before .before .before .loop .i) ((c .before .before .before .before .before .before .before .before .before .before .before .before .before .before .before .before .before .loop-test .taken), (c .before .before .before .before .before .before .before .before .before .before .before .before .before .before .before .before .before .before .loop .inv .inside)) (sym (c .before .before .before .before .before .before .before .before .before .before .before .before .before .before .how .given .1) ∙ c .before .before .before .before .before .before .before .before .before .before .before .before .before .before .before .before .part-at .ensures) .3 ((c .before .before .before .before .before .before .first-row .ensures .missed _ _ _ (c .before .before .before .before .set3 .given .1)) .asked)) refl _ (c .before .before .label2 .ensures) (eat-missed _ _ (c .before .before .before .before .before .before .before .before .before .before .before .if4 .left) (refl, (c .before .before .before .before .before .before .first-row .ensures .missed _ _ _ (c .before .before .before .before .set3 .given .1)) .peeked, (c .before .before .before .before .before .before .first-row .ensures .missed _ _ _ (c .before .before .before .before .set3 .given .1)) .none) ((plusE (from (source (c .before .before .before .before .before .before .before .before .before .before .before .before .before .before .before .before .before .before .before .before .before .before .before .before .before .before .args .src .now) (c .before .before .before .before .before .before .before .before .before .before .before .before .before .before .before .before .before .before .before .before .before .before .before .before .before .before .args .ids .now) (c .before .before .before .before .before .before .before .before .before .before .before .before .before .before .before .before .before .before .before .before .before .before .before .before .before .before .args .ends .now)) (c .before .before .before .before .before .before .before .before .before .before .before .before .before .before .before .before .before .before .loop .s) (c .before .before .before .before .before .before .before .before .before .before .before .before .before .before .before .before .before .before .loop .events) (c .before .before .before .before .before .before .before .before .before .before .before .before .before .before .before .before .before .before .loop .errors) (c .before .before .before .before .before .before .before .before .before .before .before .before .before .before .before .before .before .before .loop .scratch) (c .before .before .before .before .before .before .before .before .before .before .before .before .before .before .before .before .before .before .loop .inv .wf)) (c .before .before .before .before .before .before .before .before .before .skip-trivia3 .ensures (c .before .before .before .before .before .before .before .before .before .before .before .before .before .before .before .before .before .before .before .before .before .before .before .before .before .before .args .src .now) (c .before .before .before .before .before .before .before .before .before .before .before .before .before .before .before .before .before .before .loop .s) (c .before .before .before .before .before .before .before .before .before .before .before .if4 .left) ((from (source (c .before .before .before .before .before .before .before .before .before .before .before .before .before .before .before .before .before .before .before .before .before .before .before .before .before .before .args .src .now) (c .before .before .before .before .before .before .before .before .before .before .before .before .before .before .before .before .before .before .before .before .before .before .before .before .before .before .args .ids .now) (c .before .before .before .before .before .before .before .before .before .before .before .before .before .before .before .before .before .before .before .before .before .before .before .before .before .before .args .ends .now)) (c .before .before .before .before .before .before .before .before .before .before .before .before .before .before .before .before .before .before .loop .s) (c .before .before .before .before .before .before .before .before .before .before .before .before .before .before .before .before .before .before .loop .events) (c .before .before .before .before .before .before .before .before .before .before .before .before .before .before .before .before .before .before .loop .errors) (c .before .before .before .before .before .before .before .before .before .before .before .before .before .before .before .before .before .before .loop .scratch) (c .before .before .before .before .before .before .before .before .before .before .before .before .before .before .before .before .before .before .loop .inv .wf)) .wf .0))) .wf .1 .events) (fails-after _ (c .before .expected2 .ensures (source (c .before .before .before .before .before .before .before .before .before .before .before .before .before .before .before .before .before .before .before .before .before .before .before .before .before .before .args .src .now) (c .before .before .before .before .before .before .before .before .before .before .before .before .before .before .before .before .before .before .before .before .before .before .before .before .before .before .args .ids .now) (c .before .before .before .before .before .before .before .before .before .before .before .before .before .before .before .before .before .before .before .before .before .before .before .before .before .before .args .ends .now)) ((plusE (from (source (c .before .before .before .before .before .before .before .before .before .before .before .before .before .before .before .before .before .before .before .before .before .before .before .before .before .before .args .src .now) (c .before .before .before .before .before .before .before .before .before .before .before .before .before .before .before .before .before .before .before .before .before .before .before .before .before .before .args .ids .now) (c .before .before .before .before .before .before .before .before .before .before .before .before .before .before .before .before .before .before .before .before .before .before .before .before .before .before .args .ends .now)) (c .before .before .before .before .before .before .before .before .before .before .before .before .before .before .before .before .before .before .loop .s) (c .before .before .before .before .before .before .before .before .before .before .before .before .before .before .before .before .before .before .loop .events) (c .before .before .before .before .before .before .before .before .before .before .before .before .before .before .before .before .before .before .loop .errors) (c .before .before .before .before .before .before .before .before .before .before .before .before .before .before .before .before .before .before .loop .scratch) (c .before .before .before .before .before .before .before .before .before .before .before .before .before .before .before .before .before .before .loop .inv .wf)) (c .before .before .before .before .before .before .before .before .before .skip-trivia3 .ensures (c .before .before .before .before .before .before .before .before .before .before .before .before .before .before .before .before .before .before .before .before .before .before .before .before .before .before .args .src .now) (c .before .before .before .before .before .before .before .before .before .before .before .before .before .before .before .before .before .before .loop .s) (c .before .before .before .before .before .before .before .before .before .before .before .if4 .left) ((from (source (c .before .before .before .before .before .before .before .before .before .before .before .before .before .before .before .before .before .before .before .before .before .before .before .before .before .before .args .src .now) (c .before .before .before .before .before .before .before .before .before .before .before .before .before .before .before .before .before .before .before .before .before .before .before .before .before .before .args .ids .now) (c .before .before .before .before .before .before .before .before .before .before .before .before .before .before .before .before .before .before .before .before .before .before .before .before .before .before .args .ends .now)) (c .before .before .before .before .before .before .before .before .before .before .before .before .before .before .before .before .before .before .loop .s) (c .before .before .before .before .before .before .before .before .before .before .before .before .before .before .before .before .before .before .loop .events) (c .before .before .before .before .before .before .before .before .before .before .before .before .before .before .before .before .before .before .loop .errors) (c .before .before .before .before .before .before .before .before .before .before .before .before .before .before .before .before .before .before .loop .scratch) (c .before .before .before .before .before .before .before .before .before .before .before .before .before .before .before .before .before .before .loop .inv .wf)) .wf .0))) .wf .0) ((c .before .before .before .before .before .before .first-row .ensures .missed _ _ _ (c .before .before .before .before .set3 .given .1)) .peeked)))))) refl (c .missed .ensures) (row-sound (c .before .before .before .before .before .before .before .before .before .before .before .before .before .before .before .before .before .before .loop .i) ((c .before .before .before .before .before .before .before .before .before .before .before .before .before .before .before .before .before .loop-test .taken), (c .before .before .before .before .before .before .before .before .before .before .before .before .before .before .before .before .before .before .loop .inv .inside)) (sym (c .before .before .before .before .before .before .before .before .before .before .before .before .before .before .how .given .1) ∙ c .before .before .before .before .before .before .before .before .before .before .before .before .before .before .before .before .part-at .ensures) .2)) (c .before .before .before .before .before .before .before .before .before .skip-trivia3 .kept .1 .1 .1 .1 .1 .1 .0) (refl) (refl)
 
 exec-enum-told : (t : ℕ) → exec-lts.Need-enum-told (exec-cs t) (exec-at t) exec.Post exec-Inv-loop exec-μ-loop
 exec-enum-told t c = search needs
@@ -545,7 +544,7 @@ pub +cached+exec+many+node-spec : {M : Type 1} → statement M
     (exec-loop-again t)
     (exec-enum-known-at t)
     (exec-label-requires t)
-    (exec-miss-requires t)
+    (exec-expected-requires t)
     (exec-loop-less-2 t)
     (exec-loop-again-2 t)
     (exec-loop-less-3 t)
@@ -597,7 +596,7 @@ pub +cached+exec+many+node-spec : {M : Type 1} → statement M
     (exec-first-row-requires t)
     (exec-enum-known-set-3 t)
     (exec-label-requires-2 t)
-    (exec-expected-requires t)
+    (exec-expected-requires-2 t)
     (exec-missed-requires t)
     (exec-loop-less-11 t)
     (exec-loop-again-11 t)
