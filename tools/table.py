@@ -3,8 +3,8 @@
 
 A line is built of the module's combinators. A row of the table is a combinator and up to three operands, which are a set and a name, a
 kind and the row of its line, or rows that stand before it: one number, in octal the combinator's digits and three digits for each
-operand. The third operand of a row, production, repetition, `not` or `recover` is the row of what follows it, 0 where nothing does, so
-row 0 is never read. The third operand of alternatives is 1 where the first of them does nothing unless a row of its first set is there.
+operand. The third operand of a row, production, repetition, `then`, `not` or `recover` is the row of what follows it, 0 where nothing
+does, so row 0 is never read; the second of a `then` is its part with what follows. The third operand of alternatives is 1 where the first of them does nothing unless a row of its first set is there.
 Parts that are the same, with what follows them, share a row."""
 import re
 import sys
@@ -17,6 +17,11 @@ NAME = {n: int(v) for n, v in re.findall(r"pub const (\w+): u32 = (\d+);", (ROOT
 OPS = ["Eat", "Unless", "Recover", "Node", "Memo", "Seq", "Then", "When", "Many", "Opt", "Last", "Alt"]
 IDS = 85
 FOLLOWED = ("Eat", "Unless", "Recover", "Node", "Memo", "Many")
+
+
+def followed(part):
+    """Whether the part's row says what follows it; so does that of a `then` of such a part."""
+    return part[0] in FOLLOWED or part[0] == "Then" and part[1][0] in FOLLOWED
 
 
 def eat(s, name=None):
@@ -142,7 +147,7 @@ def led(part):
 def row(part, then=0):
     """The row of the part and the row of what follows it, which may be one that is there."""
     op, rest = part[0], part[1:]
-    if op == "Seq" and rest[0][0] in FOLLOWED:
+    if op == "Seq" and followed(rest[0]):
         return row(rest[0], row(rest[1]))
     if op in ("Node", "Memo"):
         r = (op, "kind", rest[0], then)
@@ -154,6 +159,8 @@ def row(part, then=0):
         r = (op, row(rest[0]), 0, then)
     elif op == "When":
         r = (op, SET[rest[0]], row(rest[1]), 0)
+    elif op == "Then":
+        r = (op, row(rest[0]), row(rest[0], then), then)
     elif op == "Seq":
         r = (op, row(rest[0]), row(rest[1]), 0)
     elif op == "Alt":

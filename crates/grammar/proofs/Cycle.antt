@@ -25,9 +25,9 @@ use Rattle.reader.specs.Means.{Bufs, bufs, Past, Lines, Rows, Stands, modeOf}
 use Rattle.reader.specs.Did.{Ok, Wf, Did, Events, Plain, Both, Began, Shuts, ahead}
 use Rattle.reader.proofs.Core.{like-same, like-at, idle, does-as}
 use Rattle.reader.proofs.Core as core
-use Rattle.reader.proofs.Sticky.{Sticks, sticky, sticky-exec, sticky-run, sticky-turn}
+use Rattle.reader.proofs.Sticky.{Sticks, sticky, sticky-past, sticky-exec, sticky-run, sticky-turn}
 use Rattle.reader.proofs.Next.{if-ok-yes}
-use Rattle.reader.proofs.Parts.{Turning, turning, turns-on, turns-back, turns-end, repeats, gone-wf, alt-on, alt-next, opt-on, opt-back, then-ok}
+use Rattle.reader.proofs.Parts.{Turning, turning, turns-on, turns-back, turns-end, repeats, gone-wf, alt-on, alt-next, opt-on, opt-back, retold}
 use Rattle.reader.proofs.Memo.{likened, turned-failed, memo-idle, memo-hit, memo-through, memo-failed}
 use Rattle.reader.proofs.Bits.{Memo, kindOf, bitOf}
 use Rattle.reader.proofs.Bits as bits
@@ -90,9 +90,10 @@ module _ {f : P.Reader} {x : Source} {s r : State} {b : Bufs} {ev er sc : List �
   pub stops : (d : ℕ) (o : Bool) (q : Prog) → T (guarded q) → (r .mode ≡ 0 → ⊥) → Did (λ a. reads d o q (f a)) x s r b (bufs ev er sc)
   stops d o q t n = core.then y (idle (y .wf) (λ p a u. like-at u (λ i. refl) (sticky-exec p x d q o a) (λ z. like-same (sym (guarded-idle d (λ o b u. P.run d o b u) q o t (r .mode) a n (u .means z .mode))))))
 
-  -- `then`, in good order
-  pub thence : (d : ℕ) (o : Bool) (p : Prog) → r .mode ≡ 0 → {q : State} {b₂ : Bufs} → Did (λ a. reads d o p (P.trivia a)) x r q (bufs ev er sc) b₂ → Did (λ a. reads d o (then p) (f a)) x s q b b₂
-  thence d o p h z = core.then y (then-ok (reads d o p) (λ c. sticky-exec c x d p o) h (y .wf) z)
+  -- what in good order reads p behind trivia, as `then` does
+  pub thence : (d : ℕ) (o : Bool) (p q : Prog) → ((a : P.State) → a .mode ≡ ok → reads d o q a ≡ reads d o p (P.trivia a)) → r .mode ≡ 0 → {z : State} {b₂ : Bufs} → Did (λ a. reads d o p (P.trivia a)) x r z (bufs ev er sc) b₂ → Did (λ a. reads d o q (f a)) x s z b b₂
+  thence d o p q e h z =
+      core.then y (retold (reads d o q) (λ c a n. refl) (λ c. sticky-past c x (reads d o p) (sticky-exec c x d p o)) (λ c. sticky-exec c x d q o) (λ c a m. sticky-exec c x d q o a) (λ c a t i j. sym (e a (t .means i .mode ∙ ap modeOf h))) (idle (y .wf) (λ c a t. like-same refl)) z)
 
 -- in good order nothing more is tried
 fails-now : (x : Source) (s : State) (b : Bufs) → Wf x b (withMode 0 s) → Did P.fails x (withMode 0 s) (withMode 1 s) b b

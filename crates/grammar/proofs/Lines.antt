@@ -35,7 +35,7 @@ use Rattle.reader.specs.Bits.{ifb}
 use Rattle.grammar.specs.declared.parts.Part.{Part}
 use Rattle.grammar.specs.declared.parts.Part.the-variants.{Eat, Step, Node, Memo, Seq, Then, When, Many, Try}
 use Rattle.reader.proofs.Branch as branch
-use Rattle.reader.proofs.Next.{next-other, next-end}
+use Rattle.reader.proofs.Next.{if-ok-yes, next-other, next-end}
 use Rattle.grammar.specs.declared.parts.First.{First}
 use Rattle.grammar.specs.declared.parts.First.the-variants.{Unknown, Missed}
 use Rattle.grammar.specs.Rows.{rows, size, item}
@@ -66,7 +66,7 @@ module _ (i : ℕ) {r : ℕ} (e : r ≡ rowOf i) where
 
   pub row-else : 9 ≤ r / 0o1_000_000_000 → Try (r / 0o1_000_000_000) first second third ≡ partOf i
   row-else h =
-      sym (List·getD-eq-default (Eat first second third ∷ Step 1 first third ∷ Step 2 first third ∷ Node first second third ∷ Memo first second third ∷ Seq first second ∷ Then first ∷ When first second ∷ Many first third ∷ []) (Try (r / 0o1_000_000_000) first second third) h)
+      sym (List·getD-eq-default (Eat first second third ∷ Step 1 first third ∷ Step 2 first third ∷ Node first second third ∷ Memo first second third ∷ Seq first second ∷ Then first second third ∷ When first second ∷ Many first third ∷ []) (Try (r / 0o1_000_000_000) first second third) h)
       ∙ whole
 
 -- a number that is none of those before
@@ -112,7 +112,7 @@ leads (Step n s k) = false
 leads (Node a l k) = false
 leads (Memo a l k) = false
 leads (Seq j h) = false
-leads (Then j) = false
+leads (Then j h k) = false
 leads (When s j) = false
 leads (Many j k) = false
 leads (Try n j h f) = false
@@ -124,7 +124,7 @@ sound i (Step n s j) = both (ltb n 3) (ltb j i)
 sound i (Node a l j) = both (eqb (kind (production a)) a) (both (both (ltb 0 l) (ltb l size)) (ltb j i))
 sound i (Memo a l j) = both (either (eqb a k.EXPR) (eqb a k.TERM)) (both (eqb (kind (production a)) a) (both (both (ltb 0 l) (ltb l size)) (ltb j i)))
 sound i (Seq j h) = both (both (ltb 0 j) (ltb j i)) (both (ltb 0 h) (ltb h i))
-sound i (Then j) = both (ltb 0 j) (ltb j i)
+sound i (Then j h k) = both (both (ltb 0 h) (ltb h i)) (ltb k i)
 sound i (When s j) = both (ltb 0 j) (ltb j i)
 sound i (Many j h) = both (both (ltb 0 j) (ltb j i)) (ltb h i)
 sound i (Try n j h f) = both (both (ltb 0 j) (ltb j i)) (both (ltb h i) (both (either (both (eqb n 9) (eqb h 0)) (either (both (eqb n 10) (eqb h 0)) (both (eqb n 11) (ltb 0 h)))) (either (eqb f 0) (leads (partOf j)))))
@@ -147,7 +147,7 @@ Sound i (Step n s j) = (n < 3) × (j < i)
 Sound i (Node a l j) = (kind (production a) ≡ a) × Row l × (j < i)
 Sound i (Memo a l j) = Cached a × (kind (production a) ≡ a) × Row l × (j < i)
 Sound i (Seq j h) = Before j i × Before h i
-Sound i (Then j) = Before j i
+Sound i (Then j h k) = Before h i × (k < i)
 Sound i (When s j) = Before j i
 Sound i (Many j h) = Before j i × (h < i)
 Sound i (Try n j h f) = Before j i × (h < i) × How n h × ((f ≡ 0 → ⊥) → leads (partOf j) ≡ true)
@@ -188,7 +188,7 @@ sound-so i (Step n s j) t = two-facts (ltb-true n 3) (ltb-true j i) t
 sound-so i (Node a l j) t = three-facts (eqb-true _ a) (between 0 l size) (ltb-true j i) t
 sound-so i (Memo a l j) t = let u = two-facts (cached a) (three-facts (eqb-true (kind (production a)) a) (between 0 l size) (ltb-true j i)) t in (u .0, u .1 .0, u .1 .1, u .1 .2)
 sound-so i (Seq j h) t = two-facts (between 0 j i) (between 0 h i) t
-sound-so i (Then j) t = between 0 j i t
+sound-so i (Then j h k) t = two-facts (between 0 h i) (ltb-true k i) t
 sound-so i (When s j) t = between 0 j i t
 sound-so i (Many j h) t = two-facts (between 0 j i) (ltb-true h i) t
 sound-so i (Try n j h f) t = let u = three-facts (between 0 j i) (ltb-true h i) (two-facts (how-so n h) (led-so f)) t in (u .0, u .1, u .2 .0, u .2 .1)
@@ -197,23 +197,23 @@ pub row-sound : (i : ℕ) → Row i → {p : Part} → p ≡ partOf i → Sound 
 row-sound zero r e = absurd (omega (arith, r .0))
 row-sound (suc i) r {p} e = sound-so (suc i) p (ap (sound (suc i)) e ∙ all-sound (λ j. sound (suc j) (partOf (suc j))) (size - 1) tested i (omega (arith, r .1)))
 
--- a function of the kind and the line that a row names
-abbrev called : (ℕ → ℕ → Prog) → Part → Prog
-called f (Eat s n j) = prog 0
-called f (Step n s j) = prog 0
-called f (Node a l j) = f a l
-called f (Memo a l j) = f a l
-called f (Seq j h) = prog 0
-called f (Then j) = prog 0
-called f (When s j) = prog 0
-called f (Many j h) = prog 0
-called f (Try n j h k) = prog 0
+-- a function of the kind and the line that a row names, or of the rows of a `then`
+abbrev called : (ℕ → ℕ → Prog) → (ℕ → ℕ → ℕ → Prog) → Part → Prog
+called f g (Eat s n j) = prog 0
+called f g (Step n s j) = prog 0
+called f g (Node a l j) = f a l
+called f g (Memo a l j) = f a l
+called f g (Seq j h) = prog 0
+called f g (Then j h k) = g j h k
+called f g (When s j) = prog 0
+called f g (Many j h) = prog 0
+called f g (Try n j h k) = prog 0
 
 abbrev lineOf : Part → Prog
-lineOf = called (λ a j. prog j)
+lineOf = called (λ a j. prog j) (λ j h k. prog h)
 
 abbrev wanted : Part → Prog
-wanted = called (λ a j. grammar (production a))
+wanted = called (λ a j. grammar (production a)) (λ j h k. followed prog k (prog j))
 
 lined : each (λ i. lineOf (partOf i)) size ≡ each (λ i. wanted (partOf i)) size
 unfolding prog partOf rowOf production productions grammar
@@ -295,6 +295,14 @@ module _ (d : ℕ) (o : Bool) {x : Source} {s z : State} {b b₂ : Bufs} where
       by true w = core.then y w
       by false w = core.then y w
 
+-- `then` and what follows it, in good order: behind trivia it is the part and what follows
+then-follows : (d : ℕ) (o : Bool) (k : ℕ) (p : Prog) (a : P.State) → a .mode ≡ P.ok → reads d o (followed prog k (G.then p)) a ≡ reads d o (followed prog k p) (P.trivia a)
+then-follows d o k p a m = go (eqb k 0)
+  where
+    go : (c : Bool) → reads d o (ifb c (G.then p) (G._⨟_ (G.then p) (prog k))) a ≡ reads d o (ifb c p (G._⨟_ p (prog k))) (P.trivia a)
+    go true = if-ok-yes _ a m
+    go false = ap (reads d o (prog k)) (if-ok-yes _ a m)
+
 -- row i is read from s on once the rest of the line, from row k on, is read where the part came to
 abbrev pub Left : ℕ → Bool → Source → State → Bufs → ℕ → ℕ → State → Bufs → Type 0
 Left d o x s b₀ i k r b′ = (z : State) (b : Bufs) → Did (follows d o k) x r z b′ b → Did (reads d o (prog i)) x s z b₀ b
@@ -361,11 +369,13 @@ module _ (d : ℕ) (o : Bool) (i : ℕ) (h : i < size) {x : Source} {s : State} 
     pub seq-goes : {p q : ℕ} → Seq p q ≡ partOf i → 0 < q → Did (reads d o (prog p)) x s r (bufs ev er sc) b′ → Left d o x s (bufs ev er sc) i q r b′
     seq-goes {p} {q} e f v z c y = is-row d o i h e (core.then v (follows-row d o q f y))
 
-  pub then-stops : {p : ℕ} → Then p ≡ partOf i → (s .mode ≡ 0 → ⊥) → Did (reads d o (prog i)) x s s (bufs ev er sc) (bufs ev er sc)
-  then-stops {p} e n = is-row d o i h e (stops still d o (G.then (prog p)) tt n)
+  pub then-idle : {p q k : ℕ} → Then p q k ≡ partOf i → (s .mode ≡ 0 → ⊥) → Left d o x s (bufs ev er sc) i k s (bufs ev er sc)
+  then-idle {p} {q} {k} e n z c y = row-goes d o i h e k (G.then (prog p)) refl (stops still d o (G.then (prog p)) tt n) y
 
-  pub then-goes : {p : ℕ} → Then p ≡ partOf i → 0 < p → s .mode ≡ 0 → {r : State} {ev′ : List ℕ} → Events P.trivia x s r ev ev′ → Left d o x s (bufs ev er sc) i p r (bufs ev′ er sc)
-  then-goes {p} e f good t z c y = is-row d o i h e (thence still d o (prog p) good (plus (plusE still t) (follows-row d o p f y)))
+  pub then-goes : {p q k : ℕ} → Then p q k ≡ partOf i → 0 < q → s .mode ≡ 0 → {r : State} {ev′ : List ℕ} → Events P.trivia x s r ev ev′ → Left d o x s (bufs ev er sc) i q r (bufs ev′ er sc)
+  then-goes {p} {q} {k} e f good {r} {ev′} t z c y =
+      is-row d o i h e (thence still d o (followed prog k (prog p)) (followed prog k (G.then (prog p))) (then-follows d o k (prog p)) good
+      (plus (plusE still t) (subst (λ (u : Prog). Did (reads d o u) x r z (bufs ev′ er sc) c) (its-line i h e) (follows-row d o q f y))))
 
   pub when-passes : {S p : ℕ} → When S p ≡ partOf i → {v : Bool} → v ≡ ahead (setOf S) (x .ids) s → v ≡ false → {q : State} {b : Bufs} → Did (P.branches (setOf S) (λ a. a)) x s q (bufs ev er sc) b → Did (reads d o (prog i)) x s q (bufs ev er sc) b
   when-passes {S} {p} e sees n y = is-row d o i h e (passes still d o (setOf S) (prog p) sees n y)

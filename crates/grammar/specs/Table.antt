@@ -26,7 +26,7 @@ use Rattle.grammar.specs.Rows.{rows, size}
 -- the combinator's number and its operands
 abbrev pub made : ℕ → ℕ → ℕ → ℕ → Part
 made n a b c =
-    getD (Eat a b c ∷ Step 1 a c ∷ Step 2 a c ∷ Node a b c ∷ Memo a b c ∷ Seq a b ∷ Then a ∷ When a b ∷ Many a c ∷ []) n (Try n a b c)
+    getD (Eat a b c ∷ Step 1 a c ∷ Step 2 a c ∷ Node a b c ∷ Memo a b c ∷ Seq a b ∷ Then a b c ∷ When a b ∷ Many a c ∷ []) n (Try n a b c)
 
 unfoldable pub rowOf : ℕ → ℕ
 rowOf i = getD rows i 0
@@ -66,7 +66,7 @@ progOf g (Step n s k) = followed g k (stepOf n s)
 progOf g (Node a i k) = followed g k (node (production a))
 progOf g (Memo a i k) = followed g k (memo (production a))
 progOf g (Seq i j) = g i ⨟ g j
-progOf g (Then i) = then (g i)
+progOf g (Then i j k) = followed g k (then (g i))
 progOf g (When s i) = ifnext (setOf s) (g i)
 progOf g (Many i k) = followed g k (many (g i))
 progOf g (Try n i j f) = ifb (eqb n 9) (opt (g i)) (ifb (eqb n 10) (last (g i)) (G._/_ (g i) (g j)))

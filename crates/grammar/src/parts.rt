@@ -47,7 +47,8 @@ pub enum Part {
     Node(u32, usize, usize),
     Memo(u32, usize, usize),
     Seq(usize, usize),
-    Then(usize),
+    // Its part alone, and with what follows.
+    Then(usize, usize, usize),
     When(usize, usize),
     Many(usize, usize),
     // Alternatives: the last of several or not, the first, what is read where it fails, and 1 where it does nothing unless a row of its first set is
@@ -75,7 +76,7 @@ fn part_at(i: usize, table: &[u32]) -> Part
         3 => Part::Node(a, second, third),
         4 => Part::Memo(a, second, third),
         5 => Part::Seq(first, second),
-        6 => Part::Then(first),
+        6 => Part::Then(first, second, third),
         7 => Part::When(first, second),
         8 => Part::Many(first, third),
         _ => Part::Try(n, first, second, third),
@@ -263,15 +264,16 @@ fn exec(
                 );
                 i = q;
             }
-            Part::Then(p) => {
+            Part::Then(alone, p, next) => {
                 if s.mode != 0 {
-                    return s;
+                    i = next;
+                } else {
+                    let at = skip_trivia(s.pos, s.ev, s.evcap, s.full, ids, ends, events);
+                    s.pos = at.pos;
+                    s.ev = at.ev;
+                    s.full = at.full;
+                    i = p;
                 }
-                let at = skip_trivia(s.pos, s.ev, s.evcap, s.full, ids, ends, events);
-                s.pos = at.pos;
-                s.ev = at.ev;
-                s.full = at.full;
-                i = p;
             }
             Part::When(set, p) => {
                 if !s.sees(set, ids) {

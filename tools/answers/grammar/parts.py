@@ -15,7 +15,7 @@ use Rattle.reader.proofs.Eating.{eat-missed, fails-after}
 use Rattle.grammar.specs.Table.{prog, production, reads}
 use Rattle.grammar.proofs.Cycle.{from, here, plus, plusE, plusB, asksE, asksX, asksS, asksL, stops, Turns, turns, turns-more, turns-undone, turns-over, begun, closing, made, none-made}
 use Rattle.grammar.proofs.Known.{bit-in, bit-in-still, found-bit, known-idle, known-hit, known-through, known-failed}
-use Rattle.grammar.proofs.Lines.{is-line, proper, node-line, memo-line, row-sound, Going, going, ends-at, ends, goes-on, eat-idle, eat-goes, eat-fails, step-goes, node-goes, memo-goes, many-goes, seq-goes, then-stops, then-goes, when-passes, when-good, when-goes, try-stops, try-on, try-fails, failed-wf, first-missed}
+use Rattle.grammar.proofs.Lines.{is-line, proper, node-line, memo-line, row-sound, Going, going, ends-at, ends, goes-on, eat-idle, eat-goes, eat-fails, step-goes, node-goes, memo-goes, many-goes, seq-goes, then-idle, then-goes, when-passes, when-good, when-goes, try-stops, try-on, try-fails, failed-wf, first-missed}
 '''
 S, D, O = "({args} .src .now)", "({args} .d)", "({args} .optional)"
 ROWS, WF, LENT = "({pre} .1 .0)", "({pre} .1 .1)", "{pre} .1 .3"
@@ -215,23 +215,23 @@ EXEC = {
     **again(7, "{many} .ensures", f"{sound('p')} .1", f"many-goes {AT} {row('p')} ({{many}} .ensures)", ["many"]),
     "exec-requires": below(f"{INV} .wf, ({sound('p2')} .0 .0, omega (arith, {sound('p2')} .0 .1, {IN}))", f"{sound('p2')} .0 .1"),
     **again(8, "{exec} .ensures", f"{sound('p2')} .1 .1", f"seq-goes {AT} {row('p2')} ({sound('p2')} .1 .0) ({{exec}} .ensures)", ["exec"]),
-    **leaves(1, [], f"then-stops {AT} {row('p3')} ({{if2}} .taken)"),
+    **again(9, HERE, f"{sound('alone')} .1", f"then-idle {AT} {row('alone')} ({{if2}} .taken)", []),
     "skip-trivia-requires": SKIPS,
-    **again(9, f"(plusE {HERE} {THEN})", f"{sound('p3')} .1", f"then-goes {AT} {row('p3')} ({sound('p3')} .0) ({{if2}} .left) {THEN}", ["skip-trivia"]),
+    **again(10, f"(plusE {HERE} {THEN})", f"{sound('alone')} .0 .1", f"then-goes {AT} {row('alone')} ({sound('alone')} .0 .0) ({{if2}} .left) {THEN}", ["skip-trivia"]),
     "sees-requires": f"{HERE} .wf .0",
     "step-requires-2": f"asksL {HERE} {ROWS} (λ e. sym ({{sees}} .ensures) ∙ not-yes _ ({{if3}} .taken))",
-    **leaves(2, ["step2"], f"when-passes {AT} {row('set2')} ({{sees}} .ensures) (not-yes _ ({{if3}} .taken)) (plusB {HERE} ({{step2}} .ensures))"),
+    **leaves(1, ["step2"], f"when-passes {AT} {row('set2')} ({{sees}} .ensures) (not-yes _ ({{if3}} .taken)) (plusB {HERE} ({{step2}} .ensures))"),
     "skip-trivia-requires-2": SKIPS,
-    **again(10, f"(plusE {HERE} {WHEN})", f"{sound('set2')} .1", f"when-goes {AT} {row('set2')} ({sound('set2')} .0) ({{sees}} .ensures) (not-no _ ({{if3}} .left)) {WHEN}", ["skip-trivia2"]),
-    **leaves(3, [], f"try-stops {TRY} ({{if4}} .taken)"),
+    **again(11, f"(plusE {HERE} {WHEN})", f"{sound('set2')} .1", f"when-goes {AT} {row('set2')} ({sound('set2')} .0) ({{sees}} .ensures) (not-no _ ({{if3}} .left)) {WHEN}", ["skip-trivia2"]),
+    **leaves(2, [], f"try-stops {TRY} ({{if4}} .taken)"),
     "skip-trivia-requires-3": SKIPS,
     "first-row-requires": f"({FIRST_IN}, {LENT}, {AHEAD} .wf .0 .0 .here)",
     "label-requires-2": NAMED,
     "expected-requires-2": f"({AHEAD} .wf .0 .1, proper _ {NAMED} ({{label2}} .ensures), omega (arith, {MISSING} .peeked .within, {ROWS} .lines .few))",
-    **fails(11, LED, "missed", "refl", ["skip-trivia3"]),
+    **fails(12, LED, "missed", "refl", ["skip-trivia3"]),
     "exec-requires-2": below(f"{AHEAD} .wf, {FIRST_ROW}", f"{sound('how')} .0 .1"),
-    **leaves(4, ["exec2", "skip-trivia3"], f"try-on {came('({exec2} .ensures)')} ({{if5}} .taken)"),
-    **fails(12, "({exec2} .ensures)", "missed2", "({if5} .left)", ["exec2", "skip-trivia3"]),
-    **returns(5, [], f"ends {INV} ({{loop-test}} .left)"),
+    **leaves(3, ["exec2", "skip-trivia3"], f"try-on {came('({exec2} .ensures)')} ({{if5}} .taken)"),
+    **fails(13, "({exec2} .ensures)", "missed2", "({if5} .left)", ["exec2", "skip-trivia3"]),
+    **returns(4, [], f"ends {INV} ({{loop-test}} .left)"),
 }
 ANSWERS = {"many": MANY, "node": NODE, "cached": CACHED, "exec": EXEC}
