@@ -282,8 +282,3 @@ node d kind o f A {x} F {s} {s₁} {s₂} {r} {b} {b₁} {b₂} {b₃} from at i
 -- what is left of a body does nothing where the state is not in good order
 pub halts : {f : P.Reader} (g : P.Reader) {x : Source} {s r : State} {b b′ : Bufs} → ((p : Past) → Sticks p x f) → ((p : Past) → Sticks p x g) → ((n : ℕ) (a : P.State) → (n ≡ 0 → ⊥) → a .mode ≡ modeOf n → g a ≡ a) → (r .mode ≡ 0 → ⊥) → Did f x s r b b′ → Did (λ a. g (f a)) x s r b b′
 halts {f} g {x} {s} {r} F G e n y = then y (idle (y .wf) (λ p a t. like-at t (λ i. refl) (G p a) (λ z. like-same (sym (e (r .mode) a n (t .means z .mode))))))
-
--- `then`, in good order
-pub then-ok : (f : P.Reader) {x : Source} {s r : State} {b b′ : Bufs} → ((p : Past) → Sticks p x f) → s .mode ≡ 0 → Wf x b s → Did (λ a. f (P.trivia a)) x s r b b′ → Did (P.thens f) x s r b b′
-then-ok f {x} {s} F good w y =
-    retold (P.thens f) (λ p a n. refl) (λ p. sticky-past p x f (F p)) (λ p. sticky p x .at-then f (F p)) (λ p a m. sticky p x .at-then f (F p) a) (λ p a t i j. sym (if-ok-yes _ a (t .means i .mode ∙ ap modeOf good))) (idle w (λ p a t. like-same refl)) y
