@@ -91,7 +91,7 @@ follows d o i = ifb (eqb i 0) (λ a. a) (reads d o (prog i))
 abbrev pub Row : ℕ → Type 0
 Row i = (0 < i) × (i < size)
 
--- or the names of an `if_next` whose row is not there
+-- what takes no other part: `not`, `recover`, or the names of an `if_next` whose row is not there
 abbrev pub stepping : ℕ → Bool → ℕ → ℕ → P.Reader
 stepping d o n s = ifb (eqb n 3) (P.branches (setOf s) (λ a. a)) (reads d o (stepOf n s))
 
