@@ -80,7 +80,7 @@ pub fn contains(set: usize, id: u32) -> bool
     false
 }
 
-// The same from the table of all pairs, which is lent: a table named where it is read would be laid out anew for each row.
+// The same by a table of pairs that is lent, as one that is named here would be laid out anew at each call.
 pub fn within(set: usize, id: u32, sets: &[[u64; 2]; 55]) -> bool
     ensures { λ r. ⌜ r ≡ inPair (getD (now (sets .entry)) set []) id ⌝ }
 {
@@ -127,7 +127,7 @@ pub fn matched(set: usize, id: u32) -> Matched
     Matched::Nothing
 }
 
-// The kind that a set which has the id names for it. Only two sets name a kind that has another number than its id, so only in them is it looked for.
+// The kind that a set names for an id that it has. Only in two sets does a kind have another number than its id, so only they are searched.
 pub fn kind_in(set: usize, id: u32) -> u32
     ensures { λ r. ⌜ r ≡ kindIn set id ⌝ }
 {
