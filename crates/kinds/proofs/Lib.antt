@@ -1,5 +1,6 @@
 pub mod Tables
 pub mod Parts
-pub mod Words
 pub mod Order
+pub mod Words
+pub mod Named
 pub mod Spelt

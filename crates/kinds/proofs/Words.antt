@@ -12,7 +12,8 @@ use lib.Bits.{bitAnd, and-mask}
 use lib.Dec.{eqb, ltb}
 use lib.ListN.{length, getD, List·getD-eq-default}
 use Rattle.kinds.specs.Sets.{idOf, pick, sets, setOf}
-use Rattle.kinds.specs.Answers.{inPair, isSome}
+use Rattle.kinds.specs.Answers.{inPair, isSome, words}
+use Rattle.kinds.proofs.Order.{set-none}
 use Rattle.kinds.proofs.Tables.{both, both-left, both-right, all, all-sound, alike, alike-sound}
 
 -- the code's test of the bit b in the word number w
@@ -35,6 +36,12 @@ module _ (p : List ℕ) (i : ℕ) where
   in-none h k =
       sym (ap (λ (x : ℕ). eqb (x / 2 ^ (i % 64) % 2) 1) (List·getD-eq-default p 0 (omega arith)) ∙ ap (λ (x : ℕ). eqb (x % 2) 1) (zero-div (2 ^ (i % 64))))
 
+-- a number that no pair has
+pub in-nothing : (l : List (List ℕ)) (s i : ℕ) → length l ≤ s → inPair (getD l s []) i ≡ false
+unfolding inPair
+in-nothing l s i h =
+    ap (λ (p : List ℕ). eqb (getD p (i / 64) 0 / 2 ^ (i % 64) % 2) 1) (List·getD-eq-default l [] h) ∙ ap (λ (x : ℕ). eqb (x % 2) 1) (zero-div (2 ^ (i % 64)))
+
 -- the ids of the kinds are bits of a pair
 abbrev low : List ℕ → Bool
 low [] = true
@@ -47,14 +54,6 @@ low-none (a ∷ S) i t h =
     ap (λ (b : Bool). elim b [ true ↦ some a | false ↦ pick S i ]) (ne-eqb i (idOf a) (λ e. omega arith))
     ∙ low-none S i (both-right (ltb (idOf a) 128) (low S) t) h
 
--- the words that the sets ask for, which are the code's: the powers of two of the ids in word number w, summed
-abbrev word : ℕ → List ℕ → ℕ
-word w [] = 0
-word w (a ∷ S) = elim (eqb (idOf a / 64) w) [ true ↦ 2 ^ (idOf a % 64) + word w S | false ↦ word w S ]
-
-abbrev pub words : List (List ℕ)
-words = map (λ S. word 0 S ∷ word 1 S ∷ []) sets
-
 -- the words' rule at one id, and at one set
 abbrev agrees : ℕ → ℕ → Bool
 agrees s i = alike (inPair (getD words s []) i) (isSome (pick (setOf s) i))
@@ -63,7 +62,7 @@ abbrev right : ℕ → Bool
 right s = both (eqb (length (getD words s [])) 2) (both (low (setOf s)) (all (agrees s) 128))
 
 tried : all right 55 ≡ true
-unfolding idOf inPair
+unfolding idOf inPair words
 tried = refl
 
 pub words-right : (s i : ℕ) → s < 55 → inPair (getD words s []) i ≡ isSome (pick (setOf s) i)
@@ -80,3 +79,15 @@ words-right s i h = go (decLt i 128)
     go (no k) =
         sym (in-none (getD words s []) i (eqb-true _ 2 (both-left (eqb (length (getD words s [])) 2) (both (low (setOf s)) (all (agrees s) 128)) here)) (omega (arith, k)))
         ∙ sym (ap isSome (low-none (setOf s) i (both-left (low (setOf s)) (all (agrees s) 128) rest) (omega (arith, k))))
+
+long : length words ≡ 55
+unfolding words
+long = refl
+
+-- the table as it is lent, at any number
+pub lent-right : (l : List (List ℕ)) → l ≡ words → (s i : ℕ) → inPair (getD l s []) i ≡ isSome (pick (setOf s) i)
+lent-right l e s i = ap (λ (t : List (List ℕ)). inPair (getD t s []) i) e ∙ go (decLt s 55)
+  where
+    go : Dec (s < 55) → inPair (getD words s []) i ≡ isSome (pick (setOf s) i)
+    go (yes h) = words-right s i h
+    go (no h) = in-nothing words s i (rw long (omega (arith, h))) ∙ sym (ap (λ (S : List ℕ). isSome (pick S i)) (set-none s (omega (arith, h))))

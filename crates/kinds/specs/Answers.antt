@@ -1,12 +1,12 @@
 -- What the answers of this crate stand for.
 use Prim.Native.Nat.{ℕ, zero, suc, _+_, _-_, _/_, _%_, _^_, _≤_}
 use mathlib.Core.Path.{_≡_}
-use mathlib.Core.List.{List, [], _∷_, _++_}
+use mathlib.Core.List.{List, [], _∷_, _++_, map}
 use mathlib.Core.Bool.{Bool, true, false}
 use mathlib.Core.Option.{Option, none, some}
 use lib.Dec.{eqb}
 use lib.ListN.{length, getD, take, drop}
-use Rattle.kinds.specs.Sets.{sets}
+use Rattle.kinds.specs.Sets.{idOf, pick, sets, setOf}
 use Rattle.kinds.specs.declared.answer.Matched.{Matched}
 use Rattle.kinds.specs.declared.answer.Matched.the-variants as m
 use Rattle.kinds.specs.declared.answer.Name.{Name}
@@ -27,6 +27,19 @@ isSome (some a) = true
 -- bit i, counted through the words
 unfoldable pub inPair : List ℕ → ℕ → Bool
 inPair p i = eqb (getD p (i / 64) 0 / 2 ^ (i % 64) % 2) 1
+
+-- the word number w of a set: the powers of two of its ids in that word, summed
+abbrev word : ℕ → List ℕ → ℕ
+word w [] = 0
+word w (a ∷ S) = elim (eqb (idOf a / 64) w) [ true ↦ 2 ^ (idOf a % 64) + word w S | false ↦ word w S ]
+
+-- the table of the sets' pairs
+unfoldable pub words : List (List ℕ)
+words = map (λ S. word 0 S ∷ word 1 S ∷ []) sets
+
+-- the kind that the set number s names for the id, or the id where the set has none
+unfoldable pub kindIn : ℕ → ℕ → ℕ
+kindIn s i = elim (pick (setOf s) i) [ none ↦ i | some a ↦ a ]
 
 -- the lists one after the other
 abbrev pub joined : List (List ℕ) → List ℕ

@@ -1,8 +1,9 @@
 // Ids, kinds and token sets.
 ghost use mathlib.Core.Path.{_≡_};
-ghost use lib.ListN.{getElem?};
+ghost use mathlib.Core.List.{[]};
+ghost use lib.ListN.{getD, getElem?};
 ghost use Rattle.kinds.specs.Sets.{isId, trivial, idOf, kindOf, pick, idsOf, setOf};
-ghost use Rattle.kinds.specs.Answers.{matchedOf, nameOf, isSome, inPair, order, PartOf};
+ghost use Rattle.kinds.specs.Answers.{matchedOf, nameOf, isSome, inPair, kindIn, order, PartOf};
 
 mod answer;
 pub mod id;
@@ -79,6 +80,18 @@ pub fn contains(set: usize, id: u32) -> bool
     false
 }
 
+// The same by a table of pairs that is lent, as one that is named here would be laid out anew at each call.
+pub fn within(set: usize, id: u32, sets: &[[u64; 2]; 55]) -> bool
+    ensures { λ r. ⌜ r ≡ inPair (getD (now (sets .entry)) set []) id ⌝ }
+{
+    let table = &sets[..];
+    if set < table.len() {
+        let pair = table[set];
+        return member(pair, id);
+    }
+    false
+}
+
 // Where a set stands in the order of all kinds.
 struct Part {
     from: usize,
@@ -112,6 +125,28 @@ pub fn matched(set: usize, id: u32) -> Matched
         i += 1;
     }
     Matched::Nothing
+}
+
+// The kind that a set names for an id that it has. Only in two sets does a kind have another number than its id, so only they are searched.
+pub fn kind_in(set: usize, id: u32) -> u32
+    ensures { λ r. ⌜ r ≡ kindIn set id ⌝ }
+{
+    if set == set::MINUS {
+        return searched(set, id);
+    }
+    if set == set::ARITHMETIC {
+        return searched(set, id);
+    }
+    id
+}
+
+fn searched(set: usize, id: u32) -> u32
+    ensures { λ r. ⌜ r ≡ kindIn set id ⌝ }
+{
+    let Matched::Kind(kind) = matched(set, id) else {
+        return id;
+    };
+    kind
 }
 
 // The k-th, from 0, of the names that the set enters.

@@ -1,4 +1,4 @@
-// Says whether the page docs/KINDS.md, read from standard input, and the code's own tables agree.
+// Says whether the page docs/KINDS.md, read from standard input, and the code's own tables agree; then how many ids the sets have.
 ghost use Prim.Native.Nat.{_≤_};
 ghost use lib.ListN.{length};
 use libc::STDIN_FILENO;
@@ -195,6 +195,32 @@ fn differs(page: &[u8]) -> usize {
     line
 }
 
+// 1 where the set has the id, or has it for a kind of another number; else 0.
+fn has(set: usize, id: u32, other: bool, sets: &[[u64; 2]; 55]) -> u32
+    ensures { λ r. ⌜ r ≤ 1 ⌝ }
+{
+    if kinds::within(set, id, sets) {
+        if other {
+            if kinds::kind_in(set, id) == id {
+                return 0;
+            }
+        }
+        return 1;
+    }
+    0
+}
+
+// How many such ids there are: in each of the 55 sets and under a number that is none, of the numbers below 128.
+fn members(other: bool, sets: &[[u64; 2]; 55]) -> u32 {
+    let mut found: u32 = 0;
+    let mut n: usize = 0;
+    while n < 56 * 128 {
+        found += has(n / 128, (n % 128) as u32, other, sets);
+        n += 1;
+    }
+    found
+}
+
 fn count(table: usize, name: &[u8]) {
     io::print_decimal(STDOUT_FILENO, size(table) as u64);
     io::write_all(STDOUT_FILENO, name);
@@ -208,6 +234,11 @@ fn main() {
         count(1, b" ids, ");
         count(2, b" kinds, ");
         count(3, b" names: page and code agree\n");
+        let sets = kinds::SETS;
+        io::print_decimal(STDOUT_FILENO, members(false, &sets) as u64);
+        io::write_all(STDOUT_FILENO, b" ids in 55 sets, ");
+        io::print_decimal(STDOUT_FILENO, members(true, &sets) as u64);
+        io::write_all(STDOUT_FILENO, b" for a kind of another number\n");
         return;
     }
     io::write_all(STDOUT_FILENO, b"line ");

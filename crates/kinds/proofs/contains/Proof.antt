@@ -4,7 +4,7 @@ use mathlib.Core.Path.{sym, ap, _∙_}
 use mathlib.Core.List.{List}
 use borrow.Author.Needs.{needs}
 use Rattle.kinds.specs.Sets.{idOf, pick}
-use Rattle.kinds.specs.Answers.{isSome}
+use Rattle.kinds.specs.Answers.{isSome, words}
 use Rattle.kinds.proofs.Words.{words-right}
 use Rattle.kinds.proofs.Order.{set-none}
 use Rattle.kinds.proofs.contains.Statement.{statement}
@@ -20,7 +20,7 @@ member-requires : tie.Need-member-requires
 member-requires c κs = search needs
 
 returns : tie.Need-returns
-unfolding idOf
+unfolding idOf words
 returns c = c .member .ensures ∙ words-right _ _ (c .before .before .if1 .taken)
 
 returns-2 : tie.Need-returns-2
