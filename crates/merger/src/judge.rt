@@ -69,6 +69,7 @@ pub fn count(events: &[u32]) -> Size
     let mut nodes: usize = 0;
     let mut left: usize = 0;
     while events.len() - at >= 4 {
+        // What has another number where the kind stands is kept. What has this one may still be an error event, whose record stands there.
         if events[at + 1] == ERROR {
             let n = mark_at(events, at);
             at = n.past;

@@ -118,6 +118,7 @@ pub fn write(events: &[u32], room: &mut [u32])
     let mut at: usize = 0;
     let mut pen = Pen { to: 0, node: 0 };
     while events.len() - at >= 4 {
+        // As in `count`, only an event that may be an ERROR node's is read as a mark.
         if events[at + 1] == ERROR {
             let n = mark_at(events, at);
             at = n.past;
