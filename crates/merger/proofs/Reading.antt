@@ -4,7 +4,7 @@ use mathlib.Core.Path.{_≡_, refl, ap, sym, _∙_}
 use mathlib.Core.List.{List, [], _∷_}
 use mathlib.Core.Bool.{Bool, true, false, _&&_}
 use lib.Dec.{eqb}
-use lib.ListN.{length, drop}
+use lib.ListN.{length, getD, drop}
 use borrow.Author.Tests.{eq-eqb, ne-eqb}
 use native.Mathlib.Omega.{arith}
 use Rattle.kinds.specs.Kinds as k
@@ -46,6 +46,14 @@ of-sort e s h = sym (ap (λ (t : Bool). t && eqb (e .1) k.ERROR) (eq-eqb (e .0) 
 pub of-other : (e : Quad) (s : ℕ) → (e .0 ≡ s → ⊥) → false ≡ error-of s e
 of-other e s h = sym (ap (λ (t : Bool). t && eqb (e .1) k.ERROR) (ne-eqb (e .0) s h))
 
+-- an event of another kind
+other : (e : Quad) (s : ℕ) → (e .1 ≡ k.ERROR → ⊥) → error-of s e ≡ false
+other e s h = ap (λ (t : Bool). eqb (e .0) s && t) (ne-eqb (e .1) k.ERROR h) ∙ go (eqb (e .0) s)
+  where
+    go : (t : Bool) → t && false ≡ false
+    go true = refl
+    go false = refl
+
 -- AT A PLACE: e is the event there
 module _ (l : List ℕ) (at : ℕ) (more : at + 4 ≤ length l) (e : Quad) (is : e ≡ quad-at l at) where
   here : rest l at ≡ marks (e ∷ quads (drop (at + 4) l))
@@ -56,6 +64,9 @@ module _ (l : List ℕ) (at : ℕ) (more : at + 4 ≤ length l) (e : Quad) (is :
 
   pub keeps-at : error-of 1 e ≡ false → error-of 3 e ≡ false → rest l at ≡ keeps e ∷ rest l (at + 4)
   keeps-at h g = here ∙ kept e (quads (drop (at + 4) l)) h g
+
+  pub other-at : (getD l (at + 1) 0 ≡ k.ERROR → ⊥) → rest l at ≡ keeps e ∷ rest l (at + 4)
+  other-at h = let n : e .1 ≡ k.ERROR → ⊥ = λ p. h (sym (ap (λ (f : Quad). f .1) is) ∙ p) in keeps-at (other e 1 n) (other e 3 n)
 
   no-begin : error-of 1 e ≡ false → ended (rest l at) ≡ closes ∷ rest l at
   no-begin h = ap ended here ∙ closed e (quads (drop (at + 4) l)) h ∙ ap (λ (ms : List Mark). closes ∷ ms) (sym here)

@@ -1,6 +1,7 @@
 // Refusals 9 and 10, and the size of the finished list.
 use crate::marks::Mark;
 use crate::marks::mark_at;
+use kinds::kind::ERROR;
 ghost use mathlib.Core.Path.{_≡_};
 ghost use Prim.Native.Nat.{_<_, _^_};
 ghost use Rattle.peg.specs.Merge as D;
@@ -68,15 +69,21 @@ pub fn count(events: &[u32]) -> Size
     let mut nodes: usize = 0;
     let mut left: usize = 0;
     while events.len() - at >= 4 {
-        let n = mark_at(events, at);
-        at = n.past;
-        let m = n.mark;
-        let t = one_more(m, nodes, left);
-        let Tally::Open(o, l) = t else {
-            return Size::Unpaired;
-        };
-        nodes = o;
-        left = l;
+        // What has another number where the kind stands is kept. What has this one may still be an error event, whose record stands there.
+        if events[at + 1] == ERROR {
+            let n = mark_at(events, at);
+            at = n.past;
+            let m = n.mark;
+            let t = one_more(m, nodes, left);
+            let Tally::Open(o, l) = t else {
+                return Size::Unpaired;
+            };
+            nodes = o;
+            left = l;
+        } else {
+            at += 4;
+            left += 1;
+        }
     }
     if nodes == 0 {
         Size::Events(left)

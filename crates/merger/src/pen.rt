@@ -118,9 +118,16 @@ pub fn write(events: &[u32], room: &mut [u32])
     let mut at: usize = 0;
     let mut pen = Pen { to: 0, node: 0 };
     while events.len() - at >= 4 {
-        let n = mark_at(events, at);
-        at = n.past;
-        let m = n.mark;
-        pen = pen.turn(m, room);
+        // As in `count`, only an event that may be an ERROR node's is read as a mark.
+        if events[at + 1] == ERROR {
+            let n = mark_at(events, at);
+            at = n.past;
+            let m = n.mark;
+            pen = pen.turn(m, room);
+        } else {
+            let e = read(events, at);
+            at += 4;
+            pen = pen.keeps(e, room);
+        }
     }
 }

@@ -1,14 +1,14 @@
 -- `count` finds refusal 10 or the size of the finished list. The invariant: the tally and the marks from here on come to the same.
 use Prim.Native.Nat.{_≤_, _-_, _*_}
-use mathlib.Core.Path.{_≡_, ap, sym, _∙_}
+use mathlib.Core.Path.{_≡_, refl, ap, sym, _∙_}
 use lib.ListN.{length}
 use native.Mathlib.Omega.{arith}
 use borrow.Author.Needs.{needs}
 use Rattle.merger.specs.Count.{counted}
-use Rattle.merger.specs.Events.{markOf, rest}
+use Rattle.merger.specs.Events.{markOf, quad-at, rest}
 use Rattle.merger.specs.declared.judge.Tally.the-variants as tally
 use Rattle.merger.proofs.Counting.{comes, comes-first, comes-turn, comes-last, comes-open, tallied-more}
-use Rattle.merger.proofs.Reading.{rest-end}
+use Rattle.merger.proofs.Reading.{other-at, rest-end}
 use Rattle.merger.proofs.judge.count.Statement.{statement}
 use Rattle.merger.proofs.judge.count.Tie as tie
 
@@ -24,6 +24,15 @@ loop-holds c = (omega arith, omega arith, omega arith, comes-first (rest (c .bef
 sub-loop : tie.Need-sub-loop Inv-loop μ-loop
 sub-loop c = omega arith
 
+add-if1 : tie.Need-add-if1 Inv-loop μ-loop
+add-if1 c = omega arith
+
+mul-if1 : tie.Need-mul-if1 Inv-loop μ-loop
+mul-if1 c = search needs
+
+shared-slice-read-if1 : tie.Need-shared-slice-read-if1 Inv-loop μ-loop
+shared-slice-read-if1 c = omega arith
+
 mark-at-requires : tie.Need-mark-at-requires Inv-loop μ-loop
 mark-at-requires c κs = omega arith
 
@@ -38,7 +47,7 @@ enum-told c = search needs
 
 returns : tie.Need-returns Inv-loop μ-loop
 returns c =
-    let turn = c .before .before .before .before .before in
+    let turn = c .before .before .before .before .before .before .before in
     let read = c .before .before .before .mark-at .ensures .first in
     sym (turn .loop .inv .3 ∙ comes-turn _ _ _ (turn .loop .nodes) (turn .loop .left) tally.Unpaired read (sym (c .enum-told .given .1) ∙ c .before .before .one-more .ensures))
 
@@ -47,23 +56,39 @@ loop-less c = omega (arith, c .before .before .before .before .mark-at .ensures)
 
 loop-again : tie.Need-loop-again Inv-loop μ-loop
 loop-again c =
-    let turn = c .before .before .before .before .before .before in
+    let turn = c .before .before .before .before .before .before .before .before in
     let read = c .before .before .before .before .mark-at .ensures in
     let tally : tally.Open _ _ ≡ _ = sym (c .before .t .given .1) ∙ c .before .before .before .one-more .ensures in
     let small = tallied-more (markOf (c .before .before .before .before .mark-at .result .mark)) (turn .loop .nodes) (turn .loop .left) _ _ (sym tally) in
     (omega (arith, read), omega (arith, read, turn .loop .inv), omega (arith, read, turn .loop .inv), turn .loop .inv .3 ∙ comes-turn _ _ _ (turn .loop .nodes) (turn .loop .left) _ (read .first) tally)
 
+add-at : tie.Need-add-at Inv-loop μ-loop
+add-at c = omega arith
+
+add-left : tie.Need-add-left Inv-loop μ-loop
+add-left c = omega arith
+
+loop-less-2 : tie.Need-loop-less-2 Inv-loop μ-loop
+loop-less-2 c = omega arith
+
+loop-again-2 : tie.Need-loop-again-2 Inv-loop μ-loop
+loop-again-2 c =
+    let turn = c .before .before .before in
+    let events = turn .before .before .args .events .now in
+    let read = other-at events (turn .loop .at) (omega arith) (quad-at events (turn .loop .at)) refl (c .if1 .left) in
+    (omega arith, omega (arith, turn .loop .inv), omega (arith, turn .loop .inv), turn .loop .inv .3 ∙ comes-turn _ _ _ (turn .loop .nodes) (turn .loop .left) _ read refl)
+
 returns-2 : tie.Need-returns-2 Inv-loop μ-loop
 returns-2 c =
     let end = c .before .before .loop in
     let none = rest-end (c .before .before .before .before .args .events .now) (end .at) (c .before .loop-test .left) in
-    sym (end .inv .3 ∙ ap (comes (tally.Open (end .nodes) (end .left))) none ∙ comes-last (end .nodes) (end .left) (c .if1 .taken))
+    sym (end .inv .3 ∙ ap (comes (tally.Open (end .nodes) (end .left))) none ∙ comes-last (end .nodes) (end .left) (c .if2 .taken))
 
 returns-3 : tie.Need-returns-3 Inv-loop μ-loop
 returns-3 c =
     let end = c .before .before .loop in
     let none = rest-end (c .before .before .before .before .args .events .now) (end .at) (c .before .loop-test .left) in
-    sym (end .inv .3 ∙ ap (comes (tally.Open (end .nodes) (end .left))) none ∙ comes-open (end .nodes) (end .left) (c .if1 .left))
+    sym (end .inv .3 ∙ ap (comes (tally.Open (end .nodes) (end .left))) none ∙ comes-open (end .nodes) (end .left) (c .if2 .left))
 
 pub count-spec : {M : Type 1} → statement M
 count-spec =
@@ -73,6 +98,9 @@ count-spec =
     μ-loop
     loop-holds
     sub-loop
+    add-if1
+    mul-if1
+    shared-slice-read-if1
     mark-at-requires
     one-more-requires
     enum-known-t
@@ -80,5 +108,9 @@ count-spec =
     returns
     loop-less
     loop-again
+    add-at
+    add-left
+    loop-less-2
+    loop-again-2
     returns-2
     returns-3)
