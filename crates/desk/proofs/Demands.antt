@@ -1,31 +1,65 @@
 -- The demands as a caller of `read` may rely on them: d is what was lent, r what was returned, ev, er and sc what the three buffers hold then. Each
 -- follows from the one equation that `read` promises.
-use Prim.Native.Nat.{ℕ, zero, suc, _-_, _≤_}
+use Prim.Native.Nat.{ℕ, zero, suc, _+_, _-_, _≤_, _<_}
 use mathlib.Core.Path.{_≡_, sym, ap, _∙_}
-use mathlib.Core.List.{List, []}
+use mathlib.Core.List.{List, [], _∷_}
 use mathlib.Core.Logic.{_↔_}
 use native.Mathlib.Omega.{arith}
-use lib.ListN.{length}
+use lib.ListN.{length, length-append}
+use Rattle.kinds.specs.Kinds as kinds
 use Rattle.peg.specs.Prog.{RULE-DECL}
 use Rattle.peg.specs.Ford.{Res, Ford, rules, star, nt, strip, Accepts}
 use Rattle.peg.specs.Run as P
-use Rattle.peg.specs.Render.{Reading, flat, flat-records}
-use Rattle.peg.specs.Answer.{Desk, After, Answer, given, refusal, exceeded, answer, words, refusing, blank, filled, left-by, after}
+use Rattle.peg.specs.Run.{Limits}
+use Rattle.peg.specs.Render.{Reading, inside, flat, flat-records}
+use Rattle.peg.specs.Answer.{Desk, After, Answer, given, refusal, exceeded, answer, source-of, words, refusing, blank, filled, left-by, after}
 use Rattle.peg.specs.Remaining.{Running, standing, remaining, Continued}
-use Rattle.peg.proofs.Answered.{number-of, answered}
+use Rattle.peg.proofs.Answered.{number-of, given-is, answered}
 use Rattle.peg.proofs.Demands as peg
 use Rattle.reader.specs.Means.{limits}
 use Rattle.desk.specs.declared.read.Reading as D
 use Rattle.desk.specs.declared.read.Reading.the-variants.{Refused, Answered}
 use Rattle.desk.specs.Whole.{afterOf}
 
--- what `read` promises
-abbrev pub Promised : Desk → D.Reading → List ℕ → List ℕ → List ℕ → Type 0
-Promised d r ev er sc = afterOf r ev er sc ≡ after limits d
+-- a result and buffers as the definition leaves them, for any limits L; and what `read` promises
+abbrev pub Left : Limits → Desk → D.Reading → List ℕ → List ℕ → List ℕ → Type 0
+Left L d r ev er sc = afterOf r ev er sc ≡ after L d
 
--- "the promise leaves one result and one content of each lent buffer"
-pub one-outcome : (d : Desk) (r r′ : D.Reading) (ev er sc ev′ er′ sc′ : List ℕ) → Promised d r ev er sc → Promised d r′ ev′ er′ sc′ → afterOf r ev er sc ≡ afterOf r′ ev′ er′ sc′
-one-outcome d r r′ ev er sc ev′ er′ sc′ p q = p ∙ sym q
+abbrev pub Promised : Desk → D.Reading → List ℕ → List ℕ → List ℕ → Type 0
+Promised = Left limits
+
+-- ONE OUTCOME: `Refused(0)` and an answer of zeros have the same numbers, but neither is promised of any desk: an answer has at least the two events of
+-- SOURCE_FILE
+answered-of : ℕ → After → D.Reading
+answered-of zero a = Answered (a .outcome) (a .covered) (a .event-count) (a .error-count) (a .left)
+answered-of (suc n) a = Refused (suc n)
+
+two-events : (L : Limits) (d : Desk) → (after L d) .number ≡ 0 → 2 ≤ (after L d) .event-count
+two-events L d n =
+    let g = answered L d n in
+    let t : P.State = P.read L (d .ids) (d .fuel) in
+    let w = ap (λ (a : After). a .event-count) (ap (left-by d) (g .1)) ∙ ap (λ (r : Reading). length (r .events)) (given-is L d (g .0) (g .1) .whole) in
+    omega (arith, w, length-append (inside (source-of d) (t .out)) ((3, kinds.SOURCE-FILE, 0, length (d .bytes)) ∷ []))
+
+result-is : (L : Limits) (d : Desk) (r : D.Reading) (ev er sc : List ℕ) → Left L d r ev er sc → answered-of ((after L d) .number) (after L d) ≡ r
+unfolding answered-of
+result-is L d (Refused zero) ev er sc p = absurd (omega (arith, two-events L d (sym (ap (λ (a : After). a .number) p)), ap (λ (a : After). a .event-count) p))
+result-is L d (Refused (suc n)) ev er sc p = ap (λ (a : After). answered-of (a .number) a) (sym p)
+result-is L d (Answered o c e k f) ev er sc p = ap (λ (a : After). answered-of (a .number) a) (sym p)
+
+buffers-are : (L : Limits) (d : Desk) (r : D.Reading) (ev er sc : List ℕ) → Left L d r ev er sc → ((after L d) .events ≡ ev) × ((after L d) .errors ≡ er) × ((after L d) .scratch ≡ sc)
+buffers-are L d (Refused n) ev er sc p = (ap (λ (a : After). a .events) (sym p), ap (λ (a : After). a .errors) (sym p), ap (λ (a : After). a .scratch) (sym p))
+buffers-are L d (Answered o c e k f) ev er sc p = (ap (λ (a : After). a .events) (sym p), ap (λ (a : After). a .errors) (sym p), ap (λ (a : After). a .scratch) (sym p))
+
+-- "the promise leaves one result and one content of each lent buffer; show any two allowed outcomes equal"
+pub one-outcome : (L : Limits) (d : Desk) (r r′ : D.Reading) (ev er sc ev′ er′ sc′ : List ℕ)
+    → Left L d r ev er sc
+    → Left L d r′ ev′ er′ sc′
+    → (r ≡ r′) × (ev ≡ ev′) × (er ≡ er′) × (sc ≡ sc′)
+one-outcome L d r r′ ev er sc ev′ er′ sc′ p q =
+    let b = buffers-are L d r ev er sc p in
+    let c = buffers-are L d r′ ev′ er′ sc′ q in
+    (sym (result-is L d r ev er sc p) ∙ result-is L d r′ ev′ er′ sc′ q, sym (b .0) ∙ c .0, sym (b .1) ∙ c .1, sym (b .2) ∙ c .2)
 
 -- DEMAND 1: "each number exactly when its row says"
 abbrev pub number : D.Reading → ℕ
@@ -89,3 +123,95 @@ module _ (d : Desk) {o c e k f : ℕ} {ev er sc : List ℕ} (p : Promised d (Ans
   -- "fuel left is fuel given less the definition's `begin` steps, or 0 if they are more"
   pub read-fuel : f ≡ d .fuel - P.begin-steps limits (d .ids) (d .fuel)
   read-fuel = ap (λ (a : After). a .left) left ∙ peg.fuel-left-is limits d (read-given .0) (read-given .1)
+
+refuelled : After → ℕ → After
+refuelled a f = record { number = a .number; outcome = a .outcome; covered = a .covered; event-count = a .event-count; error-count = a .error-count; left = f; events = a .events; errors = a .errors; scratch = a .scratch }
+
+with-left : D.Reading → ℕ → D.Reading
+with-left (Refused n) f = Refused n
+with-left (Answered o c e k g) f = Answered o c e k f
+
+-- REQUEST (xiii): "More fuel never changes a finished reading", for any limits L. Here a reading ended with outcome 0.
+module _ (L : Limits) (d : Desk) {c e k f : ℕ} {ev er sc : List ℕ} (p : Left L d (Answered 0 c e k f) ev er sc) where
+  was-given : (R : Reading) × (answer L d ≡ given R)
+  was-given = answered L d (sym (ap (λ (a : After). a .number) p))
+
+  same-after : afterOf (Answered 0 c e k f) ev er sc ≡ left-by d (given (was-given .0))
+  same-after = p ∙ ap (left-by d) (was-given .1)
+
+  done : was-given .0 .outcome ≡ 0
+  done = sym (ap (λ (a : After). a .outcome) same-after)
+
+  -- the fuel that it used
+  abbrev pub spent : ℕ
+  spent = d .fuel - f
+
+  steps-are : P.begin-steps L (d .ids) (d .fuel) ≡ spent
+  steps-are = omega (arith, peg.fuel-used L d (was-given .0) (was-given .1) done, ap (λ (a : After). a .left) same-after)
+
+  pub fuel-kept : f ≤ d .fuel
+  fuel-kept = omega (arith, peg.fuel-used L d (was-given .0) (was-given .1) done, ap (λ (a : After). a .left) same-after)
+
+  -- on any fuel that is not less than was spent: the same result but for the fuel left, and the same buffers; it is never refused
+  pub read-enough-fuel : (g : ℕ) (r′ : D.Reading) (ev′ er′ sc′ : List ℕ)
+      → spent ≤ g
+      → Left L (peg.fuelled d g) r′ ev′ er′ sc′
+      → (r′ ≡ Answered 0 c e k (g - spent)) × (ev′ ≡ ev) × (er′ ≡ er) × (sc′ ≡ sc)
+  unfolding refuelled
+  read-enough-fuel g r′ ev′ er′ sc′ l q =
+      let n : P.begin-steps L (d .ids) (d .fuel) ≤ g = omega (arith, l, steps-are) in
+      let w = ap (left-by (peg.fuelled d g)) (peg.more-fuel-same L d (was-given .0) (was-given .1) done g n) in
+      let z : afterOf (Answered 0 c e k (g - spent)) ev er sc ≡ after L (peg.fuelled d g) =
+      ap (λ (a : After). refuelled a (g - spent)) same-after ∙ ap (λ (i : ℕ). refuelled (left-by d (given (was-given .0))) (g - i)) (sym steps-are) ∙ sym w in
+      one-outcome L (peg.fuelled d g) r′ (Answered 0 c e k (g - spent)) ev′ er′ sc′ ev er sc q z
+
+  -- "if a file ends with outcome 0 on fuel f, then on any larger fuel its events and error records are the same and the fuel left is larger by just the
+  -- difference"
+  pub read-more-fuel : (g : ℕ) (r′ : D.Reading) (ev′ er′ sc′ : List ℕ)
+      → d .fuel ≤ g
+      → Left L (peg.fuelled d g) r′ ev′ er′ sc′
+      → (r′ ≡ Answered 0 c e k (f + (g - d .fuel))) × (ev′ ≡ ev) × (er′ ≡ er) × (sc′ ≡ sc)
+  read-more-fuel g r′ ev′ er′ sc′ l q =
+      let z = read-enough-fuel g r′ ev′ er′ sc′ (omega (arith, l)) q in
+      let i : g - spent ≡ f + (g - d .fuel) = omega (arith, l, fuel-kept) in
+      (z .0 ∙ ap (Answered 0 c e k) i, z .1, z .2, z .3)
+
+  -- "fuel too small by any amount ends with outcome 1 and never 0", in any rooms in which it is answered
+  pub read-less-fuel : (g : ℕ) (lsc lev ler : List ℕ) {o′ c′ e′ k′ f′ : ℕ} {ev′ er′ sc′ : List ℕ}
+      → g < spent
+      → Left L (peg.relent d g lsc lev ler) (Answered o′ c′ e′ k′ f′) ev′ er′ sc′
+      → o′ ≡ 1
+  read-less-fuel g lsc lev ler l q =
+      let d′ : Desk = peg.relent d g lsc lev ler in
+      let z = answered L d′ (sym (ap (λ (a : After). a .number) q)) in
+      ap (λ (a : After). a .outcome) (q ∙ ap (left-by d′) (z .1))
+      ∙ peg.less-fuel-stops L d (was-given .0) (was-given .1) done g lsc lev ler (omega (arith, l, steps-are)) (z .0) (z .1)
+
+  -- "the fuel a file uses when it finishes is the least that finishes it"
+  pub read-least-fuel : (g : ℕ) (lsc lev ler : List ℕ) {c′ e′ k′ f′ : ℕ} {ev′ er′ sc′ : List ℕ}
+      → Left L (peg.relent d g lsc lev ler) (Answered 0 c′ e′ k′ f′) ev′ er′ sc′
+      → spent ≤ g
+  read-least-fuel g lsc lev ler q =
+      let d′ : Desk = peg.relent d g lsc lev ler in
+      let z = answered L d′ (sym (ap (λ (a : After). a .number) q)) in
+      let i = peg.least-fuel L d (was-given .0) (was-given .1) done g lsc lev ler (z .0) (z .1) (sym (ap (λ (a : After). a .outcome) (q ∙ ap (left-by d′) (z .1)))) in
+      omega (arith, i, steps-are)
+
+  -- the lists of two finished readings in other rooms: the same numbers, each list with zeros behind it
+  pub read-same-lists : (g : ℕ) (lsc lev ler : List ℕ) {o′ c′ e′ k′ f′ : ℕ} {ev′ er′ sc′ : List ℕ}
+      → spent ≤ g
+      → Left L (peg.relent d g lsc lev ler) (Answered o′ c′ e′ k′ f′) ev′ er′ sc′
+      → (Answered o′ c′ e′ k′ f′ ≡ Answered 0 c e k (g - spent))
+      × ((events errors : List ℕ) × (ev ≡ filled events (d .events)) × (ev′ ≡ filled events lev) × (er ≡ filled errors (d .errors)) × (er′ ≡ filled errors ler))
+  unfolding answered-of with-left
+  read-same-lists g lsc lev ler {o′} {c′} {e′} {k′} {f′} {ev′} {er′} {sc′} l q =
+      let d′ : Desk = peg.relent d g lsc lev ler in
+      let z = answered L d′ (sym (ap (λ (a : After). a .number) q)) in
+      let R : Reading = was-given .0 in
+      let i = peg.more-fuel-lists L d R (was-given .1) done g lsc lev ler (omega (arith, l, steps-are)) (z .0) (z .1) in
+      let w = q ∙ ap (left-by d′) (z .1 ∙ ap given i) in
+      let y : Answered o′ c′ e′ k′ f′ ≡ Answered (R .outcome) (R .covered) (length (R .events)) (length (R .errors)) (g - P.begin-steps L (d .ids) (d .fuel)) = ap (answered-of 0) w in
+      let x : Answered 0 c e k f ≡ Answered (R .outcome) (R .covered) (length (R .events)) (length (R .errors)) (R .left) = ap (answered-of 0) same-after in (
+        y ∙ ap (λ (r : D.Reading). with-left r (g - P.begin-steps L (d .ids) (d .fuel))) (sym x) ∙ ap (λ (n : ℕ). Answered 0 c e k (g - n)) steps-are,
+        (flat (R .events), flat-records (R .errors), ap (λ (a : After). a .events) same-after, ap (λ (a : After). a .events) w, ap (λ (a : After). a .errors) same-after, ap (λ (a : After). a .errors) w),
+      )

@@ -5,6 +5,7 @@ use mathlib.Core.List.{List, [], _∷_, map}
 use mathlib.Core.Bool.{Bool, true, false}
 use mathlib.Core.Option.{Option}
 use lib.ListN.{length}
+use native.Mathlib.Omega.{arith}
 use Rattle.kinds.specs.Kinds as kinds
 use Rattle.kinds.specs.Sets.{idOf}
 use Rattle.peg.specs.Run.{count, State, Reader, Mode, ok, failed, stopped, Stop, spent, deep, Event, opened, leaf, closed, bad, Choice, Next, end, other, hit, next, turn, pay, note, keep, emit, take, back, halt, if-ok, trivia, expected, unexpected, choose, charge, begin, finish, unless-optional, skip-to, swallow, first-names, recovered, recovery, eat-row, refuse-row, branch, or-else, loop, go-on, known, remember, memo-row, nodes, halted}
@@ -178,8 +179,8 @@ module _ (Q : State → State → Type 0) (O : Order Q) where
 
   charge-up : (d f : ℕ) (s : State) → s .fuel ≡ f → Q s (charge d f s)
   charge-up d zero s e = halt-up spent s
-  charge-up zero (suc f) s e = O .trans s (pay f s) (halt deep (pay f s)) (O .at-pay s f e) (halt-up deep (pay f s))
-  charge-up (suc d) (suc f) s e = O .at-pay s f e
+  charge-up zero (suc f) s e = O .trans s (pay _ s) (halt deep (pay _ s)) (O .at-pay s _ (omega (arith, e))) (halt-up deep (pay _ s))
+  charge-up (suc d) (suc f) s e = O .at-pay s _ (omega (arith, e))
 
   pub begin-up : (d : ℕ) → UP (begin d)
   begin-up d s =
