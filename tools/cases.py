@@ -1,15 +1,16 @@
 #!/usr/bin/env python3
 """Writes crates/peg/specs/Cases.antt from a folder of cases: cases.py FOLDER [--check].
 
-A case is NAME.yar (the source), NAME.rows (its rows, and the fuel) and NAME.raw (the listing that the Rust gave, not merged,
-empty ERROR nodes kept). With --check nothing is written; the tool only says whether the file is what the folder gives.
+A case is NAME.yar (the source), NAME.rows (its rows, and the fuel) and NAME.raw (the listing, not merged, of a copy of the Rust that
+keeps empty ERROR nodes). With --check nothing is written; the tool only says whether the file is what the folder gives.
 """
 import sys
 from pathlib import Path
 
 OUT = Path(__file__).resolve().parent.parent / "crates" / "peg" / "specs" / "Cases.antt"
 SORTS = {"B": 1, "T": 2, "E": 3}
-HEAD = """-- Answers of the Rust to a dozen files, events and error records whole; tools/cases.py writes this file from its listings.
+HEAD = """-- Answers to a dozen files, events and error records whole, of a copy of the Rust that keeps empty ERROR nodes (decision 1). But for these nodes they are
+-- the Rust's own, which is run (compare/, `run cases`). tools/cases.py writes this file from the listings in compare/cases.
 use Prim.Native.Nat.{ℕ}
 use mathlib.Core.List.{List, [], _∷_}
 use mathlib.Core.Bool.{Bool, true, _&&_}

@@ -1,11 +1,12 @@
 -- The demands as a caller of `read` may rely on them: d is what was lent, r what was returned, ev, er and sc what the three buffers hold then. Each
 -- follows from the one equation that `read` promises.
-use Prim.Native.Nat.{ℕ, zero, suc, _+_, _-_, _≤_, _<_}
-use mathlib.Core.Path.{_≡_, sym, ap, _∙_}
-use mathlib.Core.List.{List, [], _∷_}
+use Prim.Native.Nat.{ℕ, zero, suc, _+_, _-_, _*_, _≤_, _<_}
+use mathlib.Core.Path.{_≡_, refl, sym, ap, ap₂, _∙_, subst}
+use mathlib.Core.List.{List, [], _∷_, _++_}
 use mathlib.Core.Logic.{_↔_}
 use native.Mathlib.Omega.{arith}
-use lib.ListN.{length, length-append}
+use lib.Dec.{leb}
+use lib.ListN.{length, take, replicate, length-append}
 use Rattle.kinds.specs.Kinds as kinds
 use Rattle.peg.specs.Prog.{RULE-DECL}
 use Rattle.peg.specs.Ford.{Res, Ford, rules, star, nt, strip, Accepts}
@@ -15,6 +16,9 @@ use Rattle.peg.specs.Render.{Reading, inside, flat, flat-records}
 use Rattle.peg.specs.Answer.{Desk, After, Answer, given, refusal, exceeded, answer, source-of, words, refusing, blank, filled, left-by, after}
 use Rattle.peg.specs.Remaining.{Running, standing, remaining, Continued}
 use Rattle.peg.proofs.Answered.{number-of, given-is, answered}
+use Rattle.peg.specs.Merge.{quads, marks, finished, merged, merger}
+use Rattle.peg.specs.Merge as M
+use Rattle.peg.proofs.Joined.{Orderly, flat-length, never-9-or-10, read-in-order}
 use Rattle.peg.proofs.Demands as peg
 use Rattle.reader.specs.Means.{limits}
 use Rattle.desk.specs.declared.read.Reading as D
@@ -78,6 +82,10 @@ pub read-blank : (d : Desk) (r : D.Reading) (n : ℕ) (ev er sc : List ℕ) → 
     afterOf r ev er sc ≡ refusing (suc n) (blank (d .events)) (blank (d .errors)) (blank (d .scratch))
 read-blank d r n ev er sc h i p = p ∙ peg.demand-1-blank limits d n h i
 
+take-whole : (a b : List ℕ) → take (length a) (a ++ b) ≡ a
+take-whole [] b = refl
+take-whole (x ∷ a) b = ap (λ (l : List ℕ). x ∷ l) (take-whole a b)
+
 -- an answer, and the reading that it gives
 module _ (d : Desk) {o c e k f : ℕ} {ev er sc : List ℕ} (p : Promised d (Answered o c e k f) ev er sc) where
   zero-number : (after limits d) .number ≡ 0
@@ -98,6 +106,19 @@ module _ (d : Desk) {o c e k f : ℕ} {ev er sc : List ℕ} (p : Promised d (Ans
 
   pub read-scratch : sc ≡ blank (d .scratch)
   read-scratch = ap (λ (a : After). a .scratch) left
+
+  -- what is handed on to the merger, the first e events: never refused 9 or 10, and the ERROR nodes that it joins stand in their order
+  pub read-list : take (4 * e) ev ≡ flat (read-given .0 .events)
+  read-list =
+      let w : List ℕ = flat (read-given .0 .events) in
+      let n : 4 * e ≡ length w = omega (arith, ap (λ (a : After). a .event-count) left, flat-length (read-given .0 .events)) in
+      ap₂ take n read-events ∙ take-whole w (replicate (length (d .events) - length w) 0)
+
+  pub read-merges : (room : ℕ) → let l : List ℕ = take (4 * e) ev in merger l room ≡ M.refusing 7 (leb (4 * length (finished l)) room) (merged (finished l))
+  read-merges room = subst (λ (l : List ℕ). merger l room ≡ M.refusing 7 (leb (4 * length (finished l)) room) (merged (finished l))) (sym read-list) (never-9-or-10 limits d (read-given .0) (read-given .1) room)
+
+  pub read-orderly : Orderly (marks (quads (take (4 * e) ev)))
+  read-orderly = subst (λ (l : List ℕ). Orderly (marks (quads l))) (sym read-list) (read-in-order limits d (read-given .0) (read-given .1))
 
   -- DEMAND 2: "If the reader was not stopped, the error list is empty exactly when the PEG accepts every item."
   pub read-accepts : o ≡ 0 → (k ≡ 0) ↔ Accepts (d .ids)

@@ -579,7 +579,7 @@ fn deep(name: &[u8], src: &[u8], ids: &[u32], starts: &[u32], ends: &[u32]) {
     );
 }
 
-// A rule whose condition is a 1 behind so many minus signs: 1,016 open 1,024 nodes. This run needs 16.5 MB of stack (ulimit -s).
+// A rule whose condition is a 1 behind so many minus signs: 1,016 open 1,024 nodes.
 fn signs(name: &[u8], n: usize) {
     let mut src = [45u8; 1036];
     let mut ids = [61u32; 1025];

@@ -1,14 +1,13 @@
 -- Laws of the merger: the promise leaves one outcome; what is no ERROR begin and no ERROR end stays, in its order; every ERROR end has its begin's
--- span; a list with no two neighbouring ERROR nodes, whose ERROR ends have their begins' spans, is its own finished list; neighbours that stand in
--- their order are joined from the first one's start to the last one's end.
-use Prim.Native.Nat.{ℕ, zero, suc, _%_, _≤_}
+-- span; a list with no two neighbouring ERROR nodes, whose ERROR ends have their begins' spans, is its own finished list. That neighbours in their order
+-- are joined from the first one's start to the last one's end, and that a reader's are in their order, is proved of the definition (peg, proofs/Joined).
+use Prim.Native.Nat.{ℕ, zero, suc, _%_}
 use mathlib.Core.Path.{_≡_, refl, ap, ap₂, sym, _∙_}
 use mathlib.Core.List.{List, [], _∷_}
 use mathlib.Core.Bool.{Bool, true, false, _&&_, _||_}
 use lib.Dec.{eqb}
 use lib.ListN.{length}
 use borrow.Author.Tests.{eqb-true, eq-eqb}
-use native.Mathlib.Nat.{min-eq-left, max-eq-right}
 use native.Mathlib.Omega.{arith}
 use Rattle.peg.specs.Render.{Quad, flat}
 use Rattle.peg.specs.Merge.{quads, error-of, Span, Mark, opens, joins, closes, keeps, ended, marked, marks, paired, reach, error-event, merge, finished, Returned, merging}
@@ -224,33 +223,3 @@ flat-quads (a ∷ b ∷ c ∷ d ∷ l) h = ap (λ (t : List ℕ). a ∷ b ∷ c 
 
 pub unchanged : (l : List ℕ) → length l % 4 ≡ 0 → apart (marks (quads l)) ≡ true → spanned (quads l) [] ≡ true → flat (finished l) ≡ l
 unchanged l h a s = ap flat (same (quads l) [] a s) ∙ flat-quads l h
-
--- NEIGHBOURS IN THEIR ORDER, as a reader writes them: each node that is joined starts no earlier than the one before it ends. Then the span runs from
--- the first one's start to the last one's end
-abbrev pub ordered : List Mark → ℕ → Span → Type 0
-ordered [] h z = z .0 ≤ z .1
-ordered (opens y ∷ ms) h z = ordered ms (suc h) z
-ordered (joins y ∷ ms) zero z = (z .0 ≤ z .1) × (z .1 ≤ y .0) × (y .0 ≤ y .1) × ordered ms zero (z .0, y .1)
-ordered (joins y ∷ ms) (suc h) z = ordered ms (suc h) z
-ordered (closes ∷ ms) zero z = z .0 ≤ z .1
-ordered (closes ∷ ms) (suc h) z = ordered ms h z
-ordered (keeps e ∷ ms) h z = ordered ms h z
-
-abbrev pub first-to-last : List Mark → ℕ → Span → Span
-first-to-last [] h z = z
-first-to-last (opens y ∷ ms) h z = first-to-last ms (suc h) z
-first-to-last (joins y ∷ ms) zero z = first-to-last ms zero (z .0, y .1)
-first-to-last (joins y ∷ ms) (suc h) z = first-to-last ms (suc h) z
-first-to-last (closes ∷ ms) zero z = z
-first-to-last (closes ∷ ms) (suc h) z = first-to-last ms h z
-first-to-last (keeps e ∷ ms) h z = first-to-last ms h z
-
-pub in-order : (ms : List Mark) (h : ℕ) (z : Span) → ordered ms h z → reach ms h z ≡ first-to-last ms h z
-in-order [] h z o = refl
-in-order (opens y ∷ ms) h z o = in-order ms (suc h) z o
-in-order (joins y ∷ ms) zero z o =
-    ap (reach ms zero) (ap₂ (λ (a b : ℕ). (a, b)) (min-eq-left (omega (arith, o .0, o .1))) (max-eq-right (omega (arith, o .1, o .2)))) ∙ in-order ms zero (z .0, y .1) (o .3)
-in-order (joins y ∷ ms) (suc h) z o = in-order ms (suc h) z o
-in-order (closes ∷ ms) zero z o = refl
-in-order (closes ∷ ms) (suc h) z o = in-order ms h z o
-in-order (keeps e ∷ ms) h z o = in-order ms h z o

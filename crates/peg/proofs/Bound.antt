@@ -63,7 +63,7 @@ bound-never-ends d a p w s n l =
     bounds f F n (suc (length (s .rest))) s (omega (arith, l, strip-le (s .rest))) (omega (arith, strip-le (s .rest)))
 
 -- a program that does nothing where the reader is stopped: no node is entered unguarded
-abbrev idle : Prog → Bool
+abbrev pub idle : Prog → Bool
 idle (eat S N) = true
 idle (unless S) = true
 idle (ifnext S p) = true
@@ -77,7 +77,7 @@ idle (recover S) = true
 idle (node a) = false
 idle (memo a) = true
 
-idle-productions : (a : Production) → T (idle (grammar a))
+pub idle-productions : (a : Production) → T (idle (grammar a))
 unfolding productions grammar
 idle-productions = each (λ a. idle (grammar a)) tt
 
@@ -89,7 +89,7 @@ if-ok-stopped r w s = go (s .mode) s
     go failed s e = refl
     go (stopped v) s e = refl
 
-recovery-stopped : (d : ℕ) (o : Bool) (S : List ℕ) (w : Stop) (s : State) → s .mode ≡ stopped w → recovery d o S s ≡ s
+pub recovery-stopped : (d : ℕ) (o : Bool) (S : List ℕ) (w : Stop) (s : State) → s .mode ≡ stopped w → recovery d o S s ≡ s
 recovery-stopped d o S w s = go (s .mode) s
   where
     go : (m : Mode) (s : State) → m ≡ stopped w → recovery d o S (turn m s) ≡ turn m s
@@ -98,7 +98,7 @@ recovery-stopped d o S w s = go (s .mode) s
     go (stopped v) s e = refl
 
 module _ (d : ℕ) (call : Bool → Production → Reader) (w : Stop) where
-  idles : (p : Prog) → T (idle p) → (o : Bool) (s : State) → s .mode ≡ stopped w → exec d call p o s ≡ s
+  pub idles : (p : Prog) → T (idle p) → (o : Bool) (s : State) → s .mode ≡ stopped w → exec d call p o s ≡ s
   idles (eat S N) t o s e = if-ok-stopped _ w s e
   idles (unless S) t o s e = if-ok-stopped _ w s e
   idles (ifnext S p) t o s e = if-ok-stopped _ w s e
@@ -119,7 +119,7 @@ halted-stops v ok = (v, refl)
 halted-stops v failed = (v, refl)
 halted-stops v (stopped w) = (w, refl)
 
-charged : (f : ℕ) (t : State) → (w : Stop) × ((charge zero f t) .mode ≡ stopped w)
+pub charged : (f : ℕ) (t : State) → (w : Stop) × ((charge zero f t) .mode ≡ stopped w)
 charged zero t = halted-stops spent (t .mode)
 charged (suc f) t = halted-stops deep (t .mode)
 

@@ -80,7 +80,7 @@ module _ (N : ℕ) where
     trans = λ s t u p q. (tidying N .trans s t u (p .0) (q .0), λ g. q .1 (goes s t p g));
     at-turn = λ m s r. kept s (turn m s) refl (tidying N .at-turn m s r);
     at-expected = λ ns s. kept s _ refl (tidying N .at-expected ns s);
-    at-unexpected = λ s. kept s _ refl (tidying N .at-unexpected s);
+    at-unexpected = λ S s a is h. kept s _ refl (tidying N .at-unexpected S s a is h);
     at-choose = λ s. marked s (choose s) (s .drafts) refl (tidying N .at-choose s) (λ g. g .2);
     at-keep = λ r a s. kept s _ refl (tidying N .at-keep r a s);
     at-trivia = trivia-sure;

@@ -29,7 +29,7 @@ pub record Steps (Q : State → State → Type 0) : Type 0 where
   pub trans : (s t u : State) → Q s t → Q t u → Q s u
   pub at-turn : (m : Mode) (s : State) → Running (s .mode) → Q s (turn m s)
   pub at-expected : (N : List ℕ) (s : State) → Q s (expected N s)
-  pub at-unexpected : (s : State) → Q s (unexpected s)
+  pub at-unexpected : (S : List ℕ) (s : State) (a : ℕ) (is : List ℕ) → next S (s .rest) ≡ hit a is → Q s (unexpected s)
   pub at-choose : (s : State) → Q s (choose s)
   pub at-keep : (r a : ℕ) (s : State) → Q s (keep ((r, a) ∷ s .cache) s)
   pub at-trivia : (s : State) → Q s (trivia s)
@@ -82,7 +82,7 @@ module _ (Q : State → State → Type 0) (O : Steps Q) where
   refuse-row-up S s e other h = O .at-back s (trivia s) (O .at-trivia s)
   refuse-row-up S s e (hit a is) h =
       let b : State = back s (take a is (trivia s)) in
-      O .trans s (unexpected b) (turn failed (unexpected b)) (O .trans s b (unexpected b) (O .at-back s (take a is (trivia s)) (O .at-take S s a is e h)) (O .at-unexpected b)) (O .at-turn failed (unexpected b) (running (s .mode) e))
+      O .trans s (unexpected b) (turn failed (unexpected b)) (O .trans s b (unexpected b) (O .at-back s (take a is (trivia s)) (O .at-take S s a is e h)) (O .at-unexpected S b a is h)) (O .at-turn failed (unexpected b) (running (s .mode) e))
 
   branch-up : (N : List ℕ) (f : Reader) → Up f → (s : State) (x : Next) → Q s (branch N f x s)
   branch-up N f F s end = O .same s
@@ -207,7 +207,7 @@ module _ (Q : State → State → Type 0) (O : Order Q) where
       O .trans s (f t) (finish o a (length (t .rest)) (f t)) (O .trans s t (f t) (begin-up d s) (F t)) (finish-up o a (length (t .rest)) (f t))
 
   pub steps : Steps Q
-  steps = record { same = O .same; trans = O .trans; at-turn = O .at-turn; at-expected = λ N s. O .at-note _ _ s; at-unexpected = λ s. O .at-note _ _ s; at-choose = O .at-choose; at-keep = O .at-keep; at-trivia = O .at-trivia; at-take = O .at-take; at-skip = O .at-skip; at-back = O .at-back; at-node = nodes-up }
+  steps = record { same = O .same; trans = O .trans; at-turn = O .at-turn; at-expected = λ N s. O .at-note _ _ s; at-unexpected = λ S s a is h. O .at-note _ _ s; at-choose = O .at-choose; at-keep = O .at-keep; at-trivia = O .at-trivia; at-take = O .at-take; at-skip = O .at-skip; at-back = O .at-back; at-node = nodes-up }
 
   pub recovery-up : (d : ℕ) (o : Bool) (S : List ℕ) → UP (recovery d o S)
   recovery-up = recover-up Q steps

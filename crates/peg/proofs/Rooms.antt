@@ -92,10 +92,10 @@ same-exceeds e r n m = ap (λ (b : Bool). elim b as (λ _. ℕ) [ true ↦ 7 | f
 
 same-over : (L : Limits) (x : Source) (e r : ℕ) (ds : List Draft) → over e r (map (used L x) ds) ≡ over (4 * (e / 4)) r (map (used L x) ds)
 same-over L x e r [] = refl
-same-over L x e r (d ∷ ds) = ap₂ (λ (n i : ℕ). elim n as (λ _. ℕ) [ zero ↦ i | suc n ↦ suc n ]) (same-over L x e r ds) (same-exceeds e r (suc (length (d .0))) _)
+same-over L x e r (d ∷ ds) = ap₂ (λ (n i : ℕ). elim n as (λ _. ℕ) [ zero ↦ i | suc n ↦ suc n ]) (same-over L x e r ds) (same-exceeds e r _ _)
 
 pub multiple-below : (L : Limits) (x : Source) (e r : ℕ) (s : State) → over e r (moments L x s) ≡ over (4 * (e / 4)) r (moments L x s)
-multiple-below L x e r s = ap₂ (λ (n i : ℕ). elim n as (λ _. ℕ) [ zero ↦ i | suc n ↦ suc n ]) (same-over L x e r (s .drafts)) (same-exceeds e r (suc (suc (length (s .out)))) _)
+multiple-below L x e r s = ap₂ (λ (n i : ℕ). elim n as (λ _. ℕ) [ zero ↦ i | suc n ↦ suc n ]) (same-over L x e r (s .drafts)) (same-exceeds e r _ _)
 
 -- what a finished list takes
 flat-append : (a b : List Quad) → length (flat (a ++ b)) ≡ length (flat a) + length (flat b)

@@ -12,7 +12,7 @@ pub small-files : T table
 unfolding idOf utf8 grammar kind read-rule
 small-files = tt
 
--- the definition gives what the Rust gave
+-- the definition gives what a copy of the Rust gave that keeps empty ERROR nodes
 pub outside-answers : T (each cases)
 unfolding idOf utf8 grammar kind read-rule
 outside-answers = tt

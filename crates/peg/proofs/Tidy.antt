@@ -215,7 +215,7 @@ module _ (N : ℕ) where
     trans = tidy-trans;
     at-turn = λ m s r. moved s (turn m s) refl refl refl (omega arith) (λ i. nothing (s .out));
     at-expected = λ ns s i. record { within = record { rows = i .rows; wants = further-in (length (skip (s .rest))) ns (s .want) (omega (arith, skip-le (s .rest), i .rows)) (i .wants); unwants = i .unwants; chose = i .chose }; shorter = omega arith; wrote = nothing (s .out) };
-    at-unexpected = λ s i. record { within = record { rows = i .rows; wants = i .wants; unwants = furthest-in (length (skip (s .rest))) (s .unwant) (omega (arith, skip-le (s .rest), i .rows)) (i .unwants); chose = i .chose }; shorter = omega arith; wrote = nothing (s .out) };
+    at-unexpected = λ S s a is h i. record { within = record { rows = i .rows; wants = i .wants; unwants = furthest-in (length (skip (s .rest))) (s .unwant) (omega (arith, skip-le (s .rest), i .rows)) (i .unwants); chose = i .chose }; shorter = omega arith; wrote = nothing (s .out) };
     at-choose = choose-tidy;
     at-keep = λ r a s. moved s _ refl refl refl (omega arith) (λ i. nothing (s .out));
     at-trivia = trivia-tidy;

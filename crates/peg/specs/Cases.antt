@@ -1,4 +1,5 @@
--- Answers of the Rust to a dozen files, events and error records whole; tools/cases.py writes this file from its listings.
+-- Answers to a dozen files, events and error records whole, of a copy of the Rust that keeps empty ERROR nodes (decision 1). But for these nodes they are
+-- the Rust's own, which is run (compare/, `run cases`). tools/cases.py writes this file from the listings in compare/cases.
 use Prim.Native.Nat.{ℕ}
 use mathlib.Core.List.{List, [], _∷_}
 use mathlib.Core.Bool.{Bool, true, _&&_}
