@@ -1,0 +1,151 @@
+// The failures that are followed at one time.
+use crate::characters::byte;
+use crate::matcher::FROM_HEX;
+use crate::matcher::FROM_NORMAL;
+use crate::matcher::HEX;
+use crate::matcher::NORMAL;
+use crate::runner::Runner;
+use crate::runner::covered_at;
+use crate::runner::follow;
+use crate::runner::renewed;
+ghost use mathlib.Core.Path.{_≡_};
+ghost use Prim.Native.Nat.{ℕ, _≤_};
+ghost use mathlib.Core.List.{List};
+ghost use mathlib.Core.Bool.{true};
+ghost use lib.ListN.{length, drop};
+ghost use Rattle.cutter.specs.Lent.{Lent, Holds, Known, Lost};
+
+// The last string, regexp and block comment that failed in normal mode, and the last comment in hex mode: text such as `/* /* /* ..` would otherwise be
+// read to its end again from each place that begins one.
+pub struct Memo {
+    pub quote: Runner,
+    pub slash: Runner,
+    pub star: Runner,
+    pub hex: Runner,
+}
+
+// Nothing is followed.
+pub fn nothing() -> Memo
+    ensures { λ r. ⌜ ((s : List ℕ) → Holds r s) ⌝ }
+{
+    let idle = Runner { state: 0, skip: 0 };
+    Memo {
+        quote: idle,
+        slash: idle,
+        star: idle,
+        hex: idle,
+    }
+}
+
+// What a match would begin with: 1 a string, 2 a regexp, 3 a block comment.
+fn opening(s: &[u8]) -> u32 {
+    let a = byte(s, 0);
+    let b = byte(s, 1);
+    if a == 0x22 {
+        return 1;
+    }
+    if a == 0x2F {
+        if b == 0x2A {
+            return 3;
+        }
+        return 2;
+    }
+    0
+}
+
+// Both, as a fact about the first.
+fn also(a: bool, b: bool) -> bool
+    ensures { λ r. ⌜ (r ≡ true → a ≡ true) ⌝ }
+{
+    if a {
+        return b;
+    }
+    false
+}
+
+// The memo behind a row.
+pub fn remember(
+    s: &[u8],
+    memo: Memo,
+    lost: bool,
+    astray: bool,
+    len: usize,
+    classes: &[u8],
+    states: &[u8],
+    finals: &[u8],
+    ranges: &[u32],
+) -> Memo
+    requires { ⌜ (len ≤ length (now s)) × Holds memo (now s) × Known lost astray (now s) × Lent (now classes) (now states) (now finals) (now ranges) ⌝ }
+    ensures { λ r. ⌜ Holds r (drop len (now (s .entry))) ⌝ }
+{
+    let kind = opening(s);
+    let quote = memo.quote;
+    let slash = memo.slash;
+    let star = memo.star;
+    let hex = memo.hex;
+    let quote = renewed(s, quote, also(lost, kind == 1), FROM_NORMAL, NORMAL);
+    let slash = renewed(s, slash, also(lost, kind == 2), FROM_NORMAL, NORMAL);
+    let star = renewed(s, star, also(lost, kind == 3), FROM_NORMAL, NORMAL);
+    let hex = renewed(s, hex, also(astray, kind == 3), FROM_HEX, HEX);
+    let quote = follow(s, quote, len, NORMAL, classes, states, finals, ranges);
+    let slash = follow(s, slash, len, NORMAL, classes, states, finals, ranges);
+    let star = follow(s, star, len, NORMAL, classes, states, finals, ranges);
+    let hex = follow(s, hex, len, HEX, classes, states, finals, ranges);
+    Memo {
+        quote,
+        slash,
+        star,
+        hex,
+    }
+}
+
+// Whether the memo tells that normal mode matches nothing here.
+pub fn lost_at(
+    s: &[u8],
+    memo: Memo,
+    classes: &[u8],
+    states: &[u8],
+    finals: &[u8],
+    ranges: &[u32],
+) -> bool
+    requires { ⌜ Holds memo (now s) × Lent (now classes) (now states) (now finals) (now ranges) ⌝ }
+    ensures { λ r. ⌜ (r ≡ true → Lost (now (s .entry))) ⌝ }
+{
+    let quote = memo.quote;
+    let slash = memo.slash;
+    let star = memo.star;
+    if covered_at(
+        s,
+        quote,
+        FROM_NORMAL,
+        NORMAL,
+        classes,
+        states,
+        finals,
+        ranges,
+    ) {
+        return true;
+    }
+    if covered_at(
+        s,
+        slash,
+        FROM_NORMAL,
+        NORMAL,
+        classes,
+        states,
+        finals,
+        ranges,
+    ) {
+        return true;
+    }
+    covered_at(
+        s,
+        star,
+        FROM_NORMAL,
+        NORMAL,
+        classes,
+        states,
+        finals,
+        ranges,
+    )
+}
