@@ -20,7 +20,7 @@ skipped at zero p (x ∷ xs) = refl
 skipped at (suc k) p [] = refl
 skipped at (suc k) p (x ∷ xs) = skipped at k p xs
 
-taken : (at : ℕ) (p : Place) (x : ℕ) (xs : List ℕ) (r : Row) → r ≡ row p (x ∷ xs) → 0 < r .1
+pub taken : (at : ℕ) (p : Place) (x : ℕ) (xs : List ℕ) (r : Row) → r ≡ row p (x ∷ xs) → 0 < r .1
     → rows at 0 p (x ∷ xs) ≡ (r .0, at, at + r .1) ∷ rows (at + r .1) 0 (r .2) (drop (r .1) (x ∷ xs))
 taken at p x xs r e h =
     ap away (sym e)

@@ -168,8 +168,7 @@ returns c = let l = c .before .loop in
     let d : drop (l .n) rs ≡ [] = sym (l .inv .2) ∙ over (s .args .source .now) (l .at) (l .place) (c .loop-test .left) in
     let e : length (drop (l .n) rs) ≡ length rs - l .n = length-drop (l .n) rs in
     let z : length (drop (l .n) rs) ≡ 0 = ap length d in
-    let all : l .n ≡ length rs = omega (arith, l .inv .1) in
-    (
+    let all : l .n ≡ length rs = omega (arith, l .inv .1) in (
       all,
       omega (arith, all, few (s .args .source .now)),
       record {
