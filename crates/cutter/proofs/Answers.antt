@@ -7,30 +7,20 @@ use lib.Dec.{leb, ltb}
 use lib.ListN.{length}
 use native.Mathlib.Omega.{arith}
 use borrow.Author.Tests.{lt-ltb, le-ltb, ltb-true, ltb-false, leb-true, leb-false}
-use Rattle.cutter.specs.Rows.{After, Answered, cutting, put, refused, cut}
-use Rattle.cutter.specs.declared.answer.Cut.{Cut}
-use Rattle.cutter.specs.declared.answer.Cut.the-variants.{Rows, Refused}
+use Rattle.cutter.specs.Rows.{After, cutting, put, refused, cut}
 
 abbrev pub given : List ℕ → List ℕ → List ℕ → List ℕ → After
 given s ids starts ends =
     let rs = cutting s in
     record {
-      answer = Rows (length rs);
+      number = 0;
+      count = length rs;
       ids = put (map (λ r. r .0) rs) ids;
       starts = put (map (λ r. r .1) rs) starts;
       ends = put (map (λ r. r .2) rs) ends;
     }
 
 module _ (s ids starts ends : List ℕ) where
-  pub same-answer : (a : After) → a ≡ cut s ids starts ends → Answered (cut s ids starts ends) (a .answer) (a .ids) (a .starts) (a .ends)
-  same-answer a e =
-      record {
-        answered = ap (λ x. x .answer) e;
-        idList = ap (λ x. x .ids) e;
-        startList = ap (λ x. x .starts) e;
-        endList = ap (λ x. x .ends) e;
-      }
-
   pub too-long : 1048576 < length s → refused 1 ids starts ends ≡ cut s ids starts ends
   unfolding cut
   too-long h = rw (lt-ltb 1048576 (length s) h)
@@ -47,6 +37,11 @@ module _ (s ids starts ends : List ℕ) where
         → given s ids starts ends ≡ cut s ids starts ends
     unfolding cut
     answers h = rw (le-ltb 1048576 (length s) fits, h)
+
+-- rows that were written as the definition has them
+pub same-after : (n : ℕ) {ids starts ends : List ℕ} (a : After) → a .number ≡ 0 → n ≡ a .count → ids ≡ a .ids → starts ≡ a .starts → ends ≡ a .ends
+    → record { number = 0; count = n; ids = ids; starts = starts; ends = ends } ≡ a
+same-after n a z c i s e = λ j. record { number = sym z j; count = c j; ids = i j; starts = s j; ends = e j }
 
 -- the lesser of two numbers is below n just where one of them is
 pub lesser-first : (a b n : ℕ) → a ≤ b → ltb a n ≡ (ltb a n || ltb b n)

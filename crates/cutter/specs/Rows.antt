@@ -114,9 +114,10 @@ rows at zero p (b ∷ bs) =
 unfoldable pub cutting : List ℕ → List (ℕ × ℕ × ℕ)
 cutting s = rows 0 0 Elsewhere s
 
--- what a call answers, and what the three lists hold after it
+-- what a call returns (a refusal's number or 0, the count of rows), and what the three lists hold then
 pub record After : Type 0 where
-  pub answer : Cut
+  pub number : ℕ
+  pub count : ℕ
   pub ids : List ℕ
   pub starts : List ℕ
   pub ends : List ℕ
@@ -125,9 +126,11 @@ pub record After : Type 0 where
 abbrev pub put : List ℕ → List ℕ → List ℕ
 put xs lent = xs ++ drop (length xs) lent
 
+-- "rows left as lent"
 abbrev pub refused : ℕ → List ℕ → List ℕ → List ℕ → After
-refused n ids starts ends = record { answer = Refused n; ids = ids; starts = starts; ends = ends }
+refused n ids starts ends = record { number = n; count = 0; ids = ids; starts = starts; ends = ends }
 
+-- 1: source over 1,048,576 bytes; 13: "row room smaller than the rows needed, after 1"
 unfoldable pub cut : List ℕ → List ℕ → List ℕ → List ℕ → After
 cut s ids starts ends =
     let rs = cutting s in
@@ -135,15 +138,14 @@ cut s ids starts ends =
     cond (ltb 1048576 (length s)) (refused 1 ids starts ends)
     (cond (ltb (length ids) n || ltb (length starts) n || ltb (length ends) n) (refused 13 ids starts ends)
     (record {
-      answer = Rows n;
+      number = 0;
+      count = n;
       ids = put (map (λ r. r .0) rs) ids;
       starts = put (map (λ r. r .1) rs) starts;
       ends = put (map (λ r. r .2) rs) ends;
     }))
 
--- the promise of the public function: its answer and the three lists are those of the definition
-pub record Answered (a : After) (answer : Cut) (ids starts ends : List ℕ) : Type 0 where
-  pub answered : answer ≡ a .answer
-  pub idList : ids ≡ a .ids
-  pub startList : starts ≡ a .starts
-  pub endList : ends ≡ a .ends
+-- the number and the count for each case of the answer
+abbrev pub returning : Cut → List ℕ → List ℕ → List ℕ → After
+returning (Rows n) ids starts ends = record { number = 0; count = n; ids = ids; starts = starts; ends = ends }
+returning (Refused n) ids starts ends = refused n ids starts ends

@@ -6,8 +6,7 @@ use borrow.Author.Tests.{not-true, not-false}
 use Rattle.cutter.specs.Classes.{wides}
 use Rattle.cutter.specs.Table.{classTable, nextTable, endTable, keyTable}
 use Rattle.cutter.specs.Rows.{cutting}
-use Rattle.cutter.specs.declared.answer.Cut.the-variants.{Rows}
-use Rattle.cutter.proofs.Answers.{same-answer, too-long, no-room, answers, too-small, enough, each}
+use Rattle.cutter.proofs.Answers.{same-after, given, too-long, no-room, answers, too-small, enough, each}
 use borrow.Author.Needs.{needs}
 use Rattle.cutter.proofs.cut.Statement.{statement}
 use Rattle.cutter.proofs.cut.Tie as tie
@@ -18,7 +17,7 @@ use Rattle.cutter.proofs.pass.fill.Reads as fill-reads
 use Rattle.cutter.proofs.pass.fits.Reads as fits-reads
 
 returns : tie.Need-returns
-returns c = same-answer (c .before .before .before .before .before .args .source .now) (c .before .before .before .before .before .args .ids .now) (c .before .before .before .before .before .args .starts .now) (c .before .before .before .before .before .args .ends .now) _ (too-long (c .before .before .before .before .before .args .source .now) (c .before .before .before .before .before .args .ids .now) (c .before .before .before .before .before .args .starts .now) (c .before .before .before .before .before .args .ends .now) (c .if1 .taken))
+returns c = too-long (c .before .before .before .before .before .args .source .now) (c .before .before .before .before .before .args .ids .now) (c .before .before .before .before .before .args .starts .now) (c .before .before .before .before .before .args .ends .now) (c .if1 .taken)
 
 lesser-requires : tie.Need-lesser-requires
 lesser-requires c κs = search needs
@@ -46,7 +45,7 @@ unfolding classTable nextTable endTable wides keyTable
 fits-requires c κs = (record { class = refl; state = refl; end = refl; range = refl }, refl)
 
 returns-2 : tie.Need-returns-2
-returns-2 c = same-answer (c .before .before .before .before .before .before .before .before .before .before .before .before .before .before .args .source .now) (c .before .before .before .before .before .before .before .before .before .before .before .before .before .before .args .ids .now) (c .before .before .before .before .before .before .before .before .before .before .before .before .before .before .args .starts .now) (c .before .before .before .before .before .before .before .before .before .before .before .before .before .before .args .ends .now) _ (no-room (c .before .before .before .before .before .before .before .before .before .before .before .before .before .before .args .source .now) (c .before .before .before .before .before .before .before .before .before .before .before .before .before .before .args .ids .now) (c .before .before .before .before .before .before .before .before .before .before .before .before .before .before .args .starts .now) (c .before .before .before .before .before .before .before .before .before .before .before .before .before .before .args .ends .now) (c .before .before .before .before .before .before .before .before .before .if1 .left) (too-small (length (c .before .before .before .before .before .before .before .before .before .before .before .before .before .before .args .ids .now)) (length (c .before .before .before .before .before .before .before .before .before .before .before .before .before .before .args .starts .now)) (length (c .before .before .before .before .before .before .before .before .before .before .before .before .before .before .args .ends .now)) _ _ (length (cutting (c .before .before .before .before .before .before .before .before .before .before .before .before .before .before .args .source .now))) (c .before .before .before .before .before .before .before .lesser2 .ensures (length (cutting (c .before .before .before .before .before .before .before .before .before .before .before .before .before .before .args .source .now)))) (c .before .before .before .before .before .before .before .before .lesser .ensures (length (cutting (c .before .before .before .before .before .before .before .before .before .before .before .before .before .before .args .source .now)))) _ (c .before .fits2 .ensures) (not-true _ (c .if2 .taken))))
+returns-2 c = no-room (c .before .before .before .before .before .before .before .before .before .before .before .before .before .before .args .source .now) (c .before .before .before .before .before .before .before .before .before .before .before .before .before .before .args .ids .now) (c .before .before .before .before .before .before .before .before .before .before .before .before .before .before .args .starts .now) (c .before .before .before .before .before .before .before .before .before .before .before .before .before .before .args .ends .now) (c .before .before .before .before .before .before .before .before .before .if1 .left) (too-small (length (c .before .before .before .before .before .before .before .before .before .before .before .before .before .before .args .ids .now)) (length (c .before .before .before .before .before .before .before .before .before .before .before .before .before .before .args .starts .now)) (length (c .before .before .before .before .before .before .before .before .before .before .before .before .before .before .args .ends .now)) _ _ (length (cutting (c .before .before .before .before .before .before .before .before .before .before .before .before .before .before .args .source .now))) (c .before .before .before .before .before .before .before .lesser2 .ensures (length (cutting (c .before .before .before .before .before .before .before .before .before .before .before .before .before .before .args .source .now)))) (c .before .before .before .before .before .before .before .before .lesser .ensures (length (cutting (c .before .before .before .before .before .before .before .before .before .before .before .before .before .before .args .source .now)))) _ (c .before .fits2 .ensures) (not-true _ (c .if2 .taken)))
 
 slice-aggregate-fill : tie.Need-slice-aggregate-fill
 slice-aggregate-fill c = search needs
@@ -80,7 +79,7 @@ same-length-3 : tie.Need-same-length-3
 same-length-3 c = search needs
 
 returns-3 : tie.Need-returns-3
-returns-3 c = let ans = answers (c .before .before .before .before .before .before .before .before .before .before .before .before .before .before .before .before .before .before .before .before .before .before .before .before .before .before .before .before .before .args .source .now) (c .before .before .before .before .before .before .before .before .before .before .before .before .before .before .before .before .before .before .before .before .before .before .before .before .before .before .before .before .before .args .ids .now) (c .before .before .before .before .before .before .before .before .before .before .before .before .before .before .before .before .before .before .before .before .before .before .before .before .before .before .before .before .before .args .starts .now) (c .before .before .before .before .before .before .before .before .before .before .before .before .before .before .before .before .before .before .before .before .before .before .before .before .before .before .before .before .before .args .ends .now) (c .before .before .before .before .before .before .before .before .before .before .before .before .before .before .before .before .before .before .before .before .before .before .before .before .if1 .left) (enough (length (c .before .before .before .before .before .before .before .before .before .before .before .before .before .before .before .before .before .before .before .before .before .before .before .before .before .before .before .before .before .args .ids .now)) (length (c .before .before .before .before .before .before .before .before .before .before .before .before .before .before .before .before .before .before .before .before .before .before .before .before .before .before .before .before .before .args .starts .now)) (length (c .before .before .before .before .before .before .before .before .before .before .before .before .before .before .before .before .before .before .before .before .before .before .before .before .before .before .before .before .before .args .ends .now)) _ _ (length (cutting (c .before .before .before .before .before .before .before .before .before .before .before .before .before .before .before .before .before .before .before .before .before .before .before .before .before .before .before .before .before .args .source .now))) (c .before .before .before .before .before .before .before .before .before .before .before .before .before .before .before .before .before .before .before .before .before .before .lesser2 .ensures (length (cutting (c .before .before .before .before .before .before .before .before .before .before .before .before .before .before .before .before .before .before .before .before .before .before .before .before .before .before .before .before .before .args .source .now)))) (c .before .before .before .before .before .before .before .before .before .before .before .before .before .before .before .before .before .before .before .before .before .before .before .lesser .ensures (length (cutting (c .before .before .before .before .before .before .before .before .before .before .before .before .before .before .before .before .before .before .before .before .before .before .before .before .before .before .before .before .before .args .source .now)))) _ (c .before .before .before .before .before .before .before .before .before .before .before .before .before .before .before .before .fits2 .ensures) (not-false _ (c .before .before .before .before .before .before .before .before .before .before .before .before .before .before .before .if2 .left))) in let f = c .before .before .before .before .before .before .fill .ensures .2 in record { answered = ap Rows (c .before .before .before .before .before .before .fill .ensures .0) ∙ ap (λ x. x .answer) ans; idList = f .first ∙ ap (λ x. x .ids) ans; startList = f .second ∙ ap (λ x. x .starts) ans; endList = f .third ∙ ap (λ x. x .ends) ans }
+returns-3 c = let f = c .before .before .before .before .before .before .fill .ensures .2 in same-after _ (given (c .before .before .before .before .before .before .before .before .before .before .before .before .before .before .before .before .before .before .before .before .before .before .before .before .before .before .before .before .before .args .source .now) (c .before .before .before .before .before .before .before .before .before .before .before .before .before .before .before .before .before .before .before .before .before .before .before .before .before .before .before .before .before .args .ids .now) (c .before .before .before .before .before .before .before .before .before .before .before .before .before .before .before .before .before .before .before .before .before .before .before .before .before .before .before .before .before .args .starts .now) (c .before .before .before .before .before .before .before .before .before .before .before .before .before .before .before .before .before .before .before .before .before .before .before .before .before .before .before .before .before .args .ends .now)) refl (c .before .before .before .before .before .before .fill .ensures .0) (f .first) (f .second) (f .third) ∙ answers (c .before .before .before .before .before .before .before .before .before .before .before .before .before .before .before .before .before .before .before .before .before .before .before .before .before .before .before .before .before .args .source .now) (c .before .before .before .before .before .before .before .before .before .before .before .before .before .before .before .before .before .before .before .before .before .before .before .before .before .before .before .before .before .args .ids .now) (c .before .before .before .before .before .before .before .before .before .before .before .before .before .before .before .before .before .before .before .before .before .before .before .before .before .before .before .before .before .args .starts .now) (c .before .before .before .before .before .before .before .before .before .before .before .before .before .before .before .before .before .before .before .before .before .before .before .before .before .before .before .before .before .args .ends .now) (c .before .before .before .before .before .before .before .before .before .before .before .before .before .before .before .before .before .before .before .before .before .before .before .before .if1 .left) (enough (length (c .before .before .before .before .before .before .before .before .before .before .before .before .before .before .before .before .before .before .before .before .before .before .before .before .before .before .before .before .before .args .ids .now)) (length (c .before .before .before .before .before .before .before .before .before .before .before .before .before .before .before .before .before .before .before .before .before .before .before .before .before .before .before .before .before .args .starts .now)) (length (c .before .before .before .before .before .before .before .before .before .before .before .before .before .before .before .before .before .before .before .before .before .before .before .before .before .before .before .before .before .args .ends .now)) _ _ (length (cutting (c .before .before .before .before .before .before .before .before .before .before .before .before .before .before .before .before .before .before .before .before .before .before .before .before .before .before .before .before .before .args .source .now))) (c .before .before .before .before .before .before .before .before .before .before .before .before .before .before .before .before .before .before .before .before .before .before .lesser2 .ensures (length (cutting (c .before .before .before .before .before .before .before .before .before .before .before .before .before .before .before .before .before .before .before .before .before .before .before .before .before .before .before .before .before .args .source .now)))) (c .before .before .before .before .before .before .before .before .before .before .before .before .before .before .before .before .before .before .before .before .before .before .before .lesser .ensures (length (cutting (c .before .before .before .before .before .before .before .before .before .before .before .before .before .before .before .before .before .before .before .before .before .before .before .before .before .before .before .before .before .args .source .now)))) _ (c .before .before .before .before .before .before .before .before .before .before .before .before .before .before .before .before .fits2 .ensures) (not-false _ (c .before .before .before .before .before .before .before .before .before .before .before .before .before .before .before .if2 .left)))
 
 pub cut-spec : {M : Type 1} → statement M
 cut-spec =
