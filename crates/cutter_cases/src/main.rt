@@ -2,6 +2,7 @@
 // text, with id, start and end of each row; then, for each mode, the id of the row that each of the 256 bytes is when it stands there alone.
 use cutter::Cut;
 use libc::STDOUT_FILENO;
+ghost use Prim.Native.Nat.{_≤_};
 
 // What the cells hold that are lent: no id.
 const LENT: u32 = 777;
@@ -15,6 +16,20 @@ fn write_number(n: u32) {
     io::print_decimal(STDOUT_FILENO, n as u64);
 }
 
+fn write_rows(ids: &[u32; 32], starts: &[u32; 32], ends: &[u32; 32], count: u32) {
+    let mut i: usize = 0;
+    while i < 32 {
+        if i == count as usize {
+            return;
+        }
+        write_number(ids[i]);
+        write_number(starts[i]);
+        write_number(ends[i]);
+        write(b",");
+        i += 1;
+    }
+}
+
 fn write_answer(done: Cut, ids: &[u32; 32], starts: &[u32; 32], ends: &[u32; 32]) {
     match done {
         Cut::Refused(number) => {
@@ -22,17 +37,7 @@ fn write_answer(done: Cut, ids: &[u32; 32], starts: &[u32; 32], ends: &[u32; 32]
             write_number(number);
             write_number(ids[0]);
         }
-        Cut::Rows(count) => {
-            for i in 0..32 {
-                if i as u32 == count {
-                    break;
-                }
-                write_number(ids[i]);
-                write_number(starts[i]);
-                write_number(ends[i]);
-                write(b",");
-            }
-        }
+        Cut::Rows(count) => write_rows(ids, starts, ends, count),
     }
     write(b"\n");
 }
@@ -52,20 +57,13 @@ fn show(text: &[u8]) {
 }
 
 // The three rows of `a b` into rooms of so many cells.
-fn tell_room(first: usize, second: usize, third: usize) {
+fn tell_room(first: usize, second: usize, third: usize)
+    requires { ⌜ (first ≤ 32) × (second ≤ 32) × (third ≤ 32) ⌝ }
+{
     let mut ids = [LENT; 32];
     let mut starts = [LENT; 32];
     let mut ends = [LENT; 32];
     write(b"room");
-    if 32 < first {
-        return;
-    }
-    if 32 < second {
-        return;
-    }
-    if 32 < third {
-        return;
-    }
     write_number(first as u32);
     write_number(second as u32);
     write_number(third as u32);
@@ -107,20 +105,30 @@ fn lone(source: &[u8], rows: usize) {
     }
 }
 
+fn lone_byte(b: u8, mode: u32) {
+    if mode == 0 {
+        lone(&[b], 1);
+        return;
+    }
+    if mode == 1 {
+        lone(&[b'$', b'a', b'=', b'{', b], 4);
+        return;
+    }
+    lone(&[b'$', b'a', b'=', b'{', b'[', b], 5);
+}
+
+fn line_end(place: usize) {
+    if place % 16 == 15 {
+        write(b"\n");
+    }
+}
+
 fn lone_bytes(mode: u32) {
-    for b in 0..=255u8 {
-        if mode == 0 {
-            lone(&[b], 1);
-        }
-        if mode == 1 {
-            lone(&[b'$', b'a', b'=', b'{', b], 4);
-        }
-        if mode == 2 {
-            lone(&[b'$', b'a', b'=', b'{', b'[', b], 5);
-        }
-        if b % 16 == 15 {
-            write(b"\n");
-        }
+    let mut i: usize = 0;
+    while i < 256 {
+        lone_byte(i as u8, mode);
+        line_end(i);
+        i += 1;
     }
 }
 

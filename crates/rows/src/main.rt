@@ -37,11 +37,13 @@ fn write_row(id: u32, start: u32, end: u32) {
 }
 
 fn write_rows(ids: &[u32; 65536], starts: &[u32; 65536], ends: &[u32; 65536], count: u32) {
-    for i in 0..65536 {
-        if i as u32 == count {
+    let mut i: usize = 0;
+    while i < 65536 {
+        if i == count as usize {
             return;
         }
         write_row(ids[i], starts[i], ends[i]);
+        i += 1;
     }
 }
 
