@@ -77,10 +77,19 @@ fn tell_room(first: usize, second: usize, third: usize)
     write_answer(done, &ids, &starts, &ends);
 }
 
-fn tell_long() {
-    let source = [b' '; 1048577];
-    tell(b"1048576 spaces", &source[..1048576]);
-    tell(b"1048577 spaces", &source);
+fn tell_most(source: &[u8; 1048576]) {
+    tell(b"1048576 spaces", source);
+}
+
+fn tell_more(source: &[u8; 1048577]) {
+    tell(b"1048577 spaces", source);
+}
+
+fn long() {
+    let most = [b' '; 1048576];
+    tell_most(&most);
+    let more = [b' '; 1048577];
+    tell_more(&more);
 }
 
 // The id of the last of so many rows, where that is all there are.
@@ -200,7 +209,7 @@ fn modes() {
 
 fn main() {
     show(b"");
-    tell_long();
+    long();
     tell_room(3, 3, 3);
     tell_room(2, 3, 3);
     tell_room(3, 2, 3);
