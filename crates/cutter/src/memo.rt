@@ -99,6 +99,48 @@ pub fn remember(
     }
 }
 
+// Whether nothing is followed, as in most text.
+pub fn is_idle(memo: Memo) -> bool {
+    let quote = memo.quote;
+    let slash = memo.slash;
+    let star = memo.star;
+    let hex = memo.hex;
+    if quote.state != 0 {
+        return false;
+    }
+    if slash.state != 0 {
+        return false;
+    }
+    if star.state != 0 {
+        return false;
+    }
+    hex.state == 0
+}
+
+// The memo behind a row before which nothing was followed.
+pub fn begun(
+    s: &[u8],
+    lost: bool,
+    astray: bool,
+    len: usize,
+    classes: &[u8],
+    states: &[u8],
+    finals: &[u8],
+    ranges: &[u32],
+) -> Memo
+    requires { ⌜ (len ≤ length (now s)) × Known lost astray (now s) × Lent (now classes) (now states) (now finals) (now ranges) ⌝ }
+    ensures { λ r. ⌜ Holds r (drop len (now (s .entry))) ⌝ }
+{
+    let idle = nothing();
+    if lost {
+        return remember(s, idle, lost, astray, len, classes, states, finals, ranges);
+    }
+    if astray {
+        return remember(s, idle, lost, astray, len, classes, states, finals, ranges);
+    }
+    idle
+}
+
 // Whether the memo tells that normal mode matches nothing here.
 pub fn lost_at(
     s: &[u8],
