@@ -281,7 +281,12 @@ CLASS_TABLE = [class_in(rows, b) for _, rows in MODES for b in range(256)]
 NEXT = [nxt[s, c] for s in range(S) for c in range(COLUMNS)]
 WIDES = [x for lo, hi, c in WIDE for x in (lo, hi, C[c])]
 STRIDE = 12
-KEYS = [x for w in KEYWORDS for x in ([len(w)] + [ord(c) for c in w] + [0] * (STRIDE - 1 - len(w)))]
+SLOTS = [0] * 128
+for j, w in enumerate(KEYWORDS):
+    at = (ord(w[0]) + ord(w[-1]) * 38 + len(w) * 29) % 128
+    assert SLOTS[at] == 0, "two keywords in one slot"
+    SLOTS[at] = j
+KEYS = [x for w in KEYWORDS for x in ([len(w)] + [ord(c) for c in w] + [0] * (STRIDE - 1 - len(w)))] + SLOTS
 
 def printed(name, xs, per):
     """A table of bytes as a byte string, so many to a line: the formatter lays an array out one entry to a line."""
@@ -296,7 +301,7 @@ def table_rt():
     out += "// Where a state goes by a class: %d entries for each of %d states. State 0 matches nothing any more.\npub " % (COLUMNS, S) + printed("NEXT", NEXT, COLUMNS) + "\n"
     out += "// The id of a row that may end in a state, or 255.\npub " + printed("FINALS", ACCEPT, 22) + "\n"
     out += "// Least, greatest and class of ranges of characters past ASCII.\npub " + numbers("WIDES", "u32", WIDES) + "\n"
-    out += "// The keywords: %d bytes for each, its length and its letters.\npub " % STRIDE + printed("KEYS", KEYS, STRIDE) + "\n"
+    out += "// The keywords: %d bytes for each, its length and its letters. Behind them 128 slots: which keyword a text can be, by its first and last letter and\n// its length.\npub " % STRIDE + printed("KEYS", KEYS, STRIDE) + "\n"
     out += "// Pairs of states, %d times the first and the second: a failed match in the first state covers a fresh one in the second.\npub " % S + numbers("PAIRS", "u32", PAIRS)
     return out
 

@@ -1,5 +1,5 @@
 -- What the code's numbers and tables stand for. Only contracts of private functions cite this file.
-use Prim.Native.Nat.{ℕ, zero, suc, _+_, _*_, _≤_, _<_}
+use Prim.Native.Nat.{ℕ, zero, suc, _+_, _-_, _*_, _%_, _≤_, _<_}
 use mathlib.Core.Path.{_≡_}
 use mathlib.Core.List.{List, [], _∷_, map}
 use mathlib.Core.Bool.{Bool, true, false, cond, _||_}
@@ -85,6 +85,10 @@ pub record Lent (classes states ends ranges : List ℕ) : Type 0 where
   pub state : states ≡ nextTable
   pub end : ends ≡ endTable
   pub range : ranges ≡ wides
+
+-- the one keyword that a text can be, by its first and last letter and its length
+abbrev pub slotOf : List ℕ → ℕ
+slotOf text = getD keyTable (480 + (getD text 0 0 + getD text (length text - 1) 0 * 38 + length text % 128 * 29) % 128) 0
 
 -- each list has room for the rows
 pub record Room (source ids starts ends : List ℕ) : Type 0 where

@@ -1,61 +1,37 @@
--- `id_of` meets its contract: the keywords from j on decide.
-use Prim.Native.Nat.{ℕ, _+_, _-_, _*_, _%_, _≤_, _<_}
-use mathlib.Core.Path.{_≡_, refl, sym, ap, ap₂, _∙_}
-use mathlib.Core.Bool.{true, false, cond, _&&_}
+-- `id_of` meets its contract.
+use mathlib.Core.Path.{_≡_, refl, sym, ap, subst, _∙_}
+use Prim.Native.Nat.{_+_, _<_}
+use mathlib.Core.List.{[]}
 use native.Mathlib.Omega.{arith}
+use lib.ListN.{getD}
+use Rattle.cutter.specs.Rows.{same, keywords}
+use Rattle.cutter.proofs.Keys.{is-key, no-key}
 use borrow.Author.Needs.{needs}
-use mathlib.Core.List.{List, []}
-use lib.ListN.{length, getD, drop}
-use Rattle.cutter.specs.Rows.{sought, keywords, keyword}
-use Rattle.cutter.proofs.Keys.{sought-none, found-key, passed-key, no-key}
 use Rattle.cutter.proofs.keyword.id_of.Statement.{statement}
 use Rattle.cutter.proofs.keyword.id_of.Tie as tie
+use Rattle.cutter.proofs.keyword.id_of.Reads as reads
+use Rattle.cutter.proofs.keyword.id_of.Lts as lts
+use Rattle.cutter.proofs.keyword.slot_of.Reads as slot-of-reads
+use Rattle.cutter.proofs.keyword.spells.Reads as spells-reads
 
-abbrev Inv-loop : tie.InvT-loop
-Inv-loop text keys j₀ j = (j ≤ 40) × (sought (5 + j) (drop j keywords) text ≡ keyword text)
+slot-of-requires : tie.Need-slot-of-requires
+slot-of-requires c κs = search needs
 
-abbrev μ-loop : tie.MeasureT-loop
-μ-loop text keys j₀ j = 40 - j
+spells-requires : tie.Need-spells-requires
+spells-requires c κs = search needs
 
-loop-holds : tie.Need-loop-holds Inv-loop μ-loop
-loop-holds c = (omega arith, sought-none _)
+cast-result : tie.Need-cast-result
+cast-result c = search needs
 
-cast-spells : tie.Need-cast-spells Inv-loop μ-loop
-cast-spells c = omega arith
+add-result : tie.Need-add-result
+add-result c = search needs
 
-spells-requires : tie.Need-spells-requires Inv-loop μ-loop
-spells-requires c κs = (c .loop-test .taken, c .before .before .before .before .pre)
+returns : tie.Need-returns
+returns c = ap (λ n. 5 + n) (c .before .before .slot-of .ensures .0) ∙ is-key (c .before .before .before .before .before .args .text .now) (subst (λ n. n < 40) (c .before .before .slot-of .ensures .0) (c .before .before .slot-of .ensures .1)) (sym (ap (λ n. same (getD keywords n []) (c .before .before .before .before .before .args .text .now)) (c .before .before .slot-of .ensures .0)) ∙ sym (c .before .spells .ensures) ∙ c .if1 .taken)
 
-add-result : tie.Need-add-result Inv-loop μ-loop
-add-result c = omega arith
-
-returns : tie.Need-returns Inv-loop μ-loop
-returns c = found-key _ _ _ (c .before .before .loop-test .taken) (c .before .before .before .loop .inv .1) (c .before .spells .ensures) (c .if1 .taken)
-
-add-j : tie.Need-add-j Inv-loop μ-loop
-add-j c = omega arith
-
-loop-less : tie.Need-loop-less Inv-loop μ-loop
-loop-less c = omega arith
-
-loop-again : tie.Need-loop-again Inv-loop μ-loop
-loop-again c = (omega arith, passed-key _ _ _ (c .before .before .loop-test .taken) (c .before .before .before .loop .inv .1) (c .before .spells .ensures) (c .if1 .left))
-
-returns-2 : tie.Need-returns-2 Inv-loop μ-loop
-returns-2 c = no-key _ _ (c .loop-test .left) (c .before .loop .inv .1)
+returns-2 : tie.Need-returns-2
+returns-2 c = no-key (c .before .before .before .before .before .args .text .now) (subst (λ n. n < 40) (c .before .before .slot-of .ensures .0) (c .before .before .slot-of .ensures .1)) (sym (ap (λ n. same (getD keywords n []) (c .before .before .before .before .before .args .text .now)) (c .before .before .slot-of .ensures .0)) ∙ sym (c .before .spells .ensures) ∙ c .if1 .left)
 
 pub id-of-spec : {M : Type 1} → statement M
 id-of-spec =
-    tie.close
-    (tie.spec
-    Inv-loop
-    μ-loop
-    loop-holds
-    cast-spells
-    spells-requires
-    add-result
-    returns
-    add-j
-    loop-less
-    loop-again
-    returns-2)
+    tie.close (tie.spec slot-of-requires spells-requires cast-result add-result returns returns-2)

@@ -18,7 +18,7 @@ Inv-loop text j keys base n i₀ i = (i ≤ n) × (same (drop i (getD keywords j
 abbrev μ-loop : tie.MeasureT-loop
 μ-loop text j keys base n i₀ i = n - i
 
-count : (c : tie.Start Inv-loop μ-loop) → length (c .args .keys .now) ≡ 480
+count : (c : tie.Start Inv-loop μ-loop) → length (c .args .keys .now) ≡ 608
 count c = ap length (c .pre .1) ∙ key-count
 
 abbrev word : tie.Start Inv-loop μ-loop → List ℕ

@@ -1,5 +1,6 @@
 -- `normal_row` meets its contract.
-use mathlib.Core.Path.{_≡_, sym, ap, ap₂, _∙_}
+use Prim.Native.Nat.{_<_}
+use mathlib.Core.Path.{_≡_, sym, ap, ap₂, subst, _∙_}
 use native.Mathlib.Omega.{arith}
 use lib.Seq.{length-take-le}
 use Rattle.cutter.specs.Expr.{longest}
@@ -36,7 +37,7 @@ slice-aggregate-id-of : tie.Need-slice-aggregate-id-of
 slice-aggregate-id-of c = sym (length-take-le _ (c .before .before .before .before .before .before .before .before .before .before .before .before .args .s .now) (in-bytes (c .before .before .before .before .before .before .before .before .before .before .before .before .args .s .now) _ _ (c .before .before .before .before .before .tried .ensures .1) (c .before .before .before .id .given .1) .1))
 
 id-of-requires : tie.Need-id-of-requires
-id-of-requires c κs = search needs
+id-of-requires c κs = (subst (λ n. 0 < n) (sym (length-take-le _ (c .before .before .before .before .before .before .before .before .before .before .before .before .args .s .now) (in-bytes (c .before .before .before .before .before .before .before .before .before .before .before .before .args .s .now) _ _ (c .before .before .before .before .before .tried .ensures .1) (c .before .before .before .id .given .1) .1))) (in-bytes (c .before .before .before .before .before .before .before .before .before .before .before .before .args .s .now) _ _ (c .before .before .before .before .before .tried .ensures .1) (c .before .before .before .id .given .1) .0), c .before .before .before .before .before .before .before .before .before .before .before .before .pre .2)
 
 onward-requires : tie.Need-onward-requires
 onward-requires c κs = search needs
