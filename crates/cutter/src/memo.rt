@@ -63,8 +63,8 @@ fn also(a: bool, b: bool) -> bool
     false
 }
 
-// The memo behind a row.
-pub fn remember(
+// The memo behind a row: what failed there is followed from its start, and all that is followed goes over the row's bytes.
+fn remember(
     s: &[u8],
     memo: Memo,
     lost: bool,
@@ -100,7 +100,7 @@ pub fn remember(
 }
 
 // Whether nothing is followed, as in most text.
-pub fn is_idle(memo: Memo) -> bool {
+fn is_idle(memo: Memo) -> bool {
     let quote = memo.quote;
     let slash = memo.slash;
     let star = memo.star;
@@ -118,7 +118,7 @@ pub fn is_idle(memo: Memo) -> bool {
 }
 
 // The memo behind a row before which nothing was followed.
-pub fn begun(
+fn begun(
     s: &[u8],
     lost: bool,
     astray: bool,
@@ -142,7 +142,7 @@ pub fn begun(
 }
 
 // Whether the memo tells that normal mode matches nothing here.
-pub fn lost_at(
+fn lost_at(
     s: &[u8],
     memo: Memo,
     classes: &[u8],
@@ -190,4 +190,55 @@ pub fn lost_at(
         finals,
         ranges,
     )
+}
+
+// What the memo tells of a place: whether normal mode matches nothing there, and whether hex mode does.
+pub struct Seen {
+    pub lost: bool,
+    pub astray: bool,
+}
+
+pub fn looked(
+    s: &[u8],
+    memo: Memo,
+    classes: &[u8],
+    states: &[u8],
+    finals: &[u8],
+    ranges: &[u32],
+) -> Seen
+    requires { ⌜ Holds memo (now s) × Lent (now classes) (now states) (now finals) (now ranges) ⌝ }
+    ensures { λ r. ⌜ Known (r .lost) (r .astray) (now (s .entry)) ⌝ }
+{
+    if is_idle(memo) {
+        return Seen {
+            lost: false,
+            astray: false,
+        };
+    }
+    let hex = memo.hex;
+    Seen {
+        lost: lost_at(s, memo, classes, states, finals, ranges),
+        astray: covered_at(s, hex, FROM_HEX, HEX, classes, states, finals, ranges),
+    }
+}
+
+// The memo behind a row. Where nothing is followed and the row was matched, as most are, there is nothing to do.
+pub fn kept(
+    s: &[u8],
+    memo: Memo,
+    lost: bool,
+    astray: bool,
+    len: usize,
+    classes: &[u8],
+    states: &[u8],
+    finals: &[u8],
+    ranges: &[u32],
+) -> Memo
+    requires { ⌜ (len ≤ length (now s)) × Holds memo (now s) × Known lost astray (now s) × Lent (now classes) (now states) (now finals) (now ranges) ⌝ }
+    ensures { λ r. ⌜ Holds r (drop len (now (s .entry))) ⌝ }
+{
+    if is_idle(memo) {
+        return begun(s, lost, astray, len, classes, states, finals, ranges);
+    }
+    remember(s, memo, lost, astray, len, classes, states, finals, ranges)
 }
