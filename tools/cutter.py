@@ -298,7 +298,7 @@ def printed(name, xs, per):
 def table_rt():
     out = "// The cutter's tables. Written by tools/cutter.py; that they follow the definition is proved.\n\n"
     out += "// A byte's class: 256 entries for each mode.\npub " + printed("CLASSES", CLASS_TABLE, 32) + "\n"
-    out += "// Where a state goes by a class: %d entries for each of %d states. State 0 matches nothing any more.\npub " % (COLUMNS, S) + printed("NEXT", NEXT, COLUMNS) + "\n"
+    out += "// Where a state goes by a class: %d entries for each of %d states. State 0 matches nothing any more.\npub " % (COLUMNS, S) + printed("NEXT", NEXT, COLUMNS // 3) + "\n"
     out += "// The id of a row that may end in a state, or 255.\npub " + printed("FINALS", ACCEPT, 22) + "\n"
     out += "// Least, greatest and class of ranges of characters past ASCII.\npub " + numbers("WIDES", "u32", WIDES) + "\n"
     out += "// The keywords: %d bytes for each, its length and its letters. Behind them 128 slots: which keyword a text can be, by its first and last letter and\n// its length.\npub " % STRIDE + printed("KEYS", KEYS, STRIDE) + "\n"

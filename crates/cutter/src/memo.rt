@@ -24,6 +24,12 @@ pub struct Memo {
     pub hex: Runner,
 }
 
+// What the memo tells of a place: whether normal mode matches nothing there, and whether hex mode does.
+pub struct Seen {
+    pub lost: bool,
+    pub astray: bool,
+}
+
 // Nothing is followed.
 pub fn nothing() -> Memo
     ensures { λ r. ⌜ ((s : List ℕ) → Holds r s) ⌝ }
@@ -192,12 +198,7 @@ fn lost_at(
     )
 }
 
-// What the memo tells of a place: whether normal mode matches nothing there, and whether hex mode does.
-pub struct Seen {
-    pub lost: bool,
-    pub astray: bool,
-}
-
+// A fresh match is not tried where one that is followed covers it.
 pub fn looked(
     s: &[u8],
     memo: Memo,
