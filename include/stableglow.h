@@ -9,6 +9,15 @@
 extern "C" {
 #endif
 
+/* Cuts rule text into rows of tokens: the n-th row's id, start and end go to the n-th cell of each list. Rows tile the source.
+   Returns 0 and writes the count of rows to *count; cells behind the last row stay as they were lent. Or returns 1 (the source has
+   over 1,048,576 bytes) or 13 (a list is shorter than the rows needed), with 0 in *count and the lists as they were lent.
+   There is at most one row a byte: lists as long as the source always have the room, and are filled in one pass.
+   Rows that were cut are never refused 2, 3 or 4 by stableglow_read, nor 1 while there are at most 65,536.
+   The lists must not overlap. */
+uint32_t stableglow_cut(const uint8_t *source, size_t source_len, uint32_t *ids, size_t ids_len, uint32_t *starts,
+                        size_t starts_len, uint32_t *ends, size_t ends_len, uint32_t *count);
+
 /* Reads rows of tokens (ids, starts and ends, as long as each other) over their source into events and error records.
    Returns 0 and writes outcome (0 done, 1 out of fuel, 2 too deep), rows covered, count of events, count of error records
    and fuel left to answer[0..4], the events (four numbers each) and the error records from the first cell of their lists on,

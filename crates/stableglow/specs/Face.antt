@@ -3,6 +3,7 @@ use Prim.Native.Nat.{ℕ, _%_, _^_}
 use mathlib.Core.List.{List, [], _∷_}
 use Rattle.peg.specs.Answer.{After}
 use Rattle.peg.specs.Merge.{Returned}
+use Rattle.cutter.specs.Rows as c
 
 -- the refusal's number, the count's cell and the room; the cell has 32 bits, and a list whose count needs more takes 64 GiB
 pub record Face : Type 0 where
@@ -36,3 +37,17 @@ readFace a =
 
 abbrev pub readFaced : ℕ → List ℕ → List ℕ → List ℕ → List ℕ → ReadFace
 readFaced number answer events errors scratch = record { number = number; answer = answer; events = events; errors = errors; scratch = scratch }
+
+-- the refusal's number, the count's cell and the three lists of rows
+pub record CutFace : Type 0 where
+  pub number : ℕ
+  pub count : List ℕ
+  pub ids : List ℕ
+  pub starts : List ℕ
+  pub ends : List ℕ
+
+abbrev pub cutFace : c.After → CutFace
+cutFace a = record { number = a .number; count = a .count ∷ []; ids = a .ids; starts = a .starts; ends = a .ends }
+
+abbrev pub cutFaced : ℕ → List ℕ → List ℕ → List ℕ → List ℕ → CutFace
+cutFaced number count ids starts ends = record { number = number; count = count; ids = ids; starts = starts; ends = ends }

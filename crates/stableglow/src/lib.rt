@@ -1,4 +1,5 @@
 // The public face: what C and Rust link.
+use cutter::Cut;
 use desk::read::Reading;
 use merger::Merged;
 ghost use mathlib.Core.Path.{_≡_};
@@ -6,7 +7,32 @@ ghost use Rattle.peg.specs.Answer.{after};
 ghost use Rattle.peg.specs.Merge.{merging};
 ghost use Rattle.reader.specs.Judge.{desk};
 ghost use Rattle.reader.specs.Means.{limits};
-ghost use Rattle.stableglow.specs.Face.{face, faced, readFace, readFaced};
+ghost use Rattle.cutter.specs.Rows.{cut};
+ghost use Rattle.stableglow.specs.Face.{face, faced, readFace, readFaced, cutFace, cutFaced};
+
+// Cuts rule text into rows. Returns the refusal's number, 0 for an answer; the count of rows stands in `count`.
+#[no_mangle]
+pub extern "C" fn stableglow_cut(
+    source: &[u8],
+    ids: &mut [u32],
+    starts: &mut [u32],
+    ends: &mut [u32],
+    count: &mut [u32; 1],
+) -> u32
+    ensures { λ r. ⌜ cutFaced r (now (count .exit)) (now (ids .exit)) (now (starts .exit)) (now (ends .exit)) ≡ cutFace (cut (now (source .entry)) (now (ids .entry)) (now (starts .entry)) (now (ends .entry))) ⌝ }
+{
+    let done = cutter::cut(source, ids, starts, ends);
+    match done {
+        Cut::Refused(number) => {
+            *count = [0];
+            number
+        }
+        Cut::Rows(n) => {
+            *count = [n];
+            0
+        }
+    }
+}
 
 // Reads rows into events and error records. Returns the refusal's number, 0 for an answer; `answer` holds outcome, rows covered, counts of events and of
 // error records, fuel left.

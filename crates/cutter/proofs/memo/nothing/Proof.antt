@@ -1,0 +1,15 @@
+-- `nothing` meets its contract: state 0 ends no row.
+use Prim.Native.Nat.{ℕ, _+_, _-_, _*_, _≤_, _<_}
+use mathlib.Core.Path.{_≡_, refl, sym, ap, ap₂, subst, _∙_}
+use native.Mathlib.Omega.{arith}
+use borrow.Author.Needs.{needs}
+use mathlib.Core.List.{List, []}
+use Rattle.cutter.proofs.Runs.{hop-zero}
+use Rattle.cutter.proofs.memo.nothing.Statement.{statement}
+use Rattle.cutter.proofs.memo.nothing.Tie as tie
+
+returns : tie.Need-returns
+returns c = λ s. record { quote = record { small = omega arith; within = omega arith; hop = hop-zero 0 0 s }; slash = record { small = omega arith; within = omega arith; hop = hop-zero 0 0 s }; star = record { small = omega arith; within = omega arith; hop = hop-zero 0 0 s }; hex = record { small = omega arith; within = omega arith; hop = hop-zero 1 0 s } }
+
+pub nothing-spec : {M : Type 1} → statement M
+nothing-spec = tie.close (tie.spec returns)

@@ -1,0 +1,59 @@
+// Which mode cuts next.
+use crate::matcher::HEX;
+use crate::matcher::JUMP;
+use crate::matcher::NORMAL;
+use kinds::kind;
+ghost use mathlib.Core.Path.{_≡_};
+ghost use Rattle.cutter.specs.Rows.{next};
+ghost use Rattle.cutter.specs.Lent.{modeAt};
+
+// Where the cutting stands: how much of a pattern identifier, an equals sign and an opening brace was just seen, or in which mode it is.
+pub enum Place {
+    Elsewhere,
+    Named,
+    Equated,
+    InHex,
+    InJump,
+}
+
+// Where a row of normal mode leaves the cutting.
+pub fn onward(place: Place, id: u32) -> Place
+    ensures { λ r. ⌜ r ≡ next place id ⌝ }
+{
+    if id == kind::PATTERN_IDENT {
+        return Place::Named;
+    }
+    if kinds::is_trivia(id) {
+        return place;
+    }
+    match place {
+        Place::Named => {
+            if id == kind::EQUAL {
+                return Place::Equated;
+            }
+            Place::Elsewhere
+        }
+        Place::Equated => {
+            if id == kind::L_BRACE {
+                return Place::InHex;
+            }
+            Place::Elsewhere
+        }
+        Place::Elsewhere => Place::Elsewhere,
+        Place::InHex => Place::Elsewhere,
+        Place::InJump => Place::Elsewhere,
+    }
+}
+
+// The mode that cuts at a place.
+pub fn mode_of(place: Place) -> usize
+    ensures { λ r. ⌜ r ≡ modeAt place ⌝ }
+{
+    match place {
+        Place::InHex => HEX,
+        Place::InJump => JUMP,
+        Place::Elsewhere => NORMAL,
+        Place::Named => NORMAL,
+        Place::Equated => NORMAL,
+    }
+}
