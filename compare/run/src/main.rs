@@ -1,6 +1,7 @@
 //! Puts the sides beside each other: see README.md.
 
 mod cases;
+mod cut;
 mod differences;
 mod judge;
 mod minimise;
@@ -18,7 +19,7 @@ use std::{env, panic, process, thread};
 use tally::{report, Tally};
 
 const USAGE: &str = "run cases FOLDER | run compare COUNT [SEED [SORT]] | run merge COUNT [SEED] | \
-    run differences | run show SORT SEED NUMBER | run vectors COUNT SEED [FOLDER]";
+    run cut COUNT SEED [SORT] | run differences | run show SORT SEED NUMBER | run vectors COUNT SEED [FOLDER]";
 
 fn main() {
     // The Rust goes down one call per node.
@@ -40,6 +41,8 @@ fn work() -> Result<(), String> {
         ["compare", count, seed, sort] => compare(number(count)?, number(seed)?, Some(named(sort)?)),
         ["merge", count] => merges(number(count)?, 1),
         ["merge", count, seed] => merges(number(count)?, number(seed)?),
+        ["cut", count, seed] => cut::compare(number(count)?, number(seed)?, None),
+        ["cut", count, seed, sort] => cut::compare(number(count)?, number(seed)?, Some(sort)),
         ["differences"] => differences::tell(),
         ["show", sort, seed, at] => {
             print!("{}", minimise::show(&case(named(sort)?, number(seed)?, number(at)?)));

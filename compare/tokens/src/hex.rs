@@ -4,13 +4,8 @@ use crate::scan::{blank, block_comment, line_comment, sign, Found};
 use common::kinds::id;
 use std::str::from_utf8;
 
-const SIGNS: [(&str, u32); 5] = [
-    ("|", id::PIPE),
-    ("(", id::L_PAREN),
-    (")", id::R_PAREN),
-    ("[", id::L_BRACKET),
-    ("]", id::R_BRACKET),
-];
+const SIGNS: [(&str, u32); 5] =
+    [("|", id::PIPE), ("(", id::L_PAREN), (")", id::R_PAREN), ("[", id::L_BRACKET), ("]", id::R_BRACKET)];
 
 pub fn longest(rest: &[u8]) -> Found {
     // No two of these begin alike.

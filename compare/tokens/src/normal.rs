@@ -2,6 +2,8 @@
 
 use crate::scan::{blank, block_comment, character, characters, line_comment, longer, run, sign, Found};
 use common::kinds::{id, IDS};
+use std::collections::HashMap;
+use std::sync::LazyLock;
 
 /// Every sign but `/`, which is none by itself.
 const SIGNS: [(&str, u32); 27] = [
@@ -68,18 +70,20 @@ fn in_word(c: char) -> bool {
     c.is_ascii_alphanumeric() || c == '_' || digit(c)
 }
 
+/// A keyword's text is its id's name in small letters.
+static KEYWORDS: LazyLock<HashMap<Vec<u8>, u32>> = LazyLock::new(|| {
+    let text = |name: &str| Some(name.strip_suffix("_KW")?.to_ascii_lowercase().into_bytes());
+    IDS.iter().zip(0..).filter_map(|(name, id)| Some((text(name)?, id))).collect()
+});
+
 /// A keyword, or an identifier.
 fn word(rest: &[u8]) -> Found {
     if !rest[0].is_ascii_alphabetic() && rest[0] != b'_' {
         return None;
     }
     let length = characters(rest, in_word);
-    let is_keyword = |name: &&str| {
-        let text = name.strip_suffix("_KW").map(str::to_ascii_lowercase);
-        text.is_some_and(|text| text.as_bytes() == &rest[..length])
-    };
-    let keyword = IDS.iter().position(|name| is_keyword(&name));
-    Some((keyword.map_or(id::IDENT, |i| i as u32), length))
+    let keyword = KEYWORDS.get(&rest[..length]).copied();
+    Some((keyword.unwrap_or(id::IDENT), length))
 }
 
 /// A pattern's identifier, count, offset or length.

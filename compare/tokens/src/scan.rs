@@ -42,7 +42,8 @@ pub fn sign(rest: &[u8], signs: &[(&str, u32)]) -> Found {
 
 /// White space and line ends, which are the same in every mode.
 pub fn blank(rest: &[u8]) -> Found {
-    let space = |c: char| matches!(c, ' ' | '\t' | '\u{a0}' | '\u{2000}'..='\u{200a}' | '\u{202f}' | '\u{205f}');
+    let space =
+        |c: char| matches!(c, ' ' | '\t' | '\u{a0}' | '\u{2000}'..='\u{200a}' | '\u{202f}' | '\u{205f}');
     match characters(rest, space) {
         0 => sign(rest, &[("\n", id::NEWLINE), ("\r", id::NEWLINE), ("\r\n", id::NEWLINE)]),
         length => Some((id::WHITESPACE, length)),
