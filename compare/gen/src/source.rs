@@ -55,19 +55,32 @@ fn sentence(rng: &mut Rng) -> Vec<u32> {
 }
 
 /// Rows as people write them. Two rows stand close only where one of them can take up nothing more, but for
-/// a few.
+/// a few, and a jump is mostly kept to what its mode takes.
 pub fn spell(ids: &[u32], rng: &mut Rng) -> Vec<u8> {
     let mut out = Vec::new();
     let close = rng.pick(&[0, 30, 90]);
     let odd = rng.pick(&[0, 0, 8]);
-    for id in ids {
-        let word = if rng.percent(25) { fancy(*id, rng) } else { text::usual(*id, rng) };
+    let (mut hex, mut plain) = (false, false);
+    for (n, id) in ids.iter().enumerate() {
+        let word = match *id {
+            id::INTEGER_LIT if plain => rng.pick(&["0", "1", "12", "0x1F", "0o7"]).as_bytes().to_vec(),
+            _ if rng.percent(25) => fancy(*id, rng),
+            _ => text::usual(*id, rng),
+        };
         let parted = |b: Option<&u8>| b.is_none_or(|b| b"{}()[]:,".contains(b));
         let may_touch = parted(out.last()) || parted(word.first()) || rng.percent(odd);
         if !(may_touch && rng.percent(close)) {
-            out.extend_from_slice(gap(rng).as_bytes());
+            let gap = if plain { rng.pick(&[" ", "\n", "\u{a0}\t"]) } else { gap(rng) };
+            out.extend_from_slice(gap.as_bytes());
         }
         out.extend(word);
+        match *id {
+            id::L_BRACE => hex = n > 0 && ids[n - 1] == id::EQUAL,
+            id::R_BRACE => hex = false,
+            id::L_BRACKET => plain = hex && rng.percent(95),
+            id::R_BRACKET => plain = false,
+            _ => {}
+        }
     }
     out
 }

@@ -1,6 +1,6 @@
 //! The plain tokenizer beside the proved cutter: every cell of the three lists, the count and the refusal.
 
-use common::kinds::IDS;
+use common::kinds::{id, IDS};
 use common::{Cut, LENT};
 use generate::source::{source, Sort, SORTS};
 use std::collections::HashSet;
@@ -36,9 +36,10 @@ pub fn compare(count: u64, seed: u64, only: Option<&str>) -> Told {
         let i = round[n as usize % round.len()];
         let at = tallies[i].sources;
         let text = source(SORTS[i].0, seed, at);
-        tallies[i].add(&text);
+        let rows =
+            judge(&text, n).map_err(|e| differing(&format!("{:?} {seed} {at}", SORTS[i].0), &text, n, &e))?;
+        tallies[i].add(&text, &rows);
         distinct.insert(hash(&text));
-        judge(&text, n).map_err(|e| differing(&format!("{:?} {seed} {at}", SORTS[i].0), &text, n, &e))?;
     }
     println!("sort      sources       rows  with hex bytes  with unknown  not UTF-8");
     for ((sort, _), tally) in SORTS.iter().zip(&tallies).filter(|(_, t)| t.sources > 0) {
@@ -60,9 +61,7 @@ struct Tally {
 }
 
 impl Tally {
-    fn add(&mut self, text: &[u8]) {
-        use common::kinds::id;
-        let rows = tokens::rows(text);
+    fn add(&mut self, text: &[u8], rows: &[tokens::Row]) {
         let has = |id: u32| u64::from(rows.iter().any(|r| r.0 == id));
         self.sources += 1;
         self.rows += rows.len() as u64;
@@ -79,7 +78,7 @@ fn hash(text: &[u8]) -> u64 {
 }
 
 /// Holds the tokenizer's rows to tiling, and the proved cutter to the tokenizer, with rooms by the number.
-fn judge(text: &[u8], number: u64) -> Told {
+fn judge(text: &[u8], number: u64) -> Result<Vec<tokens::Row>, String> {
     let rows = tokens::rows(text);
     let mut at = 0;
     for (id, start, end) in &rows {
@@ -92,10 +91,10 @@ fn judge(text: &[u8], number: u64) -> Told {
         return Err(format!("the tokenizer stops at {at}"));
     }
     let rooms = rooms(rows.len(), number);
-    let Some(ours) = proved(text, rooms) else { return Ok(()) };
+    let Some(ours) = proved(text, rooms) else { return Ok(rows) };
     let plain = expected(text, &rows, rooms);
     if ours == plain {
-        return Ok(());
+        return Ok(rows);
     }
     Err(format!("rooms {rooms:?}\nthe tokenizer:\n{}the proved cutter:\n{}", show(&plain), show(&ours)))
 }

@@ -5,6 +5,7 @@ mod cut;
 mod differences;
 mod judge;
 mod minimise;
+mod modes;
 mod tally;
 mod vectors;
 
@@ -19,7 +20,7 @@ use std::{env, panic, process, thread};
 use tally::{report, Tally};
 
 const USAGE: &str = "run cases FOLDER | run compare COUNT [SEED [SORT]] | run merge COUNT [SEED] | \
-    run cut COUNT SEED [SORT] | run differences | run show SORT SEED NUMBER | run vectors COUNT SEED [FOLDER]";
+    run cut COUNT SEED [SORT] | run modes [COUNT SEED] | run differences | run show SORT SEED NUMBER | run vectors COUNT SEED [FOLDER]";
 
 fn main() {
     // The Rust goes down one call per node.
@@ -43,6 +44,8 @@ fn work() -> Result<(), String> {
         ["merge", count, seed] => merges(number(count)?, number(seed)?),
         ["cut", count, seed] => cut::compare(number(count)?, number(seed)?, None),
         ["cut", count, seed, sort] => cut::compare(number(count)?, number(seed)?, Some(sort)),
+        ["modes"] => modes::tell(),
+        ["modes", count, seed] => modes::tell().and_then(|()| modes::count(number(count)?, number(seed)?)),
         ["differences"] => differences::tell(),
         ["show", sort, seed, at] => {
             print!("{}", minimise::show(&case(named(sort)?, number(seed)?, number(at)?)));

@@ -68,13 +68,18 @@ impl<'src> Cutter<'src> {
 
 /// The rows of a source with the modes told from its text, as document 02 has it.
 pub fn rows(source: &[u8]) -> Vec<Row> {
+    with_modes(source).into_iter().map(|(row, _)| row).collect()
+}
+
+/// The same rows, each with the mode that cut it.
+pub fn with_modes(source: &[u8]) -> Vec<(Row, Mode)> {
     const OPENING: [u32; 3] = [id::PATTERN_IDENT, id::EQUAL, id::L_BRACE];
     let mut cutter = Cutter::new(source);
     let mut rows = Vec::new();
     // How much of the opening stands just before.
     let mut seen = 0;
     while let Some(row) = cutter.next_row() {
-        rows.push(row);
+        rows.push((row, cutter.mode()));
         match cutter.mode() {
             Mode::Normal if is_trivia(row.0) => {}
             Mode::Normal => {
