@@ -140,8 +140,11 @@ fn show(cut: &Cut) -> String {
     out
 }
 
-/// Tells a difference by a source from which no more bytes can be taken.
+/// Tells a difference by a source from which no more bytes can be taken, if it is not a long one.
 fn differing(case: &str, text: &[u8], number: u64, message: &str) -> String {
+    if text.len() > 65_536 {
+        return format!("{case}: {} bytes that begin with {}\n", text.len(), text[..9].escape_ascii());
+    }
     let small = smaller(text, |t| judge(t, number).is_err());
     let now = judge(&small, number).err().unwrap_or_default();
     format!("{case}: {message}\nsmallest: {}\n{now}", small.escape_ascii())
@@ -170,28 +173,31 @@ pub fn smaller(text: &[u8], fails: impl Fn(&[u8]) -> bool) -> Vec<u8> {
 /// Sources at the limits: sizes, every byte and every character in each mode, and the expressions' ends.
 fn edges() -> Result<u64, String> {
     let mut count = 0;
-    let mut put = |text: &[u8]| {
-        for number in [0, 1, 9, 17, 2, 4] {
-            judge(text, number).map_err(|e| differing("edge", &text[..text.len().min(200)], number, &e))?;
+    let mut put = |text: &[u8], numbers: &[u64]| {
+        for number in numbers {
+            judge(text, *number).map_err(|e| differing("edge", text, *number, &e))?;
         }
         count += 1;
         Ok::<(), String>(())
     };
+    // Rooms that suffice, and those that miss it by one in each list.
+    let (some, all) = ([4], [0, 1, 9, 17, 2, 4]);
     for length in [LONGEST, LONGEST + 1] {
-        put(&vec![b' '; length])?;
-        put(&vec![b','; length])?;
+        put(&vec![b' '; length], &all)?;
+        put(&vec![b','; length], &all)?;
     }
     for open in ["", "a", "$", "$a={", "$a={01[", "\"", "/", "/*", "//", "0"] {
         for byte in 0..=255 {
-            put(&[open.as_bytes(), &[byte]].concat())?;
-            put(&[open.as_bytes(), &[byte, b'1']].concat())?;
+            put(&[open.as_bytes(), &[byte]].concat(), &all)?;
+            put(&[open.as_bytes(), &[byte, b'1']].concat(), &all)?;
         }
-        TEXTS.iter().try_for_each(|text| put(&[open.as_bytes(), text].concat()))?;
+        TEXTS.iter().try_for_each(|text| put(&[open.as_bytes(), text].concat(), &all))?;
     }
     for (before, behind) in [("$", "\n"), ("$a={", "}\n"), ("$a={[", "]}\n"), ("", "a ")] {
         for block in 0..0x1100 {
             let characters = (256 * block..256 * block + 256).filter_map(char::from_u32);
-            put(characters.map(|c| format!("{before}{c}{behind}")).collect::<String>().as_bytes())?;
+            let text: String = characters.map(|c| format!("{before}{c}{behind}")).collect();
+            put(text.as_bytes(), &some)?;
         }
     }
     Ok(count)

@@ -12,8 +12,11 @@ pub fn run(rest: &[u8], of: impl Fn(u8) -> bool) -> usize {
 
 /// The character at the front, if the bytes there are well-formed.
 pub fn character(rest: &[u8]) -> Option<char> {
-    let chunk = rest[..rest.len().min(4)].utf8_chunks().next()?;
-    chunk.valid().chars().next()
+    match rest.first()? {
+        // Most are; the chunks take their time.
+        ascii @ 0..=0x7F => Some(char::from(*ascii)),
+        _ => rest[..rest.len().min(4)].utf8_chunks().next()?.valid().chars().next(),
+    }
 }
 
 /// How many bytes the characters of a sort at the front have.
