@@ -81,13 +81,9 @@ pub fn merge_into(events: &[u32], room: &mut [u32], count: &mut u32) -> u32 {
     unsafe { stableglow_merge(events.as_ptr(), events.len(), room.as_mut_ptr(), room.len(), count) }
 }
 
-/// Cuts a source into lists with room for so many rows each.
-pub fn cut(source: &[u8], rooms: [usize; 3]) -> Cut {
-    let mut lists = rooms.map(|room| vec![LENT; room]);
-    let [ids, starts, ends] = &mut lists;
-    let mut count = LENT;
+pub fn cut_into(source: &[u8], [ids, starts, ends]: [&mut [u32]; 3], count: &mut u32) -> u32 {
     // SAFETY: as above.
-    let refusal = unsafe {
+    unsafe {
         stableglow_cut(
             source.as_ptr(),
             source.len(),
@@ -97,9 +93,16 @@ pub fn cut(source: &[u8], rooms: [usize; 3]) -> Cut {
             starts.len(),
             ends.as_mut_ptr(),
             ends.len(),
-            &mut count,
+            count,
         )
-    };
+    }
+}
+
+/// Cuts a source into lists with room for so many rows each.
+pub fn cut(source: &[u8], rooms: [usize; 3]) -> Cut {
+    let mut lists = rooms.map(|room| vec![LENT; room]);
+    let mut count = LENT;
+    let refusal = cut_into(source, lists.each_mut().map(|list| &mut list[..]), &mut count);
     Cut { refusal, count, lists }
 }
 
