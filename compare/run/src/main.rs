@@ -20,7 +20,8 @@ use std::{env, panic, process, thread};
 use tally::{report, Tally};
 
 const USAGE: &str = "run cases FOLDER | run compare COUNT [SEED [SORT]] | run merge COUNT [SEED] | \
-    run cut COUNT SEED [SORT] | run modes [COUNT SEED] | run differences | run show SORT SEED NUMBER | run vectors COUNT SEED [FOLDER]";
+    run cut COUNT SEED [SORT] | run modes [COUNT SEED] | run differences | run show SORT SEED NUMBER | \
+    run vectors COUNT SEED [FOLDER]";
 
 fn main() {
     // The Rust goes down one call per node.
