@@ -3,6 +3,7 @@
 mod inputs;
 mod plot;
 mod sides;
+mod texts;
 
 use common::Question;
 use generate::Sort;
@@ -10,7 +11,8 @@ use sides::{check, Crate, Ours};
 use std::time::Duration;
 use std::{env, fs, thread};
 
-const USAGE: &str = "bench times SVG | bench ours ROWS COUNT | bench stack KB LEVELS WORDS";
+const USAGE: &str = "bench times SVG | bench ours ROWS COUNT | bench stack KB LEVELS WORDS | \
+    bench folder FOLDER COUNT | bench texts FOLDER";
 
 const HEAD: &str = "| input | files | rows | events | ms crate: best | median | ms ours: best | median | \
     times the crate's speed |\n|---|---|---|---|---|---|---|---|---|";
@@ -46,6 +48,8 @@ fn work() {
             let [outcome, _, events, _, left] = thread.join().unwrap();
             println!("outcome {outcome}, {events} events, {left} fuel left");
         }
+        ["folder", folder, count] => texts::write(folder, count.parse().expect("count")),
+        ["texts", folder] => texts::time(folder),
         _ => eprintln!("{USAGE}"),
     }
 }
@@ -102,6 +106,6 @@ fn measure(name: &str, files: &[Question], (other, ours): &mut (Crate, Ours)) ->
     (crates[0], mine[0])
 }
 
-fn median(sorted: &[Duration]) -> Duration {
+pub fn median(sorted: &[Duration]) -> Duration {
     sorted[sorted.len() / 2]
 }

@@ -1,7 +1,7 @@
 //! One reading by each side, from rows to merged events, with its time.
 
 use common::{scratch_words, strip_empty_errors, Event, Question};
-use library::{merge_into, read_into, Lent};
+use library::{cut_into, merge_into, read_into, Lent};
 use std::time::Duration;
 
 /// Rooms that are lent: so many events and numbers of error records for each row, and some besides.
@@ -50,6 +50,21 @@ impl Ours {
         assert_eq!((refusal, refusal_of_merge), (0, 0), "{rows} rows are refused");
         (time, &self.merged[..4 * count as usize])
     }
+}
+
+/// The rows of a text, as a question with the fuel that the Rust starts with, and the time that cutting took.
+/// The lists are as long as the text, which is always enough.
+pub fn cut(source: &[u8]) -> (Duration, Question) {
+    let mut lists = [(); 3].map(|()| vec![1; source.len()]);
+    let mut count = 0;
+    let start = cpu();
+    let refusal = cut_into(source, lists.each_mut().map(|list| &mut list[..]), &mut count);
+    let time = cpu() - start;
+    assert_eq!(refusal, 0, "a text is refused");
+    lists.iter_mut().for_each(|list| list.truncate(count as usize));
+    let [ids, starts, ends] = lists;
+    let fuel = 100_000_000;
+    (time, Question { source: source.to_vec(), ids, starts, ends, ..Question::new(&[], fuel) })
 }
 
 fn event_room(rows: usize) -> usize {

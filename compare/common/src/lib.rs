@@ -92,6 +92,15 @@ pub struct Merged {
     pub room: Vec<u32>,
 }
 
+/// What the cutter gives back: refusal, count of rows, and the lists of ids, starts and ends, which held
+/// `LENT` everywhere.
+#[derive(Clone, Debug, PartialEq, Eq)]
+pub struct Cut {
+    pub refusal: u32,
+    pub count: u32,
+    pub lists: [Vec<u32>; 3],
+}
+
 /// The content of lent cells before a call: neither zero nor anything that a reader writes.
 pub const LENT: u32 = 0xA5A5_A5A5;
 pub const LENT_WORD: u64 = 0xA5A5_A5A5_A5A5_A5A5;

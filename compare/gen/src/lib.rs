@@ -3,6 +3,7 @@
 pub mod merge;
 pub mod rng;
 pub mod sentence;
+pub mod source;
 pub mod spoil;
 pub mod text;
 

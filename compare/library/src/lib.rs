@@ -1,6 +1,6 @@
 //! Stableglow itself, through its C face.
 
-use common::{Merged, Question, Reply, Side, LENT, LENT_WORD};
+use common::{Cut, Merged, Question, Reply, Side, LENT, LENT_WORD};
 
 extern "C" {
     fn stableglow_read(
@@ -27,6 +27,18 @@ extern "C" {
         events_len: usize,
         room: *mut u32,
         room_len: usize,
+        count: *mut u32,
+    ) -> u32;
+
+    fn stableglow_cut(
+        source: *const u8,
+        source_len: usize,
+        ids: *mut u32,
+        ids_len: usize,
+        starts: *mut u32,
+        starts_len: usize,
+        ends: *mut u32,
+        ends_len: usize,
         count: *mut u32,
     ) -> u32;
 }
@@ -67,6 +79,31 @@ pub fn read_into(q: &Question, lent: Lent, answer: &mut [u32; 5]) -> u32 {
 pub fn merge_into(events: &[u32], room: &mut [u32], count: &mut u32) -> u32 {
     // SAFETY: as above.
     unsafe { stableglow_merge(events.as_ptr(), events.len(), room.as_mut_ptr(), room.len(), count) }
+}
+
+pub fn cut_into(source: &[u8], [ids, starts, ends]: [&mut [u32]; 3], count: &mut u32) -> u32 {
+    // SAFETY: as above.
+    unsafe {
+        stableglow_cut(
+            source.as_ptr(),
+            source.len(),
+            ids.as_mut_ptr(),
+            ids.len(),
+            starts.as_mut_ptr(),
+            starts.len(),
+            ends.as_mut_ptr(),
+            ends.len(),
+            count,
+        )
+    }
+}
+
+/// Cuts a source into lists with room for so many rows each.
+pub fn cut(source: &[u8], rooms: [usize; 3]) -> Cut {
+    let mut lists = rooms.map(|room| vec![LENT; room]);
+    let mut count = LENT;
+    let refusal = cut_into(source, lists.each_mut().map(|list| &mut list[..]), &mut count);
+    Cut { refusal, count, lists }
 }
 
 pub struct Library;

@@ -40,6 +40,25 @@ pub fn read(question: &Question) -> Reading {
     }
 }
 
+/// A source read with the modes that the parser sets.
+pub struct Steered {
+    /// The rows that the parser took, each with the mode that cut it.
+    pub rows: Vec<(tokens::Row, tokens::Mode)>,
+    pub out_of_fuel: bool,
+    /// Read to its end without an error.
+    pub accepted: bool,
+}
+
+pub fn steered(source: &[u8], fuel: u32) -> Steered {
+    let log = stand_in::Log::default();
+    let probed = parser::Parser::steered(source, log.clone(), fuel as usize);
+    let mut rows = log.take();
+    // A row that was only looked at is not the parser's yet.
+    rows.truncate(probed.rows);
+    let failed = probed.events.iter().any(|e| matches!(e, cst::Event::Error { .. }));
+    Steered { rows, out_of_fuel: probed.out_of_fuel, accepted: !failed && !probed.out_of_fuel }
+}
+
 /// The merged events, with all made ready and nothing read yet: the reading is in taking them out.
 pub fn merged(question: &Question) -> impl Iterator<Item = cst::Event> + use<'_> {
     let fuel = question.fuel as usize;

@@ -1,11 +1,14 @@
 //! What the Rust's four files take from the rest of their crate, as far as they use it.
 
+use std::cell::RefCell;
 use std::collections::VecDeque;
 use std::marker::PhantomData;
 use std::ops::Range;
+use std::rc::Rc;
 use std::str::Utf8Error;
 
 use crate::parser::Parser;
+use tokens::{Cutter, Mode, Row};
 
 #[derive(Clone, Debug, Default, PartialEq, Eq, Hash)]
 pub struct Span(pub Range<u32>);
@@ -96,27 +99,54 @@ impl From<&Token> for SyntaxKind {
     }
 }
 
-/// Hands out given rows. There is one cutting into tokens, so the modes change nothing.
+/// The rows that a tokenizer has cut, each with its mode. The parser keeps the tokenizer to itself.
+pub type Log = Rc<RefCell<Vec<(Row, Mode)>>>;
+
+/// Hands out given rows, which the modes do not change, or cuts the source as the modes are set.
 pub struct Tokenizer<'src> {
     source: &'src [u8],
-    rows: VecDeque<Token>,
+    feed: Feed<'src>,
+}
+
+enum Feed<'src> {
+    Given(VecDeque<Token>),
+    Cut(Cutter<'src>, Log),
 }
 
 impl<'src> Tokenizer<'src> {
     pub fn with_rows(source: &'src [u8], rows: &[Token]) -> Self {
-        Self { source, rows: rows.iter().cloned().collect() }
+        Self { source, feed: Feed::Given(rows.iter().cloned().collect()) }
+    }
+    pub fn logged(source: &'src [u8], log: Log) -> Self {
+        Self { source, feed: Feed::Cut(Cutter::new(source), log) }
     }
     pub fn new(source: &'src [u8]) -> Self {
-        Self::with_rows(source, &[])
+        Self::logged(source, Log::default())
     }
     pub fn source(&self) -> &'src [u8] {
         self.source
     }
     pub fn next_token(&mut self) -> Option<Token> {
-        self.rows.pop_front()
+        match &mut self.feed {
+            Feed::Given(rows) => rows.pop_front(),
+            Feed::Cut(cutter, log) => {
+                let row = cutter.next_row()?;
+                log.borrow_mut().push((row, cutter.mode()));
+                Some(Token::new(row.0, Span(row.1..row.2)))
+            }
+        }
     }
-    pub fn enter_hex_pattern_mode(&mut self) {}
-    pub fn enter_hex_jump_mode(&mut self) {}
+    pub fn enter_hex_pattern_mode(&mut self) {
+        self.enter(Mode::Hex);
+    }
+    pub fn enter_hex_jump_mode(&mut self) {
+        self.enter(Mode::Jump);
+    }
+    fn enter(&mut self, mode: Mode) {
+        if let Feed::Cut(cutter, _) = &mut self.feed {
+            cutter.enter(mode);
+        }
+    }
 }
 
 #[derive(Clone, Debug, PartialEq)]

@@ -38,6 +38,7 @@ pub fn stored_question(path: &Path) -> Result<Question, Box<dyn Error>> {
 
 fn one(path: &Path, side: &dyn Side) -> Checked {
     let question = stored_question(path)?;
+    as_cut(&question)?;
     let rust = oracle::read(&question);
     let ours = reading_of(side, &question).map_err(|n| format!("refused, {n}"))?;
     let wanted = |extension: &str| fs::read_to_string(path.with_extension(extension));
@@ -47,6 +48,18 @@ fn one(path: &Path, side: &dyn Side) -> Checked {
     let less = stripped(&ours);
     same_lines("raw, stripped", &listing(&less, &less.raw), &listing(&rust, &rust.raw))?;
     same_lines("listing, stripped", &listing(&less, &less.merged), &wanted("crate")?)?;
+    Ok(())
+}
+
+/// The stored rows must be what the tokenizer cuts their source into.
+fn as_cut(question: &Question) -> Checked {
+    let places = question.starts.iter().zip(&question.ends);
+    let stored: Vec<_> =
+        question.ids.iter().zip(places).map(|(id, (start, end))| (*id, *start, *end)).collect();
+    let cut = tokens::rows(&question.source);
+    if stored != cut {
+        return Err(format!("the tokenizer cuts {cut:?}, stored are {stored:?}").into());
+    }
     Ok(())
 }
 

@@ -1,9 +1,11 @@
 //! Puts the sides beside each other: see README.md.
 
 mod cases;
+mod cut;
 mod differences;
 mod judge;
 mod minimise;
+mod modes;
 mod tally;
 mod vectors;
 
@@ -18,7 +20,8 @@ use std::{env, panic, process, thread};
 use tally::{report, Tally};
 
 const USAGE: &str = "run cases FOLDER | run compare COUNT [SEED [SORT]] | run merge COUNT [SEED] | \
-    run differences | run show SORT SEED NUMBER | run vectors COUNT SEED [FOLDER]";
+    run cut COUNT SEED [SORT] | run modes [COUNT SEED] | run differences | run show SORT SEED NUMBER | \
+    run vectors COUNT SEED [FOLDER]";
 
 fn main() {
     // The Rust goes down one call per node.
@@ -40,6 +43,10 @@ fn work() -> Result<(), String> {
         ["compare", count, seed, sort] => compare(number(count)?, number(seed)?, Some(named(sort)?)),
         ["merge", count] => merges(number(count)?, 1),
         ["merge", count, seed] => merges(number(count)?, number(seed)?),
+        ["cut", count, seed] => cut::compare(number(count)?, number(seed)?, None),
+        ["cut", count, seed, sort] => cut::compare(number(count)?, number(seed)?, Some(sort)),
+        ["modes"] => modes::tell(),
+        ["modes", count, seed] => modes::tell().and_then(|()| modes::count(number(count)?, number(seed)?)),
         ["differences"] => differences::tell(),
         ["show", sort, seed, at] => {
             print!("{}", minimise::show(&case(named(sort)?, number(seed)?, number(at)?)));
