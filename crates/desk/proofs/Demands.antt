@@ -14,10 +14,10 @@ use Rattle.peg.specs.Answer.{Desk, After, Answer, given, refusal, exceeded, ans
 use Rattle.peg.specs.Remaining.{Running, standing, remaining, Continued}
 use Rattle.peg.proofs.Answered.{number-of, answered}
 use Rattle.peg.proofs.Demands as peg
-use Rattle.reader.specs.Means.{limits}
+use Rattle.notes.specs.Means.{limits}
 use Rattle.desk.specs.declared.read.Reading as D
 use Rattle.desk.specs.declared.read.Reading.the-variants.{Refused, Answered}
-use Rattle.desk.specs.Whole.{afterOf}
+use Rattle.desk.specs.Framing.{afterOf}
 
 -- what `read` promises
 abbrev pub Promised : Desk → D.Reading → List ℕ → List ℕ → List ℕ → Type 0
