@@ -1,7 +1,7 @@
 #!/usr/bin/env python3
 """table.py [--check]: writes the grammar's table, crates/grammar/src/table.rt and crates/grammar/specs/Rows.antt, from the lines below.
 
-A line is built of the module's combinators. A row of the table is a combinator and up to three operands, which are a set and a name, a
+A line is built of the module's combinators. A row of the table is a combinator and up to three operands, which are a set and a code, a
 kind and the row of its line, or rows that stand before it: one number, in octal the combinator's digits and three digits for each
 operand. The third operand of a row, production, repetition, `then`, `not` or `recover` is the row of what follows it, 0 where nothing
 does, so row 0 is never read; the second of a `then` is its part with what follows. The third operand of alternatives is 1 where the first of them does nothing unless a row of its first set is there.
@@ -14,8 +14,9 @@ ROOT = Path(__file__).resolve().parent.parent
 SET = {n: int(v) for n, v in re.findall(r"pub const (\w+): usize = (\d+);", (ROOT / "crates/kinds/src/set.rt").read_text())}
 KIND = {n: int(v) for n, v in re.findall(r"pub const (\w+): u32 = (\d+);", (ROOT / "crates/kinds/src/kind.rt").read_text())}
 NAME = {n: int(v) for n, v in re.findall(r"pub const (\w+): u32 = (\d+);", (ROOT / "crates/kinds/src/name.rt").read_text())}
+# A code is a set's number, for the set's ids, or 55 to 57 for the three descriptions, whose names are 82 to 84.
 OPS = ["Eat", "Unless", "Recover", "Node", "Memo", "Seq", "Then", "When", "Many", "Opt", "Last", "Alt"]
-IDS = 85
+FIRST_NAME = 27
 FOLLOWED = ("Eat", "Unless", "Recover", "Node", "Memo", "Many")
 
 
@@ -154,7 +155,7 @@ def row(part, then=0):
     elif op in ("Unless", "Recover"):
         r = (op, SET[rest[0]], 0, then)
     elif op == "Eat":
-        r = (op, SET[rest[0]], NAME[rest[1]] if rest[1] else IDS, then)
+        r = (op, SET[rest[0]], NAME[rest[1]] - FIRST_NAME if rest[1] else SET[rest[0]], then)
     elif op == "Many":
         r = (op, row(rest[0]), 0, then)
     elif op == "When":

@@ -8,16 +8,17 @@ use native.Mathlib.Omega.{arith}
 use native.Mathlib.Decide.{decLt}
 use borrow.Author.Tests.{lt-ltb, le-ltb}
 use lib.Dec.{ltb}
-use lib.ListN.{length, take, replicate}
+use lib.ListN.{length, getD, take, replicate}
 use lib.Seq.{length-take-le}
 use Rattle.peg.specs.Run as P
 use Rattle.peg.specs.Render.{Source, Reading, rendered, used, moments, exceeds, over, flat, flat-records}
 use Rattle.peg.specs.Answer.{Desk, After, Answer, refused, given, first-of, grounds, refusal, exceeded, answer, as-lent, refusing, blank, left-by, after, source-of}
-use Rattle.reader.specs.Means.{limits}
-use Rattle.reader.proofs.Rooms.{exceeds-events}
-use Rattle.reader.proofs.Rooms as rooms
+use Rattle.notes.specs.Means.{limits}
+use Rattle.notes.proofs.Rooms.{exceeds-events}
+use Rattle.notes.proofs.Rooms as rooms
 use Rattle.desk.specs.declared.items.Desk as D
-use Rattle.desk.specs.Whole.{answering, reading, Framed, Finished}
+use Rattle.desk.specs.Items.{tally}
+use Rattle.desk.specs.Framing.{answering, reading, Framed, Finished}
 
 -- the first number that is not 0, or an answer
 abbrev pick : ℕ → Answer → Answer
@@ -108,7 +109,8 @@ module _ (d : Desk) where
       go (suc v) (inl z) = absurd (omega (arith, z))
       go (suc v) (inr z) = inr z
 
-  module _ {r : D.Desk} {ev er : List ℕ} (z : 0 ≡ refusal d) (f : Framed (source-of d) (d .fuel) (length (d .events)) (length (d .errors)) r ev er) where
+  -- r is what the reading left, with what is noted in l
+  module _ (r : D.Desk) (l : List ℕ) {ev er : List ℕ} (z : 0 ≡ refusal d) (f : Framed (source-of d) (d .fuel) (length (d .events)) (length (d .errors)) (tally r l) ev er) where
     pub room-so : (r .state .full ≡ 0 → ⊥) → zeros (r .state .full) ≡ after limits d
     room-so n = exceeded-so z (r .state .full) (f .full) (go (big (length (d .events)) (length (d .errors)) (moments limits (source-of d) (reading (source-of d) (d .fuel)))))
       where
@@ -120,10 +122,10 @@ module _ (d : Desk) where
     laid : (w l : List ℕ) (n : ℕ) (lent : List ℕ) → take n l ≡ w → n ≤ length l → length l ≡ length lent → take n l ++ replicate (length l - n) 0 ≡ w ++ replicate (length lent - length w) 0
     laid w l n lent e h i = ap₂ (λ (a : List ℕ) (k : ℕ). a ++ replicate k 0) e (ap₂ _-_ i (sym (length-take-le n l h) ∙ ap length e))
 
-    pub answer-so : r .state .full ≡ 0 → length ev ≡ length (d .events) → length er ≡ length (d .errors) → (sc : List ℕ) → length sc ≡ length (d .scratch) → answering r ev er sc ≡ after limits d
-    answer-so h i j sc l = whole ∙ ap (λ (m : ℕ). left-by d (pick m (given (rendered limits (source-of d) (reading (source-of d) (d .fuel)))))) (sym h ∙ f .full) ∙ read-so z
+    pub answer-so : r .state .full ≡ 0 → length ev ≡ length (d .events) → length er ≡ length (d .errors) → (sc : List ℕ) → length sc ≡ length (d .scratch) → answering r (getD l 4 0) ev er sc ≡ after limits d
+    answer-so h i j sc k = whole ∙ ap (λ (m : ℕ). left-by d (pick m (given (rendered limits (source-of d) (reading (source-of d) (d .fuel)))))) (sym h ∙ f .full) ∙ read-so z
       where
-        q : Finished (source-of d) (d .fuel) r ev er
+        q : Finished (source-of d) (d .fuel) (tally r l) ev er
         q = f .finished h
 
         count : (r .state .ev + 4) / 4 ≡ length (rendered limits (source-of d) (reading (source-of d) (d .fuel)) .events)
@@ -132,8 +134,8 @@ module _ (d : Desk) where
         events : take (r .state .ev + 4) ev ++ replicate (length ev - (r .state .ev + 4)) 0 ≡ left-by d (given (rendered limits (source-of d) (reading (source-of d) (d .fuel)))) .events
         events = laid _ ev (r .state .ev + 4) (d .events) (q .events) (q .event-fits) i
 
-        errors : take (r .state .er) er ++ replicate (length er - r .state .er) 0 ≡ left-by d (given (rendered limits (source-of d) (reading (source-of d) (d .fuel)))) .errors
-        errors = laid _ er (r .state .er) (d .errors) (q .errors) (q .error-fits) j
+        errors : take (getD l 4 0) er ++ replicate (length er - getD l 4 0) 0 ≡ left-by d (given (rendered limits (source-of d) (reading (source-of d) (d .fuel)))) .errors
+        errors = laid _ er (getD l 4 0) (d .errors) (q .errors) (q .error-fits) j
 
-        whole : answering r ev er sc ≡ left-by d (given (rendered limits (source-of d) (reading (source-of d) (d .fuel))))
-        whole = λ t. record { number = 0; outcome = q .outcome t; covered = q .covered t; event-count = count t; error-count = q .error-count t; left = q .left t; events = events t; errors = errors t; scratch = replicate (l t) 0 }
+        whole : answering r (getD l 4 0) ev er sc ≡ left-by d (given (rendered limits (source-of d) (reading (source-of d) (d .fuel))))
+        whole = λ t. record { number = 0; outcome = q .outcome t; covered = q .covered t; event-count = count t; error-count = q .error-count t; left = q .left t; events = events t; errors = errors t; scratch = replicate (k t) 0 }

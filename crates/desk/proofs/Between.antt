@@ -17,15 +17,14 @@ use Rattle.peg.proofs.Order.{Running}
 use Rattle.peg.proofs.File.{items-end, items-step}
 use Rattle.peg.proofs.Takes.{item-takes}
 use Rattle.peg.proofs.Suffix.{chain}
-use Rattle.reader.specs.declared.state.State.{State}
-use Rattle.reader.specs.Bits.{ifb, bitAt, Forgot, Cached}
-use Rattle.reader.specs.Means.{limits, Bufs, bufs, Past, Means, Stands, Rows, modeOf, recorded, overOf}
-use Rattle.reader.specs.Did.{Wf, Events}
-use Rattle.reader.proofs.Core.{Sticky, sticky-mark}
-use Rattle.reader.proofs.Sticky.{sticky-trans, sticky-trivia}
-use Rattle.reader.proofs.Ends.{none-pending}
-use Rattle.desk.specs.declared.items.Desk.{Desk}
-use Rattle.desk.specs.Items.{tell, told, Tells, Numbered, Free, at-hand, pastOf, Hands, settled, Settled, over, Between, Goes}
+use Rattle.notes.specs.Whole.{Whole}
+use Rattle.notes.specs.Bits.{ifb, bitAt, Forgot, Cached}
+use Rattle.notes.specs.Means.{limits, Bufs, bufs, Past, Means, Stands, Rows, modeOf, recorded, overOf}
+use Rattle.notes.specs.Did.{Wf, Events}
+use Rattle.notes.proofs.Core.{Sticky, sticky-mark}
+use Rattle.notes.proofs.Sticky.{sticky-trans, sticky-trivia}
+use Rattle.steps.proofs.Ends.{none-pending}
+use Rattle.desk.specs.Items.{Tally, tell, told, Tells, Numbered, Free, at-hand, pastOf, Hands, settled, Settled, over, Between, Goes}
 use Rattle.desk.proofs.Telling.{recorded-length}
 use Rattle.desk.proofs.Hand.{heard, sticky-hand}
 
@@ -62,7 +61,7 @@ module _ {n first far : ℕ} {l l′ : List ℕ} {c : List (ℕ × ℕ)} (k : Ca
   forgets : (at : ℕ) → Cached n at at l′ []
   forgets at = record { expr = λ p h. blank (2 * p); term = λ p h. blank (2 * p + 1); below = λ i h. blank i; above = λ i h. blank i }
 
-module _ (x : Source) (s : State) (ev er sc sc′ : List ℕ) (f : Forgot (s .first) (s .far) sc sc′) where
+module _ (x : Source) (s : Whole) (ev er sc sc′ : List ℕ) (f : Forgot (s .first) (s .far) sc sc′) where
   settle-stands : (p : Past) (c : P.State) → Stands p x s (bufs ev er sc) (tell c) → Stands p x (settled s) (bufs ev er sc′) (P.again (P.flush c))
   unfolding overOf
   settle-stands p c t = subst (λ (a : P.State). Stands p x (settled s) (bufs ev er sc′) a) (sym (again-is (P.flush c))) (record { over = t .over; means = λ z. means (t .means z) })
@@ -86,9 +85,9 @@ module _ (x : Source) (s : State) (ev er sc sc′ : List ℕ) (f : Forgot (s .fi
       ((record { here = v .here; since = le-refl _; far-in = omega (arith, v .here); want-in = omega arith; want-since = λ n. absurd (n refl); unwant-in = omega arith; unwant-since = λ n. absurd (n refl) }, w .0 .1, w .0 .2), record { events = w .1 .events; errors = w .1 .errors; scratch = omega (arith, w .1 .scratch, e) })
 
 -- the two ways through the end of an item, by the mode
-module _ (s : State) where
-  abbrev rested : ℕ → State
-  rested m = record { pos = s .pos; fuel = s .fuel; mode = m; ev = s .ev; evcap = s .evcap; er = s .er; ercap = s .ercap; item = s .item; first = s .pos; far = s .pos; want = 0; unwant = 0; full = s .full; count = s .count; names = s .names }
+module _ (s : Whole) where
+  abbrev rested : ℕ → Whole
+  rested m = record { pos = s .pos; fuel = s .fuel; mode = m; ev = s .ev; evcap = s .evcap; full = s .full; want = 0; unwant = 0; count = s .count; mask = s .mask; codes = s .codes; er = s .er; ercap = s .ercap; item = s .item; first = s .pos; far = s .pos }
 
   pub settles-failed : s .mode ≡ 1 → rested 0 ≡ settled s
   settles-failed e = ap (λ (c : Bool). rested (ifb c 0 (s .mode))) (sym (eq-eqb (s .mode) 1 e))
@@ -133,7 +132,7 @@ items-out zero a e = refl
 items-out (suc k) a e = items-end limits k a e
 
 -- NO ITEM
-module _ (n : ℕ) (s : State) where
+module _ (n : ℕ) (s : Whole) where
   abbrev left : Bool → Bool → Bool
   left c d = ifb c (ifb d (leb n (s .pos)) true) true
 
@@ -154,7 +153,7 @@ module _ (n : ℕ) (s : State) where
       go true false i j e = absurd (subst T e tt)
       go false d i j e = absurd (subst T e tt)
 
-module _ {x : Source} {d : Desk} {b : Bufs} (w : Wf x b (d .state)) (st : Settled (d .state)) (k : ℕ) where
+module _ {x : Source} {d : Tally} {b : Bufs} (w : Wf x b (d .state)) (st : Settled (d .state)) (k : ℕ) where
   stuck : (d .state .full ≡ 0 → ⊥) → Goes (P.items limits k) x d d b b
   unfolding overOf
   stuck n =
@@ -181,25 +180,25 @@ module _ {x : Source} {d : Desk} {b : Bufs} (w : Wf x b (d .state)) (st : Settle
       go (yes z) (yes y) (no h) = let g : length (x .ids) ≤ d .state .pos = omega arith in same (λ E R a B. items-out k a (B .stands .means z .rest ∙ drop-of-length-le (x .ids) g))
       go (yes z) (yes y) (yes h) = let g = leb-true (length (x .ids)) (d .state .pos) (over-rows (length (x .ids)) (d .state) z y ∙ e) in absurd (omega arith)
 
-pub items-none : {x : Source} {d : Desk} {b : Bufs} → Wf x b (d .state) → Settled (d .state) → Goes (P.items limits 0) x d d b b
+pub items-none : {x : Source} {d : Tally} {b : Bufs} → Wf x b (d .state) → Settled (d .state) → Goes (P.items limits 0) x d d b b
 items-none w st = same w st 0 (λ E R a B. refl)
 
 -- some number of items by another name of it
-pub goes-as : {x : Source} {d r : Desk} {b b′ : Bufs} (n k : ℕ) → n ≡ k → Goes (P.items limits n) x d r b b′ → Goes (P.items limits k) x d r b b′
+pub goes-as : {x : Source} {d r : Tally} {b b′ : Bufs} (n k : ℕ) → n ≡ k → Goes (P.items limits n) x d r b b′ → Goes (P.items limits k) x d r b b′
 goes-as {x} {d} {r} {b} {b′} n k e y = subst (λ (i : ℕ). Goes (P.items limits i) x d r b b′) e y
 
 -- some items more
-pub goes-then : {x : Source} {d r q : Desk} {b b₁ b₂ : Bufs} (n k : ℕ) → Goes (P.items limits n) x d r b b₁ → Goes (P.items limits k) x r q b₁ b₂ → Goes (P.items limits (n + k)) x d q b b₂
+pub goes-then : {x : Source} {d r q : Tally} {b b₁ b₂ : Bufs} (n k : ℕ) → Goes (P.items limits n) x d r b b₁ → Goes (P.items limits k) x r q b₁ b₂ → Goes (P.items limits (n + k)) x d q b b₂
 goes-then {x} {d} {r} {q} {b} {b₁} {b₂} n k y z =
     record { does = λ E R a B. subst (λ (c : P.State). Between E R x q b₂ c) (sym (chain limits n k a)) (z .does E R (P.items limits n a) (y .does E R a B)); wf = z .wf; settles = z .settles }
 
 -- AN ITEM
 
 -- what is to be forgotten has its place in the scratch words
-pub settle-asks : (x : Source) {s : State} {before : ℕ} {h u : Desk} {b b′ : Bufs} {ev′ : List ℕ} → Hands x s before h b b′ → ((sc : List ℕ) → Wf x (bufs (b′ .events) (b′ .errors) sc) (h .state) → Tells x (h .state) (h .before) u (bufs (b′ .events) (b′ .errors) sc) (bufs ev′ (b′ .errors) sc)) → 2 * u .state .far ≤ 64 * length (b′ .scratch)
+pub settle-asks : (x : Source) {s : Whole} {before : ℕ} {h u : Tally} {b b′ : Bufs} {ev′ : List ℕ} → Hands x s before h b b′ → ((sc : List ℕ) → Wf x (bufs (b′ .events) (b′ .errors) sc) (h .state) → Tells x (h .state) (h .before) u (bufs (b′ .events) (b′ .errors) sc) (bufs ev′ (b′ .errors) sc)) → 2 * u .state .far ≤ 64 * length (b′ .scratch)
 settle-asks x {b′ = b′} H T = let v = T (b′ .scratch) (H .wf) .wf in omega (arith, v .0 .0 .far-in, v .1 .scratch)
 
-module _ (x : Source) (d h u r : Desk) (s : State) (ev ev₁ ev₂ ev₃ er er₂ sc sc₂ sc₃ : List ℕ) (rows : Rows x) (w : Wf x (bufs ev er sc) (d .state)) (st : Settled (d .state)) (ready : (d .state .full ≡ 0) × (d .state .mode ≡ 0) × (d .state .pos < length (x .ids)))
+module _ (x : Source) (d h u r : Tally) (s : Whole) (ev ev₁ ev₂ ev₃ er er₂ sc sc₂ sc₃ : List ℕ) (rows : Rows x) (w : Wf x (bufs ev er sc) (d .state)) (st : Settled (d .state)) (ready : (d .state .full ≡ 0) × (d .state .mode ≡ 0) × (d .state .pos < length (x .ids)))
     (T : Events P.trivia x (d .state) s ev ev₁) (H : Hands x s (d .before) h (bufs ev₁ er sc) (bufs ev₂ er₂ sc₂)) (U : Tells x (h .state) (h .before) u (bufs ev₂ er₂ sc₂) (bufs ev₃ er₂ sc₂))
     (is : r .state ≡ settled (u .state)) (same : r .before ≡ u .before) (F : Forgot (u .state .first) (u .state .far) sc₂ sc₃) (long : length sc₃ ≡ length sc₂) where
   z : d .state .full ≡ 0
@@ -243,10 +242,10 @@ module _ (x : Source) (d h u r : Desk) (s : State) (ev ev₁ ev₂ ev₃ er er�
     t₃ = U .does (pastOf E R x c) c t₂ numbered
 
     t₄ : Stands (pastOf E R x (P.item limits a)) x (r .state) (bufs ev₃ er₂ sc₃) (P.item limits a)
-    t₄ = subst (λ (y : State). Stands (pastOf E R x (P.item limits a)) x y (bufs ev₃ er₂ sc₃) (P.item limits a)) (sym is) (heard (settle-stands x (u .state) ev₃ er₂ sc₂ sc₃ F (told (pastOf E R x c) x c) c t₃))
+    t₄ = subst (λ (y : Whole). Stands (pastOf E R x (P.item limits a)) x y (bufs ev₃ er₂ sc₃) (P.item limits a)) (sym is) (heard (settle-stands x (u .state) ev₃ er₂ sc₂ sc₃ F (told (pastOf E R x c) x c) c t₃))
 
     was : r .state .full ≡ 0 → u .state .full ≡ 0
-    was y = sym (ap (λ (q : State). q .full) is) ∙ y
+    was y = sym (ap (λ (q : Whole). q .full) is) ∙ y
 
     counted : r .state .full ≡ 0 → r .before ≡ h .before + length (c .chosen)
     counted y =
@@ -284,6 +283,6 @@ module _ (x : Source) (d h u r : Desk) (s : State) (ev ev₁ ev₂ ev₃ er er�
   item-goes =
       record {
         does = λ E R a B. subst (λ (c : P.State). Between E R x r (bufs ev₃ er₂ sc₃) c) (steps E R a B) (between E R a B);
-        wf = subst (λ (y : State). Wf x (bufs ev₃ er₂ sc₃) y) (sym is) (settle-wf x (u .state) ev₃ er₂ sc₂ sc₃ F long (U .wf));
-        settles = subst (λ (y : State). Settled y) (sym is) (ap (λ (y : State). y .item) (U .is) ∙ sym (ap (λ (y : State). y .er) (U .is)), refl);
+        wf = subst (λ (y : Whole). Wf x (bufs ev₃ er₂ sc₃) y) (sym is) (settle-wf x (u .state) ev₃ er₂ sc₂ sc₃ F long (U .wf));
+        settles = subst (λ (y : Whole). Settled y) (sym is) (ap (λ (y : Whole). y .item) (U .is) ∙ sym (ap (λ (y : Whole). y .er) (U .is)), refl);
       }

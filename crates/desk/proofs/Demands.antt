@@ -20,10 +20,10 @@ use Rattle.peg.specs.Merge.{quads, marks, finished, merged, merger}
 use Rattle.peg.specs.Merge as M
 use Rattle.peg.proofs.Joined.{Orderly, flat-length, never-9-or-10, read-in-order}
 use Rattle.peg.proofs.Demands as peg
-use Rattle.reader.specs.Means.{limits}
+use Rattle.notes.specs.Means.{limits}
 use Rattle.desk.specs.declared.read.Reading as D
 use Rattle.desk.specs.declared.read.Reading.the-variants.{Refused, Answered}
-use Rattle.desk.specs.Whole.{afterOf}
+use Rattle.desk.specs.Framing.{afterOf}
 
 -- a result and buffers as the definition leaves them, for any limits L; and what `read` promises
 abbrev pub Left : Limits → Desk → D.Reading → List ℕ → List ℕ → List ℕ → Type 0

@@ -15,20 +15,19 @@ use Rattle.peg.specs.Grammar.{rule-decl}
 use Rattle.peg.specs.Run as P
 use Rattle.peg.specs.Run.{Choice, Next, end, other, hit}
 use Rattle.peg.specs.Render.{Source, Rec, records}
-use Rattle.reader.specs.declared.state.State.{State}
-use Rattle.reader.specs.Means.{limits, Bufs, Past, Means, Stands, Apart, recorded, overOf}
-use Rattle.reader.specs.Did.{Wf, Did, Below, Distinct}
-use Rattle.reader.proofs.Core.{Sticky}
-use Rattle.reader.proofs.Sticky.{sticky-exec}
-use Rattle.reader.proofs.Next.{lacks, has-some, picked}
-use Rattle.reader.proofs.Pigeon.{few}
-use Rattle.desk.specs.declared.items.Desk.{Desk}
-use Rattle.desk.specs.Items.{since, at-hand, pastOf, Free, Strays, Hands}
+use Rattle.notes.specs.Whole.{Whole}
+use Rattle.notes.specs.Means.{limits, Bufs, Past, Means, Stands, Apart, recorded, overOf}
+use Rattle.notes.specs.Did.{Wf, Did, Below, Distinct}
+use Rattle.notes.proofs.Core.{Sticky}
+use Rattle.notes.proofs.Sticky.{sticky-exec}
+use Rattle.steps.proofs.Next.{lacks, has-some, picked}
+use Rattle.notes.proofs.Pigeon.{few}
+use Rattle.desk.specs.Items.{Tally, since, at-hand, pastOf, Free, Strays, Hands}
 use Rattle.desk.proofs.Telling.{recorded-length}
 use Rattle.desk.proofs.Stray.{sticky-stray}
 
 -- what stands recorded is what the error events say
-pub heard : {p : Past} {x : Source} {s : State} {b : Bufs} {a : P.State} → Stands p x s b a → Stands (pastOf (p .event-room) (p .error-room) x a) x s b a
+pub heard : {p : Past} {x : Source} {s : Whole} {b : Bufs} {a : P.State} → Stands p x s b a → Stands (pastOf (p .event-room) (p .error-room) x a) x s b a
 unfolding overOf
 heard {p} {x} {s} {b} {a} t = record { over = t .over; means = λ z. let m = t .means z in subst (λ (l : List Rec). Means (since p l) x s b a) (sym (m .written .past)) (same m) }
   where
@@ -86,7 +85,7 @@ apart-few : (n : ℕ) (es : List (ℕ × Choice)) → Apart n es → length es �
 apart-few n es a = let y = own-rows n es a in omega (arith, few (suc n) (rows es) (y .0) (y .1), rows-length es)
 
 -- where a room was exceeded before
-pub hand-stuck : {x : Source} {s : State} {before : ℕ} {b : Bufs} → (s .full ≡ 0 → ⊥) → Wf x b s → Hands x s before (record { state = s; before = before }) b b
+pub hand-stuck : {x : Source} {s : Whole} {before : ℕ} {b : Bufs} → (s .full ≡ 0 → ⊥) → Wf x b s → Hands x s before (record { state = s; before = before }) b b
 unfolding overOf
 hand-stuck {x} n w =
     record {
@@ -99,13 +98,13 @@ hand-stuck {x} n w =
       ahead = le-refl _;
     }
 
-module _ {x : Source} {s : State} {b : Bufs} (z : s .full ≡ 0) where
+module _ {x : Source} {s : Whole} {b : Bufs} (z : s .full ≡ 0) where
   -- by what stands at hand
   hand-is : (n : Next) → P.sought P.rule-keywords (drop (s .pos) (x .ids)) ≡ n → {p : Past} {a : P.State} → Stands p x s b a → P.item-at limits n a ≡ at-hand a
   hand-is n q {p} {a} t = ap (λ (k : Next). P.item-at limits k a) (sym (ap (P.sought P.rule-keywords) (t .means z .rest) ∙ q))
 
   -- n was read, as the definition does it
-  hands : (n : Next) → P.sought P.rule-keywords (drop (s .pos) (x .ids)) ≡ n → (d : Desk) (before : ℕ) {b′ : Bufs}
+  hands : (n : Next) → P.sought P.rule-keywords (drop (s .pos) (x .ids)) ≡ n → (d : Tally) (before : ℕ) {b′ : Bufs}
       → ((p : Past) (a : P.State) → Stands p x s b a → Free p s before a → (l : List Rec) × Stands (since p l) x (d .state) b′ (P.item-at limits n a) × (d .state .full ≡ 0 → d .before ≡ length l) × (d .state .full ≡ 0 → d .before + length (P.item-at limits n a .chosen) ≤ before + (length (x .ids) - s .first) + 1))
       → Wf x b′ (d .state) → d .state .first ≡ s .first → s .pos ≤ d .state .pos → Hands x s before d b b′
   hands n q d before {b′} g w i h =
@@ -125,7 +124,7 @@ module _ {x : Source} {s : State} {b : Bufs} (z : s .full ≡ 0) where
   hand-end {before} h w = hands end (at-end (x .ids) (s .pos) h) (record { state = s; before = before }) before (λ p a t f. (p .records, t, (λ v. f z .1), λ v. omega (arith, ap length (f z .0)))) w refl (le-refl _)
 
   module _ (h : s .pos < length (x .ids)) where
-    pub hand-rule : {before : ℕ} {r : State} {b′ : Bufs} → true ≡ isSome (pick P.rule-keywords (getD (x .ids) (s .pos) 0)) → Did (P.read-rule limits) x s r b b′ → Hands x s before (record { state = r; before = before }) b b′
+    pub hand-rule : {before : ℕ} {r : Whole} {b′ : Bufs} → true ≡ isSome (pick P.rule-keywords (getD (x .ids) (s .pos) 0)) → Did (P.read-rule limits) x s r b b′ → Hands x s before (record { state = r; before = before }) b b′
     hand-rule {before} {r} e y =
         let i = getD (x .ids) (s .pos) 0 in
         let o = picked (pick P.rule-keywords i) in
@@ -133,7 +132,7 @@ module _ {x : Source} {s : State} {b : Bufs} (z : s .full ≡ 0) where
         (λ p a t f. (p .records, y .does p a t, (λ v. f z .1), λ v. omega (arith, apart-few (length (x .ids) - r .first) (P.read-rule limits a .chosen) (y .does p a t .means v .chosen .apart), y .first)))
         (y .wf) (y .first) (y .ahead)
 
-    pub hand-stray : {before : ℕ} {d : Desk} {b′ : Bufs} → false ≡ isSome (pick P.rule-keywords (getD (x .ids) (s .pos) 0)) → Strays x s before d b b′ → Hands x s before d b b′
+    pub hand-stray : {before : ℕ} {d : Tally} {b′ : Bufs} → false ≡ isSome (pick P.rule-keywords (getD (x .ids) (s .pos) 0)) → Strays x s before d b b′ → Hands x s before d b b′
     hand-stray {before} {d} e y =
         hands other (at-row (x .ids) (s .pos) none h (lacks P.rule-keywords (getD (x .ids) (s .pos) 0) e)) d before
         (λ p a t f.

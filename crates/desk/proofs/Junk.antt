@@ -13,14 +13,14 @@ use Rattle.peg.specs.Buffer.{four, buffer}
 use Rattle.peg.specs.Open.{Open}
 use Rattle.peg.specs.Render.{Source, starts-at}
 use Rattle.peg.proofs.Buffer.{buffer-opened, adding}
-use Rattle.reader.specs.declared.state.State.{State}
-use Rattle.reader.specs.Means.{bufs, Past, Lines, overOf}
-use Rattle.reader.specs.Did.{Ok, Wf, Did, Events, Put, Shuts, shutA}
-use Rattle.reader.proofs.Rooms.{ev-count}
-use Rattle.reader.proofs.Core.{Sticky, sticky-mark, like-at, like-same, alike, writes, ok-put, caps-put}
-use Rattle.reader.proofs.Sticky.{Sticks, sticky-trans, sticky-skip, sticky-shut}
-use Rattle.reader.proofs.Taken.{row, start-is}
-use Rattle.reader.proofs.Ends.{enough, lent}
+use Rattle.notes.specs.Whole.{Whole}
+use Rattle.notes.specs.Means.{bufs, Past, Lines, overOf}
+use Rattle.notes.specs.Did.{Ok, Wf, Did, Events, Put, Shuts, shutA}
+use Rattle.notes.proofs.Rooms.{ev-count}
+use Rattle.notes.proofs.Core.{Sticky, sticky-mark, like-at, like-same, alike, writes, ok-put, caps-put}
+use Rattle.notes.proofs.Sticky.{Sticks, sticky-trans, sticky-skip, sticky-shut}
+use Rattle.steps.proofs.Taken.{row, start-is}
+use Rattle.steps.proofs.Ends.{enough, lent}
 use Rattle.desk.specs.Items.{junk-node}
 
 -- THE NODE
@@ -41,10 +41,10 @@ pub sticky-junk : (p : Past) (x : Source) → Sticks p x junk-node
 sticky-junk p x a = sticky-node p x a (length (a .rest))
 
 -- lists that are long enough, where none are at hand
-pub any : (x : Source) (s : State) (ev : List ℕ) → Ok (length (x .ids)) s → s .evcap ≤ length ev → Wf x (bufs ev (replicate (s .ercap) 0) (enough x)) s
+pub any : (x : Source) (s : Whole) (ev : List ℕ) → Ok (length (x .ids)) s → s .evcap ≤ length ev → Wf x (bufs ev (replicate (s .ercap) 0) (enough x)) s
 any x s ev w h = lent x s ev (replicate (s .ercap) 0) w h (omega (arith, length-replicate {A = ℕ} (s .ercap) 0))
 
-module _ (x : Source) {s s₁ : State} {ev ev₁ : List ℕ} (st : ℕ) (l : Lines (x .ids) (x .ends)) (w : Ok (length (x .ids)) s) (h : s .evcap ≤ length ev) (q : st ≡ getD (0 ∷ x .ends) (s .pos) 0)
+module _ (x : Source) {s s₁ : Whole} {ev ev₁ : List ℕ} (st : ℕ) (l : Lines (x .ids) (x .ends)) (w : Ok (length (x .ids)) s) (h : s .evcap ≤ length ev) (q : st ≡ getD (0 ∷ x .ends) (s .pos) 0)
     (u : Put (four 1 0 st st) s s₁ ev ev₁) where
   junk-opens : (er sc : List ℕ) → Wf x (bufs ev er sc) s → Did opens x s s₁ (bufs ev er sc) (bufs ev₁ er sc)
   junk-opens er sc v =
@@ -55,20 +55,20 @@ module _ (x : Source) {s s₁ : State} {ev ev₁ : List ℕ} (st : ℕ) (l : Lin
       buffer-opened x (length (a .rest)) (a .out) ∙ ap (λ (i : ℕ). buffer x (a .out) ++ four 1 0 i i) z)
 
   place : s₁ .pos ≡ s .pos
-  place = ap (λ (y : State). y .pos) (u .is)
+  place = ap (λ (y : Whole). y .pos) (u .is)
 
   -- what the steps behind ask
   pub junk-skip : Ok (length (x .ids)) s₁ × (s₁ .evcap ≤ length ev₁)
   junk-skip = (ok-put u w, omega (arith, h, caps-put u .0, u .long))
 
-  module _ {s₂ : State} {ev₂ : List ℕ} (y : Events skips x s₁ s₂ ev₁ ev₂) where
+  module _ {s₂ : Whole} {ev₂ : List ℕ} (y : Events skips x s₁ s₂ ev₁ ev₂) where
     on : Did skips x s₁ s₂ (bufs ev₁ (replicate (s₁ .ercap) 0) (enough x)) (bufs ev₂ (replicate (s₁ .ercap) 0) (enough x))
     on = y .did (replicate (s₁ .ercap) 0) (enough x) (any x s₁ ev₁ (junk-skip .0) (junk-skip .1))
 
-    pub junk-shut : (s₂ .pos ≤ length (x .ends)) × (s .pos ≤ s₂ .pos) × (s₂ .ev ≤ s₂ .evcap) × (s₂ .evcap ≤ length ev₂) × (s₂ .full ≡ 0 → (4 ≤ s₁ .ev) × (s₁ .ev ≤ s₂ .ev))
-    junk-shut = (omega (arith, y .ok .0 .here, l .level), omega (arith, on .ahead, place), y .ok .2 .events, y .fits, λ z. (omega (arith, u .more (on .room z)), y .grows))
+    pub junk-shut : ((s₂ .ev ≤ s₂ .evcap) × (s₂ .evcap ≤ length ev₂)) × (s₂ .pos ≤ length (x .ends)) × (s .pos ≤ s₂ .pos) × (s₂ .full ≡ 0 → (4 ≤ s₁ .ev) × (s₁ .ev ≤ s₂ .ev))
+    junk-shut = ((y .ok .2 .events, y .fits), omega (arith, y .ok .0 .here, l .level), omega (arith, on .ahead, place), λ z. (omega (arith, u .more (on .room z)), y .grows))
 
-    module _ {r : State} {ev₃ : List ℕ} (e : (er sc : List ℕ) → Wf x (bufs ev₂ er sc) s₂ → Shuts (shutA k.ERROR (length (x .ids) - s .pos)) (s₁ .ev) x s₂ r (bufs ev₂ er sc) (bufs ev₃ er sc)) where
+    module _ {r : Whole} {ev₃ : List ℕ} (e : (er sc : List ℕ) → Wf x (bufs ev₂ er sc) s₂ → Shuts (shutA k.ERROR (length (x .ids) - s .pos)) (s₁ .ev) x s₂ r (bufs ev₂ er sc) (bufs ev₃ er sc)) where
       junk-did : (er sc : List ℕ) → Wf x (bufs ev er sc) s → Did junk-node x s r (bufs ev er sc) (bufs ev₃ er sc)
       junk-did er sc v =
           let O = junk-opens er sc v in

@@ -5,6 +5,6 @@ pub mod Stray
 pub mod Hand
 pub mod Between
 pub mod Start
-pub mod Whole
+pub mod Framing
 pub mod Answering
 pub mod Demands

@@ -8,14 +8,13 @@ use lib.ListN.{length}
 use Rattle.peg.specs.Run as P
 use Rattle.peg.specs.Render.{Source, used}
 use Rattle.peg.proofs.Buffer.{buffer-none}
-use Rattle.reader.specs.Bits.{bitAt}
-use Rattle.reader.specs.Means.{limits, Bufs, bufs, Means, recorded, overOf}
-use Rattle.reader.proofs.Rooms.{exceeds-none}
-use Rattle.desk.specs.declared.items.Desk.{Desk}
-use Rattle.desk.specs.Items.{blank, pastOf, Between, Goes}
+use Rattle.notes.specs.Bits.{bitAt}
+use Rattle.notes.specs.Means.{limits, Bufs, bufs, Means, recorded, overOf}
+use Rattle.notes.proofs.Rooms.{exceeds-none}
+use Rattle.desk.specs.Items.{Tally, tally, blank, clean, pastOf, Between, Goes}
 
-module _ (x : Source) (fuel evcap ercap : ℕ) (names ev er sc : List ℕ) (none : (i : ℕ) → bitAt sc i ≡ false) where
-  start-means : Means (pastOf (evcap + 4) ercap x (P.start (x .ids) fuel)) x (blank fuel evcap ercap names .state) (bufs ev er sc) (P.start (x .ids) fuel)
+module _ (x : Source) (fuel evcap ercap : ℕ) (ev er sc : List ℕ) (none : (i : ℕ) → bitAt sc i ≡ false) where
+  start-means : Means (pastOf (evcap + 4) ercap x (P.start (x .ids) fuel)) x (tally (blank fuel evcap) (clean ercap) .state) (bufs ev er sc) (P.start (x .ids) fuel)
   unfolding recorded
   start-means =
       record {
@@ -29,7 +28,7 @@ module _ (x : Source) (fuel evcap ercap : ℕ) (names ev er sc : List ℕ) (none
         cache = record { expr = λ p h. none (2 * p); term = λ p h. none (2 * p + 1); below = λ i h. none i; above = λ i h. none i };
       }
 
-  pub starts : Between (evcap + 4) ercap x (blank fuel evcap ercap names) (bufs ev er sc) (P.start (x .ids) fuel)
+  pub starts : Between (evcap + 4) ercap x (tally (blank fuel evcap) (clean ercap)) (bufs ev er sc) (P.start (x .ids) fuel)
   unfolding overOf
   starts =
       record {
@@ -38,5 +37,5 @@ module _ (x : Source) (fuel evcap ercap : ℕ) (names ev er sc : List ℕ) (none
         few = λ z y. ((λ o. refl), omega arith);
       }
 
-  pub reads : {r : Desk} {b′ : Bufs} → Goes (P.items limits (length (x .ids))) x (blank fuel evcap ercap names) r (bufs ev er sc) b′ → Between (evcap + 4) ercap x r b′ (P.read limits (x .ids) fuel)
+  pub reads : {r : Tally} {b′ : Bufs} → Goes (P.items limits (length (x .ids))) x (tally (blank fuel evcap) (clean ercap)) r (bufs ev er sc) b′ → Between (evcap + 4) ercap x r b′ (P.read limits (x .ids) fuel)
   reads g = g .does (evcap + 4) ercap (P.start (x .ids) fuel) starts

@@ -10,17 +10,16 @@ use lib.ListN.{length, getD, length-drop}
 use Rattle.peg.specs.Run as P
 use Rattle.peg.specs.Run.{Choice, bad, stray}
 use Rattle.peg.specs.Render.{Source, Rec, flat-records, used, held}
-use Rattle.reader.specs.declared.state.State.{State}
-use Rattle.reader.specs.Bits.{ifb}
-use Rattle.reader.specs.Choice as C
-use Rattle.reader.specs.Means.{limits, bufs, Past, Means, Stands, Lines, recorded, overOf}
-use Rattle.reader.specs.Did.{Wf, Events}
-use Rattle.reader.proofs.Rooms.{flat-append, er-count, fits, first-of, spill, exceeds-none, exceeds-errors}
-use Rattle.reader.proofs.Core.{Sticky, sticky-mark}
-use Rattle.reader.proofs.Sticky.{sticky-trans}
-use Rattle.reader.proofs.Taken.{row, start-is, end-is}
-use Rattle.desk.specs.declared.items.Desk.{Desk}
-use Rattle.desk.specs.Items.{tell, Tells, junk-node, blamed, Strays}
+use Rattle.notes.specs.Whole.{Whole}
+use Rattle.notes.specs.Bits.{ifb}
+use Rattle.choice.specs.Choice as C
+use Rattle.notes.specs.Means.{limits, bufs, Past, Means, Stands, Lines, recorded, overOf}
+use Rattle.notes.specs.Did.{Wf, Events}
+use Rattle.notes.proofs.Rooms.{flat-append, er-count, fits, first-of, spill, exceeds-none, exceeds-errors}
+use Rattle.notes.proofs.Core.{Sticky, sticky-mark}
+use Rattle.notes.proofs.Sticky.{sticky-trans}
+use Rattle.steps.proofs.Taken.{row, start-is, end-is}
+use Rattle.desk.specs.Items.{Tally, tell, Tells, junk-node, blamed, Strays}
 use Rattle.desk.proofs.Junk.{sticky-junk}
 
 -- form 10's record is a moment of its own
@@ -47,11 +46,11 @@ sticky-stray p x a =
     (sticky-trans p x a (marks a) (P.blame a) (sticky-mark p x (P.note (a .want) (a .unwant) ((length (a .rest), stray) ∷ a .chosen) a)) (sticky-mark p x (P.put (a .rest) (bad (length (a .rest)) stray ∷ a .out) (P.note (a .want) (a .unwant) (a .chosen) (marks a)))))
     (sticky-junk p x (P.blame a))
 
-module _ (x : Source) (s s₁ : State) (before st en : ℕ) (ev er er₁ sc : List ℕ) (l : Lines (x .ids) (x .ends)) (h : s .pos < length (x .ids)) (z : s .full ≡ 0) (w : Wf x (bufs ev er sc) s)
+module _ (x : Source) (s s₁ : Whole) (before st en : ℕ) (ev er er₁ sc : List ℕ) (l : Lines (x .ids) (x .ends)) (h : s .pos < length (x .ids)) (z : s .full ≡ 0) (w : Wf x (bufs ev er sc) s)
     (q : st ≡ getD (0 ∷ x .ends) (s .pos) 0) (q′ : en ≡ getD (x .ends) (s .pos) 0) (u : C.Noted (st ∷ en ∷ 10 ∷ 0 ∷ []) s s₁ er er₁) where
   pub noted-wf : Wf x (bufs ev er₁ sc) s₁
   noted-wf =
-      subst (λ (y : State). Wf x (bufs ev er₁ sc) y) (sym (u .is))
+      subst (λ (y : Whole). Wf x (bufs ev er₁ sc) y) (sym (u .is))
       ((w .0 .0, w .0 .1, record { events = w .0 .2 .events; since = omega (arith, w .0 .2 .since, u .grows); errors = u .fits }), record { events = w .1 .events; errors = omega (arith, w .1 .errors, u .long); scratch = w .1 .scratch })
 
   module _ (p : Past) (a : P.State) (t : Stands p x s (bufs ev er sc) a) (e : a .chosen ≡ []) where
@@ -83,7 +82,7 @@ module _ (x : Source) (s s₁ : State) (before st en : ℕ) (ev er er₁ sc : Li
 
     noted-means : s₁ .full ≡ 0 → Means p x s₁ (bufs ev er₁ sc) (noted a)
     noted-means y =
-        subst (λ (r : State). Means p x r (bufs ev er₁ sc) (noted a)) (sym (u .is))
+        subst (λ (r : Whole). Means p x r (bufs ev er₁ sc) (noted a)) (sym (u .is))
         (record {
           rest = m .rest;
           mode = m .mode;
@@ -107,7 +106,7 @@ module _ (x : Source) (s s₁ : State) (before st en : ℕ) (ev er er₁ sc : Li
     noted-stands : Stands p x s₁ (bufs ev er₁ sc) (noted a)
     noted-stands = record { over = noted-over; means = noted-means }
 
-  pub strays : {d : Desk} {r : State} {ev₁ ev₂ : List ℕ} → Tells x s₁ before d (bufs ev er₁ sc) (bufs ev₁ er₁ sc) → Events junk-node x (d .state) r ev₁ ev₂ → Strays x s before (record { state = r; before = d .before }) (bufs ev er sc) (bufs ev₂ er₁ sc)
+  pub strays : {d : Tally} {r : Whole} {ev₁ ev₂ : List ℕ} → Tells x s₁ before d (bufs ev er₁ sc) (bufs ev₁ er₁ sc) → Events junk-node x (d .state) r ev₁ ev₂ → Strays x s before (record { state = r; before = d .before }) (bufs ev er sc) (bufs ev₂ er₁ sc)
   strays {d} {r} {ev₁} {ev₂} T J =
       let D = J .did er₁ sc (T .wf) in
       record {
@@ -118,6 +117,6 @@ module _ (x : Source) (s s₁ : State) (before st en : ℕ) (ev er er₁ sc : Li
         count = λ p a t f y. T .count p (noted a) (noted-stands p a t (f z .0)) (λ i. (f z .1, omega (arith, f z .2))) (D .room y);
         wf = D .wf;
         room = λ y. z;
-        first = D .first ∙ ap (λ (y : State). y .first) (T .is) ∙ ap (λ (y : State). y .first) (u .is);
-        ahead = omega (arith, D .ahead, ap (λ (y : State). y .pos) (T .is), ap (λ (y : State). y .pos) (u .is));
+        first = D .first ∙ ap (λ (y : Whole). y .first) (T .is) ∙ ap (λ (y : Whole). y .first) (u .is);
+        ahead = omega (arith, D .ahead, ap (λ (y : Whole). y .pos) (T .is), ap (λ (y : Whole). y .pos) (u .is));
       }

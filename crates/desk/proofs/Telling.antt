@@ -15,13 +15,12 @@ use Rattle.peg.specs.Run.{Event, opened, leaf, closed, bad, Choice}
 use Rattle.peg.specs.Buffer.{four, buffer}
 use Rattle.peg.specs.Render.{Source, Rec, record-of, records, flat-records, bads, said, used, starts-at, ends-at}
 use Rattle.peg.proofs.Buffer.{buffer-bad, buffer-length}
-use Rattle.reader.specs.declared.state.State.{State}
-use Rattle.reader.specs.Bits.{ifb}
-use Rattle.reader.specs.Means.{limits, bufs, Past, recorded, Chosen, Means, Stands, overOf}
-use Rattle.reader.specs.Did.{Wf}
-use Rattle.reader.proofs.Rooms.{flat-append, said-is, ev-count, fits, first-of, spill, full-first, exceeds-none, exceeds-events}
-use Rattle.desk.specs.declared.items.Desk.{Desk}
-use Rattle.desk.specs.Items.{most, notes, Flushed, withItem, tell, told, Numbered, Tells}
+use Rattle.notes.specs.Whole.{Whole}
+use Rattle.notes.specs.Bits.{ifb}
+use Rattle.notes.specs.Means.{limits, bufs, Past, recorded, Chosen, Means, Stands, overOf}
+use Rattle.notes.specs.Did.{Wf}
+use Rattle.notes.proofs.Rooms.{flat-append, said-is, ev-count, fits, first-of, spill, full-first, exceeds-none, exceeds-events}
+use Rattle.desk.specs.Items.{Tally, most, notes, Flushed, withItem, tell, told, Numbered, Tells}
 use Rattle.desk.proofs.Writing.{notes-one, notes-none}
 
 module _ (x : Source) where
@@ -82,11 +81,11 @@ item-part {x} {p} {er = er} {item = item} {errors = errors} {es = es} k i l =
     ∙ ap (drop item) (sym (take-add item (er - item) errors) ∙ ap (λ (j : ℕ). take j errors) e ∙ k .is ∙ flat-append (p .records) (recorded x es))
     ∙ drop-at (flat-records (p .records)) (flat-records (recorded x es)) item (sym (k .since))
 
-module _ (x : Source) (s : State) (before : ℕ) (d : Desk) (ev ev′ er sc : List ℕ) (w : Wf x (bufs ev er sc) s) (u : Flushed (take (s .er - s .item) (drop (s .item) er)) before s d ev ev′) where
+module _ (x : Source) (s : Whole) (before : ℕ) (d : Tally) (ev ev′ er sc : List ℕ) (w : Wf x (bufs ev er sc) s) (u : Flushed (take (s .er - s .item) (drop (s .item) er)) before s d ev ev′) where
   abbrev q : List ℕ
   q = notes before 0 (take (s .er - s .item) (drop (s .item) er))
 
-  abbrev after : Desk
+  abbrev after : Tally
   after = record { state = withItem (s .er) (d .state); before = d .before }
 
   module _ (p : Past) (a : P.State) (t : Stands p x s (bufs ev er sc) a) (n : Numbered p s before a) where
@@ -131,7 +130,7 @@ module _ (x : Source) (s : State) (before : ℕ) (d : Desk) (ev ev′ er sc : Li
     told-means z =
         let y = u .puts .room z in
         let m = t .means y in
-        subst (λ (r : State). Means (told p x a) x (withItem (s .er) r) (bufs ev′ er sc) (tell a)) (sym (u .puts .is))
+        subst (λ (r : Whole). Means (told p x a) x (withItem (s .er) r) (bufs ev′ er sc) (tell a)) (sym (u .puts .is))
         (record {
           rest = m .rest;
           mode = m .mode;
@@ -156,7 +155,7 @@ module _ (x : Source) (s : State) (before : ℕ) (d : Desk) (ev ev′ er sc : Li
         count = λ p a t n z.
             let y = u .puts .room z in
             omega (arith, u .counted, size p a t n y, n y .0, length-append (p .records) (recorded x (a .chosen)), recorded-length x (a .chosen));
-        wf = subst (λ (r : State). Wf x (bufs ev′ er sc) (withItem (s .er) r)) (sym (u .puts .is)) ((w .0 .0, w .0 .1, record { events = u .puts .fits; since = le-refl _; errors = w .0 .2 .errors }), record { events = omega (arith, w .1 .events, u .puts .long); errors = w .1 .errors; scratch = w .1 .scratch });
+        wf = subst (λ (r : Whole). Wf x (bufs ev′ er sc) (withItem (s .er) r)) (sym (u .puts .is)) ((w .0 .0, w .0 .1, record { events = u .puts .fits; since = le-refl _; errors = w .0 .2 .errors }), record { events = omega (arith, w .1 .events, u .puts .long); errors = w .1 .errors; scratch = w .1 .scratch });
         is = ap (withItem (s .er)) (u .puts .is);
         room = u .puts .room;
         grows = u .puts .grows;

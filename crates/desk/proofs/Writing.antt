@@ -12,11 +12,11 @@ use lib.Dec.{ltb}
 use lib.ListN.{length, getD, take, drop, length-append, length-drop}
 use lib.Seq.{take-take, getD-drop, drop-drop, drop-append-seam}
 use Rattle.peg.specs.Buffer.{four}
-use Rattle.reader.specs.declared.state.State.{State}
-use Rattle.reader.specs.Bits.{ifb}
-use Rattle.reader.specs.Change.{withEv, withFull}
-use Rattle.reader.specs.Did.{Put}
-use Rattle.desk.specs.Items.{most, notes, Puts, Flushed}
+use Rattle.notes.specs.Whole.{Whole}
+use Rattle.notes.specs.Bits.{ifb}
+use Rattle.notes.specs.Change.{withEv, withFull}
+use Rattle.notes.specs.Did.{Put}
+use Rattle.desk.specs.Items.{Tally, most, notes, Puts, Flushed}
 
 -- WHAT IS READ
 notes-pass : (i k : ℕ) (l : List ℕ) → notes i k l ≡ notes i 0 (drop k l)
@@ -59,7 +59,7 @@ notes-at i l at g h =
     ∙ ap (λ (t : List ℕ). four 4 i (getD l at 0) (getD l (at + 1) 0) ++ notes (suc i) 0 t) (drop-drop (getD (drop at l) 3 0 + 4) at l ∙ ap (λ (j : ℕ). drop j l) n)
 
 -- WHAT IS WRITTEN
-pub puts-none : {s : State} {ev : List ℕ} → s .ev ≤ s .evcap → Puts [] s s ev ev
+pub puts-none : {s : Whole} {ev : List ℕ} → s .ev ≤ s .evcap → Puts [] s s ev ev
 puts-none {s} {ev} h =
     record {
       is = refl;
@@ -75,9 +75,9 @@ puts-none {s} {ev} h =
     }
 
 -- one event more
-module _ {q : List ℕ} {s r t : State} {ev ev₁ ev₂ : List ℕ} (u : Puts q s r ev ev₁) (a b c d : ℕ) (v : Put (four a b c d) r t ev₁ ev₂) where
+module _ {q : List ℕ} {s r t : Whole} {ev ev₁ ev₂ : List ℕ} (u : Puts q s r ev ev₁) (a b c d : ℕ) (v : Put (four a b c d) r t ev₁ ev₂) where
   caps : r .evcap ≡ s .evcap
-  caps = ap (λ (y : State). y .evcap) (u .is)
+  caps = ap (λ (y : Whole). y .evcap) (u .is)
 
   longer : length (q ++ four a b c d) ≡ length q + 4
   longer = length-append q (four a b c d)
@@ -95,7 +95,7 @@ module _ {q : List ℕ} {s r t : State} {ev ev₁ ev₂ : List ℕ} (u : Puts q 
   pub puts-more : Puts (q ++ four a b c d) s t ev ev₂
   puts-more =
       record {
-        is = v .is ∙ ap (λ (y : State). withEv (t .ev) (withFull (t .full) y)) (u .is);
+        is = v .is ∙ ap (λ (y : Whole). withEv (t .ev) (withFull (t .full) y)) (u .is);
         stuck = λ n. v .stuck (λ z. n (u .room z)) ∙ u .stuck n;
         filled = λ z. fills z (ℕ-discrete (r .full) 0);
         room = λ z. u .room (v .room z);
@@ -108,7 +108,7 @@ module _ {q : List ℕ} {s r t : State} {ev ev₁ ev₂ : List ℕ} (u : Puts q 
       }
 
 -- THE LOOP: what was written, with what is left to read from a place on, is all
-pub record Flushing (records : List ℕ) (before : ℕ) (s r : State) (ev ev′ : List ℕ) (at index : ℕ) : Type 0 where
+pub record Flushing (records : List ℕ) (before : ℕ) (s r : Whole) (ev ev′ : List ℕ) (at index : ℕ) : Type 0 where
   pub done : List ℕ
   pub joins : done ++ notes index 0 (drop at records) ≡ notes before 0 records
   pub puts : Puts done s r ev ev′
@@ -117,14 +117,14 @@ pub record Flushing (records : List ℕ) (before : ℕ) (s r : State) (ev ev′ 
   pub near : at ≤ length records + 4294967296
   pub low : index ≤ most
 
-pub flushing : {records : List ℕ} {before : ℕ} {s : State} {ev : List ℕ} → s .ev ≤ s .evcap → s .evcap ≤ length ev → before ≤ most → Flushing records before s s ev ev 0 before
+pub flushing : {records : List ℕ} {before : ℕ} {s : Whole} {ev : List ℕ} → s .ev ≤ s .evcap → s .evcap ≤ length ev → before ≤ most → Flushing records before s s ev ev 0 before
 flushing h l g = record { done = []; joins = refl; puts = puts-none h; counted = omega arith; fits = l; near = omega arith; low = g }
 
-module _ {records : List ℕ} {before : ℕ} {s r : State} {ev ev′ : List ℕ} {at index : ℕ} (f : Flushing records before s r ev ev′ at index) where
+module _ {records : List ℕ} {before : ℕ} {s r : Whole} {ev ev′ : List ℕ} {at index : ℕ} (f : Flushing records before s r ev ev′ at index) where
   pub flush-open : (r .ev ≤ r .evcap) × (r .evcap ≤ length ev′)
-  flush-open = (omega (arith, f .puts .fits, ap (λ (y : State). y .evcap) (f .puts .is)), f .fits)
+  flush-open = (omega (arith, f .puts .fits, ap (λ (y : Whole). y .evcap) (f .puts .is)), f .fits)
 
-  pub flush-on : {t : State} {ev₂ : List ℕ} → at + 4 ≤ length records → (index ≡ most → ⊥) → getD records (at + 3) 0 < 4294967296 → Put (four 4 index (getD records at 0) (getD records (at + 1) 0)) r t ev′ ev₂ → Flushing records before s t ev ev₂ (at + getD records (at + 3) 0 + 4) (index + 1)
+  pub flush-on : {t : Whole} {ev₂ : List ℕ} → at + 4 ≤ length records → (index ≡ most → ⊥) → getD records (at + 3) 0 < 4294967296 → Put (four 4 index (getD records at 0) (getD records (at + 1) 0)) r t ev′ ev₂ → Flushing records before s t ev ev₂ (at + getD records (at + 3) 0 + 4) (index + 1)
   flush-on {t} {ev₂} h n w v =
       let q = four 4 index (getD records at 0) (getD records (at + 1) 0) in
       record {
@@ -135,7 +135,7 @@ module _ {records : List ℕ} {before : ℕ} {s r : State} {ev ev′ : List ℕ}
             ∙ f .joins;
         puts = puts-more (f .puts) 4 index (getD records at 0) (getD records (at + 1) 0) v;
         counted = omega (arith, f .counted, length-append (f .done) q);
-        fits = omega (arith, f .fits, v .long, ap (λ (y : State). y .evcap) (v .is));
+        fits = omega (arith, f .fits, v .long, ap (λ (y : Whole). y .evcap) (v .is));
         near = omega arith;
         low = omega (arith, n, f .low);
       }

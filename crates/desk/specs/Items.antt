@@ -4,17 +4,27 @@ use mathlib.Core.Path.{_≡_}
 use mathlib.Core.List.{List, [], _∷_, _++_}
 use mathlib.Core.Bool.{Bool, true, false}
 use lib.Dec.{eqb, leb, ltb}
-use lib.ListN.{length, take}
+use lib.ListN.{length, take, set, replicate}
 use Rattle.kinds.specs.Kinds as k
 use Rattle.peg.specs.Run as P
 use Rattle.peg.specs.Buffer.{four}
 use Rattle.peg.specs.Render.{Source, Rec, records}
-use Rattle.reader.specs.declared.state.State.{State}
-use Rattle.reader.specs.Bits.{ifb}
-use Rattle.reader.specs.Change.{withEv, withFull}
-use Rattle.reader.specs.Means.{limits, Bufs, Past, Stands, recorded}
-use Rattle.reader.specs.Did.{Wf}
+use Rattle.notes.specs.Whole.{Whole}
+use Rattle.notes.specs.Bits.{ifb}
+use Rattle.notes.specs.Change.{withEv, withFull}
+use Rattle.notes.specs.Means.{limits, Bufs, Past, Stands, recorded}
+use Rattle.notes.specs.Did.{Wf}
+use Rattle.steps.specs.Steps.{whole}
 use Rattle.desk.specs.declared.items.Desk.{Desk}
+
+-- the state as a whole, and how many error events stand written
+pub record Tally : Type 0 where
+  pub state : Whole
+  pub before : ℕ
+
+-- the same of a desk with what the list notes
+abbrev pub tally : Desk → List ℕ → Tally
+tally d l = record { state = whole (d .state) l; before = d .before }
 
 -- an index of 32 bits can be counted up to here
 abbrev pub most : ℕ
@@ -30,7 +40,7 @@ notes i zero (a ∷ []) = []
 notes i k [] = []
 
 -- numbers were written at the end of the events, if there was room
-pub record Puts (q : List ℕ) (s r : State) (ev ev′ : List ℕ) : Type 0 where
+pub record Puts (q : List ℕ) (s r : Whole) (ev ev′ : List ℕ) : Type 0 where
   pub is : r ≡ withEv (r .ev) (withFull (r .full) s)
   pub stuck : (s .full ≡ 0 → ⊥) → r .full ≡ s .full
   pub filled : s .full ≡ 0 → r .full ≡ ifb (ltb (s .evcap) (s .ev + length q)) 7 0
@@ -43,12 +53,12 @@ pub record Puts (q : List ℕ) (s r : State) (ev ev′ : List ℕ) : Type 0 wher
   pub kept : take (s .ev) ev′ ≡ take (s .ev) ev
 
 -- the events of the records were written, and counted
-pub record Flushed (records : List ℕ) (before : ℕ) (s : State) (r : Desk) (ev ev′ : List ℕ) : Type 0 where
+pub record Flushed (records : List ℕ) (before : ℕ) (s : Whole) (r : Tally) (ev ev′ : List ℕ) : Type 0 where
   pub puts : Puts (notes before 0 records) s (r .state) ev ev′
   pub counted : 4 * r .before ≡ 4 * before + length (notes before 0 records)
 
-abbrev pub withItem : ℕ → State → State
-withItem n s = record { pos = s .pos; fuel = s .fuel; mode = s .mode; ev = s .ev; evcap = s .evcap; er = s .er; ercap = s .ercap; item = n; first = s .first; far = s .far; want = s .want; unwant = s .unwant; full = s .full; count = s .count; names = s .names }
+abbrev pub withItem : ℕ → Whole → Whole
+withItem n s = record { pos = s .pos; fuel = s .fuel; mode = s .mode; ev = s .ev; evcap = s .evcap; full = s .full; want = s .want; unwant = s .unwant; count = s .count; mask = s .mask; codes = s .codes; er = s .er; ercap = s .ercap; item = n; first = s .first; far = s .far }
 
 -- "Pending errors .. are written as events": the chosen ones are written, and none is left
 abbrev pub tell : P.Reader
@@ -62,11 +72,11 @@ abbrev pub told : Past → Source → P.State → Past
 told p x a = since p (p .records ++ recorded x (a .chosen))
 
 -- as many error events stand written as there are records, and there are numbers left for those of the errors that are chosen
-abbrev pub Numbered : Past → State → ℕ → P.State → Type 0
+abbrev pub Numbered : Past → Whole → ℕ → P.State → Type 0
 Numbered p s before a = s .full ≡ 0 → (before ≡ length (p .records)) × (before + length (a .chosen) ≤ most)
 
 -- the chosen errors were written as events
-pub record Tells (x : Source) (s : State) (before : ℕ) (r : Desk) (b b′ : Bufs) : Type 0 where
+pub record Tells (x : Source) (s : Whole) (before : ℕ) (r : Tally) (b b′ : Bufs) : Type 0 where
   pub does : (p : Past) (a : P.State) → Stands p x s b a → Numbered p s before a → Stands (told p x a) x (r .state) b′ (tell a)
   pub count : (p : Past) (a : P.State) → Stands p x s b a → Numbered p s before a → r .state .full ≡ 0 → r .before ≡ length (told p x a .records)
   pub wf : Wf x b′ (r .state)
@@ -86,11 +96,11 @@ abbrev pub blamed : Past → Source → P.State → Past
 blamed p x a = since p (p .records ++ recorded x ((length (a .rest), P.stray) ∷ []))
 
 -- form 10 can be numbered, and no error is pending
-abbrev pub Free : Past → State → ℕ → P.State → Type 0
+abbrev pub Free : Past → Whole → ℕ → P.State → Type 0
 Free p s before a = s .full ≡ 0 → (a .chosen ≡ []) × (before ≡ length (p .records)) × (before < most)
 
 -- a row that begins no rule was written as an error
-pub record Strays (x : Source) (s : State) (before : ℕ) (r : Desk) (b b′ : Bufs) : Type 0 where
+pub record Strays (x : Source) (s : Whole) (before : ℕ) (r : Tally) (b b′ : Bufs) : Type 0 where
   pub does : (p : Past) (a : P.State) → Stands p x s b a → Free p s before a → Stands (blamed p x a) x (r .state) b′ (P.stray-item a)
   pub count : (p : Past) (a : P.State) → Stands p x s b a → Free p s before a → r .state .full ≡ 0 → r .before ≡ length (blamed p x a .records)
   pub wf : Wf x b′ (r .state)
@@ -107,7 +117,7 @@ abbrev pub pastOf : ℕ → ℕ → Source → P.State → Past
 pastOf E R x a = record { event-room = E; error-room = R; records = records limits x (a .out) [] }
 
 -- the row at hand was read; the errors of n rows that are to be written now are few
-pub record Hands (x : Source) (s : State) (before : ℕ) (r : Desk) (b b′ : Bufs) : Type 0 where
+pub record Hands (x : Source) (s : Whole) (before : ℕ) (r : Tally) (b b′ : Bufs) : Type 0 where
   pub does : (p : Past) (a : P.State) → Stands p x s b a → Free p s before a → Stands (pastOf (p .event-room) (p .error-room) x (at-hand a)) x (r .state) b′ (at-hand a)
   pub count : (p : Past) (a : P.State) → Stands p x s b a → Free p s before a → r .state .full ≡ 0 → r .before ≡ length (records limits x (at-hand a .out) [])
   pub few : (p : Past) (a : P.State) → Stands p x s b a → Free p s before a → r .state .full ≡ 0 → r .before + length (at-hand a .chosen) ≤ before + (length (x .ids) - s .first) + 1
@@ -117,33 +127,33 @@ pub record Hands (x : Source) (s : State) (before : ℕ) (r : Desk) (b b′ : Bu
   pub ahead : s .pos ≤ r .state .pos
 
 -- "between items it holds position, fuel and outputs only"
-abbrev pub settled : State → State
-settled s = record { pos = s .pos; fuel = s .fuel; mode = ifb (eqb (s .mode) 1) 0 (s .mode); ev = s .ev; evcap = s .evcap; er = s .er; ercap = s .ercap; item = s .item; first = s .pos; far = s .pos; want = 0; unwant = 0; full = s .full; count = s .count; names = s .names }
+abbrev pub settled : Whole → Whole
+settled s = record { pos = s .pos; fuel = s .fuel; mode = ifb (eqb (s .mode) 1) 0 (s .mode); ev = s .ev; evcap = s .evcap; full = s .full; want = 0; unwant = 0; count = s .count; mask = s .mask; codes = s .codes; er = s .er; ercap = s .ercap; item = s .item; first = s .pos; far = s .pos }
 
-abbrev pub Settled : State → Type 0
+abbrev pub Settled : Whole → Type 0
 Settled s = (s .item ≡ s .er) × (s .first ≡ s .pos)
 
 -- no item is to be read: a room was exceeded, the reader stopped, or no row of n is left
-abbrev pub over : ℕ → State → Bool
+abbrev pub over : ℕ → Whole → Bool
 over n s = ifb (eqb (s .full) 0) (ifb (eqb (s .mode) 0) (leb n (s .pos)) true) true
 
 -- between two items, E and R being the rooms. Each item takes a row and brings at most one record for each row that is left from its first on, and
 -- for the source's end; so the records before row `pos` can be numbered by 32 bits
-pub record Between (E R : ℕ) (x : Source) (d : Desk) (b : Bufs) (a : P.State) : Type 0 where
+pub record Between (E R : ℕ) (x : Source) (d : Tally) (b : Bufs) (a : P.State) : Type 0 where
   pub stands : Stands (pastOf E R x a) x (d .state) b a
   pub count : d .state .full ≡ 0 → d .before ≡ length (records limits x (a .out) [])
   pub few : d .state .full ≡ 0 → d .state .mode ≡ 0 → (d .state .pos ≡ 0 → d .before ≡ 0) × (d .before ≤ d .state .pos * 65536 + 1)
 
 -- from between two items to between two items, f being done
-pub record Goes (f : P.Reader) (x : Source) (d r : Desk) (b b′ : Bufs) : Type 0 where
+pub record Goes (f : P.Reader) (x : Source) (d r : Tally) (b b′ : Bufs) : Type 0 where
   pub does : (E R : ℕ) (a : P.State) → Between E R x d b a → Between E R x r b′ (f a)
   pub wf : Wf x b′ (r .state)
   pub settles : Settled (r .state)
 
 -- before the first item
-abbrev pub blank : ℕ → ℕ → ℕ → List ℕ → Desk
-blank fuel evcap ercap names =
-    record {
-      state = record { pos = 0; fuel = fuel; mode = 0; ev = 0; evcap = evcap; er = 0; ercap = ercap; item = 0; first = 0; far = 0; want = 0; unwant = 0; full = 0; count = 0; names = names };
-      before = 0;
-    }
+abbrev pub blank : ℕ → ℕ → Desk
+blank fuel evcap = record { state = record { pos = 0; ev = 0; evcap = evcap; fuel = fuel; mode = 0; full = 0 }; before = 0 }
+
+-- where nothing is noted but how many numbers of error records may be written
+abbrev pub clean : ℕ → List ℕ
+clean ercap = set (replicate 67 0) 5 ercap

@@ -1,22 +1,31 @@
 // Items, one after another.
+use choice::record;
 use grammar::parts::rule_item;
-use kinds::contains;
 use kinds::kind;
 use kinds::set;
-use reader::cache::forget;
-use reader::rows::start_of;
-use reader::state::State;
+use kinds::within;
+use notes::cache::forget;
+use notes::names::ER;
+use notes::names::FAR;
+use notes::names::FIRST;
+use notes::names::ITEM;
+use notes::names::UNWANT;
+use notes::names::WANT;
+use notes::rows::start_of;
+use steps::state::State;
 ghost use mathlib.Core.Path.{_≡_};
-ghost use mathlib.Core.List.{List};
+ghost use mathlib.Core.List.{List, []};
 ghost use Prim.Native.Nat.{ℕ, _*_, _≤_, _<_};
-ghost use lib.ListN.{length};
+ghost use lib.ListN.{length, getD};
 ghost use Rattle.peg.specs.Render.{Source};
 ghost use Rattle.peg.specs.Run as P;
-ghost use Rattle.reader.specs.Bits.{Forgot};
-ghost use Rattle.reader.specs.Means.{limits, source, bufs, Lines, Rows};
-ghost use Rattle.reader.specs.Did.{Ok, Wf, Did, Events};
+ghost use Rattle.notes.specs.Bits.{Forgot};
+ghost use Rattle.notes.specs.Means.{limits, source, bufs, Lines, Rows};
+ghost use Rattle.notes.specs.Did.{Wf, Coded};
+ghost use Rattle.steps.specs.Steps.{whole, Tabled, Fits, Ready, Writes};
+ghost use Rattle.grammar.specs.Table.{Lends};
 ghost use Rattle.desk.specs.Items as Items;
-ghost use Rattle.desk.specs.Items.{Flushed, Tells, Strays, Hands, Goes, Settled, settled, junk-node};
+ghost use Rattle.desk.specs.Items.{tally, Flushed, Tells, Strays, Hands, Goes, Settled, settled, junk-node};
 
 // The state, and how many error events stand written.
 pub struct Desk {
@@ -26,8 +35,8 @@ pub struct Desk {
 
 // Writes the events of an item's records, the first with index `before`. The index stays within its bits, whatever stands in the records.
 pub fn flush(mut s: State, before: u32, records: &[u32], events: &mut [u32]) -> Desk
-    requires { ⌜ (s .ev ≤ s .evcap) × (s .evcap ≤ length (now events)) ⌝ }
-    ensures { λ r. ⌜ Flushed (now (records .entry)) before s r (now (events .entry)) (now (events .exit)) ⌝ }
+    requires { ⌜ Fits s (now events) ⌝ }
+    ensures { λ r. ⌜ ((l : List ℕ) → Flushed (now (records .entry)) before (whole s l) (tally r l) (now (events .entry)) (now (events .exit))) ⌝ }
 {
     let mut at = 0;
     let mut index = before;
@@ -52,31 +61,39 @@ pub fn flush(mut s: State, before: u32, records: &[u32], events: &mut [u32]) -> 
 }
 
 // Writes the pending errors as events; from then on they are no more pending.
-pub fn tell(s: State, before: u32, errors: &[u32], events: &mut [u32]) -> Desk
-    requires { ⌜ (s .ev ≤ s .evcap) × (s .evcap ≤ length (now events)) × (s .item ≤ s .er) × (s .er ≤ length (now errors)) ⌝ }
-    ensures { λ r. ⌜ ((x : Source) (sc : List ℕ) → Wf x (bufs (now (events .entry)) (now (errors .entry)) sc) s → Tells x s before r (bufs (now (events .entry)) (now (errors .entry)) sc) (bufs (now (events .exit)) (now (errors .entry)) sc)) ⌝ }
+pub fn tell(
+    s: State,
+    before: u32,
+    errors: &[u32],
+    events: &mut [u32],
+    notes: &mut [usize; 67],
+) -> Desk
+    requires { ⌜ Fits s (now events) × (getD (now notes) 6 0 ≤ getD (now notes) 4 0) × (getD (now notes) 4 0 ≤ length (now errors)) ⌝ }
+    ensures { λ r. ⌜ ((x : Source) (sc : List ℕ) → Wf x (bufs (now (events .entry)) (now (errors .entry)) sc) (whole s (now (notes .entry))) → Tells x (whole s (now (notes .entry))) before (tally r (now (notes .exit))) (bufs (now (events .entry)) (now (errors .entry)) sc) (bufs (now (events .exit)) (now (errors .entry)) sc)) ⌝ }
 {
-    let item = s.item;
-    let er = s.er;
+    let item = notes[ITEM];
+    let er = notes[ER];
     let d = flush(s, before, &errors[item..er], events);
-    let mut t = d.state;
-    t.item = er;
-    Desk {
-        state: t,
-        before: d.before,
-    }
+    notes[ITEM] = er;
+    d
 }
 
 // An ERROR node up to the next rule, without fuel.
-pub fn junk(mut s: State, ids: &[u32], ends: &[u32], events: &mut [u32]) -> State
-    requires { ⌜ Lines (now ids) (now ends) × Ok (length (now ids)) s × (s .evcap ≤ length (now events)) ⌝ }
-    ensures { λ r. ⌜ ((bytes : List ℕ) → Events junk-node (source bytes (now (ids .entry)) (now (ends .entry))) s r (now (events .entry)) (now (events .exit))) ⌝ }
+pub fn junk(
+    mut s: State,
+    ids: &[u32],
+    ends: &[u32],
+    events: &mut [u32],
+    sets: &[[u64; 2]; 55],
+) -> State
+    requires { ⌜ Lines (now ids) (now ends) × Fits s (now events) × (s .pos ≤ length (now ids)) × Tabled (now sets) ⌝ }
+    ensures { λ r. ⌜ Writes junk-node (now (ids .entry)) (now (ends .entry)) s r (now (events .entry)) (now (events .exit)) ⌝ }
 {
     let from = s.pos;
     let start = start_of(from, ends);
     s = s.put(1, 0, start, start, events);
     let at = s.ev;
-    s = s.skip_to(set::RULE_KEYWORDS, ids, ends, events);
+    s = s.skip_to(set::RULE_KEYWORDS, ids, ends, events, sets);
     s.shut(kind::ERROR, from, at, ends, events)
 }
 
@@ -88,16 +105,18 @@ pub fn stray(
     ends: &[u32],
     events: &mut [u32],
     errors: &mut [u32],
+    notes: &mut [usize; 67],
+    sets: &[[u64; 2]; 55],
 ) -> Desk
-    requires { ⌜ Lines (now ids) (now ends) × Ok (length (now ids)) s × (s .evcap ≤ length (now events)) × (s .ercap ≤ length (now errors)) × (s .pos < length (now ids)) × (s .full ≡ 0) ⌝ }
-    ensures { λ r. ⌜ ((bytes sc : List ℕ) → Wf (source bytes (now (ids .entry)) (now (ends .entry))) (bufs (now (events .entry)) (now (errors .entry)) sc) s → Strays (source bytes (now (ids .entry)) (now (ends .entry))) s before r (bufs (now (events .entry)) (now (errors .entry)) sc) (bufs (now (events .exit)) (now (errors .exit)) sc)) ⌝ }
+    requires { ⌜ Ready (now ids) (now ends) s (now notes) (now events) × (getD (now notes) 5 0 ≤ length (now errors)) × (s .pos < length (now ids)) × (s .full ≡ 0) × Tabled (now sets) ⌝ }
+    ensures { λ r. ⌜ ((bytes sc : List ℕ) → Wf (source bytes (now (ids .entry)) (now (ends .entry))) (bufs (now (events .entry)) (now (errors .entry)) sc) (whole s (now (notes .entry))) → Strays (source bytes (now (ids .entry)) (now (ends .entry))) (whole s (now (notes .entry))) before (tally r (now (notes .exit))) (bufs (now (events .entry)) (now (errors .entry)) sc) (bufs (now (events .exit)) (now (errors .exit)) sc)) ⌝ }
 {
     let at = s.pos;
     let start = start_of(at, ends);
     let end = ends[at];
-    s = s.record(start, end, 10, 0, errors);
-    let d = tell(s, before, errors, events);
-    let t = junk(d.state, ids, ends, events);
+    s.full = record(start, end, 10, 0, [0u8; 96], errors, notes);
+    let d = tell(s, before, errors, events, notes);
+    let t = junk(d.state, ids, ends, events, sets);
     Desk {
         state: t,
         before: d.before,
@@ -114,9 +133,12 @@ pub fn at_hand(
     events: &mut [u32],
     errors: &mut [u32],
     scratch: &mut [u64],
+    notes: &mut [usize; 67],
+    table: &[u32; 284],
+    sets: &[[u64; 2]; 55],
 ) -> Desk
-    requires { ⌜ Rows (source (now src) (now ids) (now ends)) × Wf (source (now src) (now ids) (now ends)) (bufs (now events) (now errors) (now scratch)) s ⌝ }
-    ensures { λ r. ⌜ Hands (source (now (src .entry)) (now (ids .entry)) (now (ends .entry))) s before r (bufs (now (events .entry)) (now (errors .entry)) (now (scratch .entry))) (bufs (now (events .exit)) (now (errors .exit)) (now (scratch .exit))) ⌝ }
+    requires { ⌜ Rows (source (now src) (now ids) (now ends)) × Wf (source (now src) (now ids) (now ends)) (bufs (now events) (now errors) (now scratch)) (whole s (now notes)) × Lends (now table) (now sets) ⌝ }
+    ensures { λ r. ⌜ Hands (source (now (src .entry)) (now (ids .entry)) (now (ends .entry))) (whole s (now (notes .entry))) before (tally r (now (notes .exit))) (bufs (now (events .entry)) (now (errors .entry)) (now (scratch .entry))) (bufs (now (events .exit)) (now (errors .exit)) (now (scratch .exit))) ⌝ }
 {
     if s.full != 0 {
         return Desk {
@@ -132,30 +154,41 @@ pub fn at_hand(
         };
     }
     let id = ids[at];
-    if contains(set::RULE_KEYWORDS, id) {
-        let t = rule_item(s, src, ids, ends, events, errors, scratch);
+    if within(set::RULE_KEYWORDS, id, sets) {
+        let t = rule_item(
+            s,
+            src,
+            ids,
+            ends,
+            events,
+            errors,
+            scratch,
+            notes,
+            table,
+            sets,
+        );
         return Desk {
             state: t,
             before: before,
         };
     }
-    stray(s, before, ids, ends, events, errors)
+    stray(s, before, ids, ends, events, errors, notes, sets)
 }
 
 // What an item leaves behind is given up, but for place, fuel and outputs.
-pub fn settle(d: Desk, scratch: &mut [u64]) -> Desk
-    requires { ⌜ 2 * d .state .far ≤ 64 * length (now scratch) ⌝ }
-    ensures { λ r. ⌜ (r .state ≡ settled (d .state)) × (r .before ≡ d .before) × Forgot (d .state .first) (d .state .far) (now (scratch .entry)) (now (scratch .exit)) ⌝ }
+pub fn settle(d: Desk, scratch: &mut [u64], notes: &mut [usize; 67]) -> Desk
+    requires { ⌜ (2 * getD (now notes) 8 0 ≤ 64 * length (now scratch)) × Coded (now notes) ⌝ }
+    ensures { λ r. ⌜ (whole (r .state) (now (notes .exit)) ≡ settled (whole (d .state) (now (notes .entry)))) × (r .before ≡ d .before) × Forgot (getD (now (notes .entry)) 7 0) (getD (now (notes .entry)) 8 0) (now (scratch .entry)) (now (scratch .exit)) ⌝ }
 {
     let mut s = d.state;
-    let from = s.first;
-    let to = s.far;
+    let from = notes[FIRST];
+    let to = notes[FAR];
     forget(from, to, scratch);
     let at = s.pos;
-    s.first = at;
-    s.far = at;
-    s.want = 0;
-    s.unwant = 0;
+    notes[FIRST] = at;
+    notes[FAR] = at;
+    notes[WANT] = 0;
+    notes[UNWANT] = 0;
     if s.mode == 1 {
         s.mode = 0;
         return Desk {
@@ -171,7 +204,7 @@ pub fn settle(d: Desk, scratch: &mut [u64]) -> Desk
 
 // Whether no item is to be read: a room was exceeded, the reader stopped, or no row is left.
 pub fn over(s: State, ids: &[u32]) -> bool
-    ensures { λ r. ⌜ r ≡ Items.over (length (now (ids .entry))) s ⌝ }
+    ensures { λ r. ⌜ r ≡ Items.over (length (now (ids .entry))) (whole s []) ⌝ }
 {
     if s.full != 0 {
         return true;
@@ -191,18 +224,33 @@ pub fn item(
     events: &mut [u32],
     errors: &mut [u32],
     scratch: &mut [u64],
+    notes: &mut [usize; 67],
+    table: &[u32; 284],
+    sets: &[[u64; 2]; 55],
 ) -> Desk
-    requires { ⌜ Rows (source (now src) (now ids) (now ends)) × Wf (source (now src) (now ids) (now ends)) (bufs (now events) (now errors) (now scratch)) (d .state) × Settled (d .state) ⌝ }
-    ensures { λ r. ⌜ Goes (P.items limits 1) (source (now (src .entry)) (now (ids .entry)) (now (ends .entry))) d r (bufs (now (events .entry)) (now (errors .entry)) (now (scratch .entry))) (bufs (now (events .exit)) (now (errors .exit)) (now (scratch .exit))) ⌝ }
+    requires { ⌜ Rows (source (now src) (now ids) (now ends)) × Wf (source (now src) (now ids) (now ends)) (bufs (now events) (now errors) (now scratch)) (whole (d .state) (now notes)) × Settled (whole (d .state) (now notes)) × Lends (now table) (now sets) ⌝ }
+    ensures { λ r. ⌜ Goes (P.items limits 1) (source (now (src .entry)) (now (ids .entry)) (now (ends .entry))) (tally d (now (notes .entry))) (tally r (now (notes .exit))) (bufs (now (events .entry)) (now (errors .entry)) (now (scratch .entry))) (bufs (now (events .exit)) (now (errors .exit)) (now (scratch .exit))) ⌝ }
 {
     let s = d.state;
     if over(s, ids) {
         return d;
     }
     let t = s.trivia(ids, ends, events);
-    let h = at_hand(t, d.before, src, ids, ends, events, errors, scratch);
-    let u = tell(h.state, h.before, errors, events);
-    settle(u, scratch)
+    let h = at_hand(
+        t,
+        d.before,
+        src,
+        ids,
+        ends,
+        events,
+        errors,
+        scratch,
+        notes,
+        table,
+        sets,
+    );
+    let u = tell(h.state, h.before, errors, events, notes);
+    settle(u, scratch, notes)
 }
 
 // All items: each takes a row, so there are no more of them than rows.
@@ -214,16 +262,30 @@ pub fn items(
     events: &mut [u32],
     errors: &mut [u32],
     scratch: &mut [u64],
+    notes: &mut [usize; 67],
+    table: &[u32; 284],
+    sets: &[[u64; 2]; 55],
 ) -> Desk
-    requires { ⌜ Rows (source (now src) (now ids) (now ends)) × Wf (source (now src) (now ids) (now ends)) (bufs (now events) (now errors) (now scratch)) (d .state) × Settled (d .state) ⌝ }
-    ensures { λ r. ⌜ Goes (P.items limits (length (now (ids .entry)))) (source (now (src .entry)) (now (ids .entry)) (now (ends .entry))) d r (bufs (now (events .entry)) (now (errors .entry)) (now (scratch .entry))) (bufs (now (events .exit)) (now (errors .exit)) (now (scratch .exit))) ⌝ }
+    requires { ⌜ Rows (source (now src) (now ids) (now ends)) × Wf (source (now src) (now ids) (now ends)) (bufs (now events) (now errors) (now scratch)) (whole (d .state) (now notes)) × Settled (whole (d .state) (now notes)) × Lends (now table) (now sets) ⌝ }
+    ensures { λ r. ⌜ Goes (P.items limits (length (now (ids .entry)))) (source (now (src .entry)) (now (ids .entry)) (now (ends .entry))) (tally d (now (notes .entry))) (tally r (now (notes .exit))) (bufs (now (events .entry)) (now (errors .entry)) (now (scratch .entry))) (bufs (now (events .exit)) (now (errors .exit)) (now (scratch .exit))) ⌝ }
 {
     let mut n = ids.len();
     while n > 0 {
         if over(d.state, ids) {
             return d;
         }
-        d = item(d, src, ids, ends, events, errors, scratch);
+        d = item(
+            d,
+            src,
+            ids,
+            ends,
+            events,
+            errors,
+            scratch,
+            notes,
+            table,
+            sets,
+        );
         n -= 1;
     }
     d

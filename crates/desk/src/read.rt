@@ -3,17 +3,22 @@ use crate::items::Desk;
 use crate::items::items;
 use cells::clear;
 use cells::wipe;
+use grammar::table::ROWS;
+use kinds::SETS;
 use kinds::kind;
-use reader::judge::judged;
-use reader::state::State;
+use notes::names::ER;
+use notes::names::ERCAP;
+use refusals::judged;
+use steps::state::State;
 ghost use mathlib.Core.Path.{_≡_};
 ghost use Prim.Native.Nat.{_+_, _*_, _≤_};
 ghost use lib.ListN.{length, replicate};
 ghost use Rattle.peg.specs.Answer.{refusing, after};
-ghost use Rattle.reader.specs.Judge.{desk};
-ghost use Rattle.reader.specs.Means.{limits, source, Rows};
+ghost use Rattle.refusals.specs.Judge.{desk};
+ghost use Rattle.notes.specs.Means.{limits, source, Rows};
 ghost use Rattle.desk.specs.Items as Items;
-ghost use Rattle.desk.specs.Whole.{Framed, afterOf, answering, outcomeOf};
+ghost use Rattle.desk.specs.Items.{tally};
+ghost use Rattle.desk.specs.Framing.{Framed, afterOf, answering, outcomeOf};
 
 // A refusal by its number; or outcome, rows covered, counts of events and error records, fuel left.
 pub enum Reading {
@@ -28,26 +33,17 @@ pub enum Reading {
 }
 
 // Before the first item.
-fn blank(fuel: u32, evcap: usize, ercap: usize) -> Desk
-    ensures { λ r. ⌜ r ≡ Items.blank fuel evcap ercap (replicate 96 0) ⌝ }
+fn blank(fuel: u32, evcap: usize) -> Desk
+    ensures { λ r. ⌜ r ≡ Items.blank fuel evcap ⌝ }
 {
     Desk {
         state: State {
             pos: 0,
-            fuel,
-            mode: 0,
             ev: 0,
             evcap,
-            er: 0,
-            ercap,
-            item: 0,
-            first: 0,
-            far: 0,
-            want: 0,
-            unwant: 0,
+            fuel,
+            mode: 0,
             full: 0,
-            count: 0,
-            names: [0u8; 96],
         },
         before: 0,
     }
@@ -66,7 +62,7 @@ fn outcome(mode: u8) -> u32
     2
 }
 
-// SOURCE_FILE around all items, in events with room for its begin event, where scratch is all zero.
+// SOURCE_FILE around all items, in events with room for its begin event, where scratch and notes are all zero.
 fn whole(
     src: &[u8],
     ids: &[u32],
@@ -75,18 +71,33 @@ fn whole(
     scratch: &mut [u64],
     events: &mut [u32],
     errors: &mut [u32],
+    notes: &mut [usize; 67],
 ) -> Desk
-    requires { ⌜ Rows (source (now src) (now ids) (now ends)) × (now scratch ≡ replicate (length (now scratch)) 0) × (2 * (length (now ids) + 1) ≤ 64 * length (now scratch)) × (4 ≤ length (now events)) ⌝ }
-    ensures { λ r. ⌜ Framed (source (now (src .entry)) (now (ids .entry)) (now (ends .entry))) fuel (length (now (events .entry))) (length (now (errors .entry))) r (now (events .exit)) (now (errors .exit)) ⌝ }
+    requires { ⌜ Rows (source (now src) (now ids) (now ends)) × (now scratch ≡ replicate (length (now scratch)) 0) × (2 * (length (now ids) + 1) ≤ 64 * length (now scratch)) × (4 ≤ length (now events)) × (now notes ≡ replicate 67 0) ⌝ }
+    ensures { λ r. ⌜ Framed (source (now (src .entry)) (now (ids .entry)) (now (ends .entry))) fuel (length (now (events .entry))) (length (now (errors .entry))) (tally r (now (notes .exit))) (now (events .exit)) (now (errors .exit)) ⌝ }
 {
     let size = src.len() as u32;
     events[0] = 1;
     events[1] = kind::SOURCE_FILE;
     events[2] = 0;
     events[3] = size;
-    let d = blank(fuel, events.len() - 4, errors.len());
+    let d = blank(fuel, events.len() - 4);
+    notes[ERCAP] = errors.len();
+    let table = ROWS;
+    let sets = SETS;
     let inner = &mut events[4..];
-    let r = items(d, src, ids, ends, inner, errors, scratch);
+    let r = items(
+        d,
+        src,
+        ids,
+        ends,
+        inner,
+        errors,
+        scratch,
+        notes,
+        &table,
+        &sets,
+    );
     let s = r.state;
     let t = s.put(3, kind::SOURCE_FILE, 0, size, inner);
     Desk {
@@ -106,14 +117,19 @@ fn spoilt(number: u32, scratch: &mut [u64], events: &mut [u32], errors: &mut [u3
 }
 
 // The finished lists, with zeros behind them.
-fn answered(d: Desk, scratch: &mut [u64], events: &mut [u32], errors: &mut [u32]) -> Reading
-    requires { ⌜ (d .state .ev + 4 ≤ length (now events)) × (d .state .er ≤ length (now errors)) ⌝ }
-    ensures { λ r. ⌜ afterOf r (now (events .exit)) (now (errors .exit)) (now (scratch .exit)) ≡ answering d (now (events .entry)) (now (errors .entry)) (now (scratch .entry)) ⌝ }
+fn answered(
+    d: Desk,
+    er: usize,
+    scratch: &mut [u64],
+    events: &mut [u32],
+    errors: &mut [u32],
+) -> Reading
+    requires { ⌜ (d .state .ev + 4 ≤ length (now events)) × (er ≤ length (now errors)) ⌝ }
+    ensures { λ r. ⌜ afterOf r (now (events .exit)) (now (errors .exit)) (now (scratch .exit)) ≡ answering d er (now (events .entry)) (now (errors .entry)) (now (scratch .entry)) ⌝ }
 {
     let s = d.state;
     wipe(scratch);
     let to = s.ev + 4;
-    let er = s.er;
     clear(&mut events[to..]);
     clear(&mut errors[er..]);
     Reading::Answered {
@@ -146,10 +162,11 @@ pub fn read(
         return spoilt(7, scratch, events, errors);
     }
     wipe(scratch);
-    let d = whole(src, ids, ends, fuel, scratch, events, errors);
+    let mut notes = [0usize; 67];
+    let d = whole(src, ids, ends, fuel, scratch, events, errors, &mut notes);
     let s = d.state;
     if s.full != 0 {
         return spoilt(s.full as u32, scratch, events, errors);
     }
-    answered(d, scratch, events, errors)
+    answered(d, notes[ER], scratch, events, errors)
 }

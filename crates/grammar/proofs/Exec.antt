@@ -17,19 +17,18 @@ use Rattle.peg.specs.Run as P
 use Rattle.peg.specs.Run.{Mode, ok, failed, stopped}
 use Rattle.peg.specs.Render.{Source}
 use Rattle.peg.proofs.Buffer.{exec-adds, none-added}
-use Rattle.reader.specs.declared.state.State.{State}
-use Rattle.reader.specs.declared.state.Mark.{Mark}
-use Rattle.reader.specs.Bits.{ifb}
-use Rattle.reader.specs.Change.{withMode, markOf, gone, undoneTo}
-use Rattle.reader.specs.Means.{Bufs, bufs, Past, Means, Stands, modeOf}
-use Rattle.reader.specs.Did.{Ok, Wf, Did, Events, Plain, Both, Began, Shuts}
-use Rattle.reader.proofs.Core.{does-as}
-use Rattle.reader.proofs.Core as core
-use Rattle.reader.proofs.Sticky.{Sticks, sticky, sticky-exec}
-use Rattle.reader.proofs.Next.{if-ok-no}
-use Rattle.reader.proofs.Parts as parts
-use Rattle.reader.proofs.Parts.{Turning, turning, turns-on, turns-back, turns-end, repeats, halts}
-use Rattle.reader.proofs.Ends.{both-of}
+use Rattle.notes.specs.Whole.{Whole}
+use Rattle.notes.specs.Bits.{ifb}
+use Rattle.notes.specs.Change.{withMode, markOf, gone, undoneTo}
+use Rattle.notes.specs.Means.{Bufs, bufs, Past, Means, Stands, modeOf}
+use Rattle.notes.specs.Did.{Ok, Wf, Did, Events, Plain, Both, Began, Shuts}
+use Rattle.notes.proofs.Core.{does-as}
+use Rattle.notes.proofs.Core as core
+use Rattle.notes.proofs.Sticky.{Sticks, sticky, sticky-exec}
+use Rattle.steps.proofs.Next.{if-ok-no}
+use Rattle.steps.proofs.Parts as parts
+use Rattle.steps.proofs.Parts.{Turning, turning, turns-on, turns-back, turns-end, repeats, halts}
+use Rattle.steps.proofs.Ends.{both-of}
 
 -- the grammar's line for a production, where d more nodes may be opened below it
 abbrev pub body : ℕ → Bool → Production → P.Reader
@@ -42,9 +41,9 @@ run-some (suc d) o A h a = ap (λ (n : ℕ). P.nodes (suc d) o (kind A) (body n 
 run-none : (d : ℕ) (o : Bool) (A : Production) → d ≡ 0 → (a : P.State) → P.nodes d o (kind A) (λ t. t) a ≡ P.run d o A a
 run-none d o A e a = ap (λ (n : ℕ). P.nodes n o (kind A) (λ t. t) a) e ∙ ap (λ (n : ℕ). P.run n o A a) (sym e)
 
-module _ (A : Production) (o : Bool) (d : ℕ) {x : Source} {s s₁ r : State} {ev ev₁ er sc : List ℕ} (w : Wf x (bufs ev er sc) s) (y : Began d x s s₁ ev ev₁) where
+module _ (A : Production) (o : Bool) (d : ℕ) {x : Source} {s s₁ r : Whole} {ev ev₁ er sc : List ℕ} (w : Wf x (bufs ev er sc) s) (y : Began d x s s₁ ev ev₁) where
   -- a node around its line
-  pub produced : {s₂ : State} {b b₃ : Bufs} → (d ≡ 0 → ⊥) → Did (body (d - 1) o A) x s₁ s₂ (bufs ev₁ er sc) b → Shuts (P.finish o (kind A) (length (x .ids) - s₁ .pos)) (s₁ .ev) x s₂ r b b₃ → Did (P.run d o A) x s r (bufs ev er sc) b₃
+  pub produced : {s₂ : Whole} {b b₃ : Bufs} → (d ≡ 0 → ⊥) → Did (body (d - 1) o A) x s₁ s₂ (bufs ev₁ er sc) b → Shuts (P.finish o (kind A) (length (x .ids) - s₁ .pos)) (s₁ .ev) x s₂ r b b₃ → Did (P.run d o A) x s r (bufs ev er sc) b₃
   produced h z e =
       does-as (P.run d o A) (λ p a t. run-some d o A h a)
       (parts.node d (kind A) o (body (d - 1) o A) (λ a. exec-adds (d - 1) (grammar A) o a) (λ p. sticky-exec p x (d - 1) (grammar A) o) (s₁ .pos) (s₁ .ev) refl refl (y .events .did er sc w) (y .opens) z e)

@@ -10,26 +10,26 @@ use Rattle.peg.specs.Prog.{Production}
 use Rattle.peg.specs.Grammar.{kind}
 use Rattle.peg.specs.Run as P
 use Rattle.peg.specs.Render.{Source}
-use Rattle.reader.specs.declared.state.State.{State}
-use Rattle.reader.specs.Bits.{ifb, bitAt, Kept}
-use Rattle.reader.specs.Change.{withMode, withFar}
-use Rattle.reader.specs.Means.{Bufs, bufs, Past}
-use Rattle.reader.specs.Did.{Wf, Did}
-use Rattle.reader.proofs.Sticky.{sticky-run}
-use Rattle.reader.proofs.Memo.{memo-idle, memo-hit, memo-through, memo-failed}
-use Rattle.reader.proofs.Bits.{Memo, kindOf, bitOf}
-use Rattle.reader.proofs.Bits as bits
+use Rattle.notes.specs.Whole.{Whole}
+use Rattle.notes.specs.Bits.{ifb, bitAt, Kept}
+use Rattle.notes.specs.Change.{withMode, withFar}
+use Rattle.notes.specs.Means.{Bufs, bufs, Past}
+use Rattle.notes.specs.Did.{Wf, Did}
+use Rattle.notes.proofs.Sticky.{sticky-run}
+use Rattle.steps.proofs.Memo.{memo-idle, memo-hit, memo-through, memo-failed}
+use Rattle.notes.proofs.Bits.{Memo, kindOf, bitOf}
+use Rattle.notes.proofs.Bits as bits
 use borrow.Author.Tests.{eq-eqb, ne-eqb}
 use lib.Dec.{eqb}
 use Rattle.kinds.specs.Kinds as k
 use Rattle.grammar.specs.Table.{Bit, Cached}
 
 -- a production that remembers its failures, by its kind and bit
-module _ (d : ℕ) (o : Bool) (A : Production) {p bit : ℕ} (known : kind A ≡ p) {x : Source} {s : State} {b : Bufs} (w : Did (λ a. a) x s s b b) (at : Bit p (s .pos) bit) where
-  abbrev Remembered : State → Bufs → Type 0
+module _ (d : ℕ) (o : Bool) (A : Production) {p bit : ℕ} (known : kind A ≡ p) {x : Source} {s : Whole} {b : Bufs} (w : Did (λ a. a) x s s b b) (at : Bit p (s .pos) bit) where
+  abbrev Remembered : Whole → Bufs → Type 0
   Remembered r b′ = Did (P.memos (kind A) (P.run d o A)) x s r b b′
 
-  by : {r : State} {b′ : Bufs} → ((t : Memo) → bit ≡ bitOf t (s .pos) → Did (P.memos (kindOf t) (P.run d o A)) x s r b b′) → Remembered r b′
+  by : {r : Whole} {b′ : Bufs} → ((t : Memo) → bit ≡ bitOf t (s .pos) → Did (P.memos (kindOf t) (P.run d o A)) x s r b b′) → Remembered r b′
   by {r} {b′} g = go at
     where
       named : (t : Memo) → p ≡ kindOf t → bit ≡ bitOf t (s .pos) → Remembered r b′
@@ -48,7 +48,7 @@ module _ (d : ℕ) (o : Bool) (A : Production) {p bit : ℕ} (known : kind A ≡
       go (inr e) = omega (arith, e .1, w .wf .0 .0 .here, w .wf .1 .scratch)
 
   -- and after what the production did
-  pub bit-in-still : {f : P.Reader} {r : State} {b′ : Bufs} → Did f x s r b b′ → bit / 64 < length (b′ .scratch)
+  pub bit-in-still : {f : P.Reader} {r : Whole} {b′ : Bufs} → Did f x s r b b′ → bit / 64 < length (b′ .scratch)
   bit-in-still {b′ = b′} y = go at
     where
       go : Bit p (s .pos) bit → bit / 64 < length (b′ .scratch)
@@ -62,11 +62,11 @@ module _ (d : ℕ) (o : Bool) (A : Production) {p bit : ℕ} (known : kind A ≡
     pub known-hit : v ≡ true → Remembered (withMode 1 s) b
     known-hit h = by (λ t i. memo-hit t (P.run d o A) (λ p x a. sticky-run p x d o A a) (w .wf) good (seen ∙ ap (bitAt (b .scratch)) i) h)
 
-    module _ (h : v ≡ false) {r : State} {b′ : Bufs} (y : Did (P.run d o A) x s r b b′) where
+    module _ (h : v ≡ false) {r : Whole} {b′ : Bufs} (y : Did (P.run d o A) x s r b b′) where
       pub known-through : (r .mode ≡ 1 → ⊥) → Remembered r b′
       known-through n = by (λ t i. memo-through t (P.run d o A) (λ p x a. sticky-run p x d o A a) (w .wf) good (seen ∙ ap (bitAt (b .scratch)) i) h y n)
 
-      pub known-failed : r .mode ≡ 1 → {q : State} {sc : List ℕ} → (q ≡ withFar (max (r .far) (bit / 2 + 1)) r) × Kept bit (b′ .scratch) sc → length sc ≡ length (b′ .scratch) → Remembered q (bufs (b′ .events) (b′ .errors) sc)
+      pub known-failed : r .mode ≡ 1 → {q : Whole} {sc : List ℕ} → (q ≡ withFar (max (r .far) (bit / 2 + 1)) r) × Kept bit (b′ .scratch) sc → length sc ≡ length (b′ .scratch) → Remembered q (bufs (b′ .events) (b′ .errors) sc)
       known-failed n {q} {sc} k l = by (λ t i. memo-failed t (P.run d o A) (λ p x a. sticky-run p x d o A a) (w .wf) good (seen ∙ ap (bitAt (b .scratch)) i) h y n (k .0 ∙ ap (λ (c : ℕ). withFar (max (r .far) (c / 2 + 1)) r) i, subst (λ (c : ℕ). Kept c (b′ .scratch) sc) i (k .1)) l)
 
 -- the bit of a production that remembers its failures

@@ -12,8 +12,7 @@ use lib.Dec.{eqb, ltb, T}
 use lib.ListN.{length, getD, List·getD-eq-default}
 use Rattle.kinds.specs.Kinds as k
 use Rattle.kinds.specs.Sets.{setOf, pick}
-use Rattle.kinds.specs.Answers.{matchedOf}
-use Rattle.kinds.specs.declared.answer.Matched.the-variants as m
+use Rattle.kinds.specs.Answers.{isSome}
 use Rattle.kinds.proofs.Tables.{both, both-left, both-right, all, all-sound}
 use Rattle.peg.specs.Prog.{Prog}
 use Rattle.peg.specs.Prog as G
@@ -21,25 +20,22 @@ use Rattle.peg.specs.Grammar.{grammar, kind, rule-decl}
 use Rattle.peg.specs.Run as P
 use Rattle.peg.specs.Render.{Source}
 use Rattle.peg.proofs.Every.{productions}
-use Rattle.reader.specs.declared.state.State.{State}
-use Rattle.reader.specs.declared.names.Label.{Label}
-use Rattle.reader.specs.declared.names.Label.the-variants.{Ids, As}
-use Rattle.reader.specs.declared.state.Mark.{Mark}
-use Rattle.reader.specs.Change.{markOf, gone, withMode}
-use Rattle.reader.specs.Means.{limits, Bufs, bufs}
-use Rattle.reader.specs.Did.{Wf, Did, Events, Plain, Proper, Peeked, namesOf, hits, ahead}
-use Rattle.reader.proofs.Core as core
+use Rattle.notes.specs.Whole.{Whole}
+use Rattle.notes.specs.Change.{markOf, gone, withMode}
+use Rattle.notes.specs.Means.{limits, Bufs, bufs, namesOf}
+use Rattle.notes.specs.Did.{Wf, Did, Events, Peeked, hits, ahead}
+use Rattle.notes.proofs.Core as core
 use Rattle.grammar.proofs.Exec.{guarded}
 use Rattle.grammar.proofs.Cycle.{from, plus, plusE, stops, thence, Tries, tries, tried, again, tried-last, lost-back, lost-on, waives, waived-back, waived-on, enters, passes}
-use Rattle.reader.specs.Bits.{ifb}
+use Rattle.notes.specs.Bits.{ifb}
 use Rattle.grammar.specs.declared.parts.Part.{Part}
 use Rattle.grammar.specs.declared.parts.Part.the-variants.{Eat, Step, Node, Memo, Seq, Then, When, Many, Try}
-use Rattle.reader.proofs.Branch as branch
-use Rattle.reader.proofs.Next.{if-ok-yes, next-other, next-end}
+use Rattle.steps.proofs.Branch as branch
+use Rattle.steps.proofs.Next.{if-ok-yes, next-lacks, next-end}
 use Rattle.grammar.specs.declared.parts.First.{First}
 use Rattle.grammar.specs.declared.parts.First.the-variants.{Unknown, Missed}
 use Rattle.grammar.specs.Rows.{rows, size, item}
-use Rattle.grammar.specs.Table.{Lent, Row, Missing, Foretold, missedOf, rowOf, split, labelOf, stepOf, stepping, reads, follows, followed, made, partOf, production, progOf, prog, Line, Cached}
+use Rattle.grammar.specs.Table.{Lent, Row, Missing, Foretold, missedOf, rowOf, split, stepOf, reads, follows, followed, made, partOf, production, progOf, prog, Line, Cached}
 
 -- the code's rows are the definition's
 pub rows-lent : Lent rows
@@ -95,7 +91,7 @@ same-at {A} f g (suc n) e i h = go (ℕ-discrete i n) (same-at f g n (tail-of e)
 
 -- what a row stands for, by the rows that it names
 stands : each prog size ≡ each (λ i. progOf prog (partOf i)) size
-unfolding prog partOf rowOf production productions
+unfolding prog partOf rowOf production productions namesOf
 stands = refl
 
 pub row-stands : (i : ℕ) → i < size → prog i ≡ progOf prog (partOf i)
@@ -117,15 +113,15 @@ leads (When s j) = false
 leads (Many j k) = false
 leads (Try n j h f) = false
 
--- the rows that a row names stand before it, and but for what follows they are read; a name is one, a production's kind and line belong together
+-- the rows that a row names stand before it, and but for what follows they are read; a code is one, so is a set that enters its ids; a production's kind and line belong together
 abbrev pub sound : ℕ → Part → Bool
-sound i (Eat s n j) = both (ltb n 86) (ltb j i)
-sound i (Step n s j) = both (ltb n 3) (ltb j i)
+sound i (Eat s c j) = both (ltb c 58) (ltb j i)
+sound i (Step n s j) = both (ltb s 55) (ltb j i)
 sound i (Node a l j) = both (eqb (kind (production a)) a) (both (both (ltb 0 l) (ltb l size)) (ltb j i))
 sound i (Memo a l j) = both (either (eqb a k.EXPR) (eqb a k.TERM)) (both (eqb (kind (production a)) a) (both (both (ltb 0 l) (ltb l size)) (ltb j i)))
 sound i (Seq j h) = both (both (ltb 0 j) (ltb j i)) (both (ltb 0 h) (ltb h i))
 sound i (Then j h k) = both (both (ltb 0 h) (ltb h i)) (ltb k i)
-sound i (When s j) = both (ltb 0 j) (ltb j i)
+sound i (When s j) = both (ltb s 55) (both (ltb 0 j) (ltb j i))
 sound i (Many j h) = both (both (ltb 0 j) (ltb j i)) (ltb h i)
 sound i (Try n j h f) = both (both (ltb 0 j) (ltb j i)) (both (ltb h i) (both (either (both (eqb n 9) (eqb h 0)) (either (both (eqb n 10) (eqb h 0)) (both (eqb n 11) (ltb 0 h)))) (either (eqb f 0) (leads (partOf j)))))
 
@@ -142,13 +138,13 @@ abbrev pub How : ℕ → ℕ → Type 0
 How n h = ((n ≡ 9) × (h ≡ 0)) ⊎ (((n ≡ 10) × (h ≡ 0)) ⊎ ((n ≡ 11) × (0 < h)))
 
 abbrev pub Sound : ℕ → Part → Type 0
-Sound i (Eat s n j) = (n < 86) × (j < i)
-Sound i (Step n s j) = (n < 3) × (j < i)
+Sound i (Eat s c j) = (c < 58) × (j < i)
+Sound i (Step n s j) = (s < 55) × (j < i)
 Sound i (Node a l j) = (kind (production a) ≡ a) × Row l × (j < i)
 Sound i (Memo a l j) = Cached a × (kind (production a) ≡ a) × Row l × (j < i)
 Sound i (Seq j h) = Before j i × Before h i
 Sound i (Then j h k) = Before h i × (k < i)
-Sound i (When s j) = Before j i
+Sound i (When s j) = (s < 55) × Before j i
 Sound i (Many j h) = Before j i × (h < i)
 Sound i (Try n j h f) = Before j i × (h < i) × How n h × ((f ≡ 0 → ⊥) → leads (partOf j) ≡ true)
 
@@ -183,13 +179,13 @@ led-so : (f : ℕ) {c : Bool} → either (eqb f 0) c ≡ true → (f ≡ 0 → �
 led-so f t q = other t (λ e. e) (λ e. q (eqb-true f 0 e))
 
 sound-so : (i : ℕ) (p : Part) → sound i p ≡ true → Sound i p
-sound-so i (Eat s n j) t = two-facts (ltb-true n 86) (ltb-true j i) t
-sound-so i (Step n s j) t = two-facts (ltb-true n 3) (ltb-true j i) t
+sound-so i (Eat s c j) t = two-facts (ltb-true c 58) (ltb-true j i) t
+sound-so i (Step n s j) t = two-facts (ltb-true s 55) (ltb-true j i) t
 sound-so i (Node a l j) t = three-facts (eqb-true _ a) (between 0 l size) (ltb-true j i) t
 sound-so i (Memo a l j) t = let u = two-facts (cached a) (three-facts (eqb-true (kind (production a)) a) (between 0 l size) (ltb-true j i)) t in (u .0, u .1 .0, u .1 .1, u .1 .2)
 sound-so i (Seq j h) t = two-facts (between 0 j i) (between 0 h i) t
 sound-so i (Then j h k) t = two-facts (between 0 h i) (ltb-true k i) t
-sound-so i (When s j) t = between 0 j i t
+sound-so i (When s j) t = two-facts (ltb-true s 55) (between 0 j i) t
 sound-so i (Many j h) t = two-facts (between 0 j i) (ltb-true h i) t
 sound-so i (Try n j h f) t = let u = three-facts (between 0 j i) (ltb-true h i) (two-facts (how-so n h) (led-so f)) t in (u .0, u .1, u .2 .0, u .2 .1)
 
@@ -216,7 +212,7 @@ abbrev wanted : Part → Prog
 wanted = called (λ a j. grammar (production a)) (λ j h k. followed prog k (prog j))
 
 lined : each (λ i. lineOf (partOf i)) size ≡ each (λ i. wanted (partOf i)) size
-unfolding prog partOf rowOf production productions grammar
+unfolding prog partOf rowOf production productions grammar namesOf
 lined = refl
 
 -- what a row is says what it stands for
@@ -234,7 +230,7 @@ module _ (i : ℕ) (r : Row i) {a l j : ℕ} where
   pub memo-line : Memo a l j ≡ partOf i → Line a l
   memo-line e = let t = row-sound i r e in record { known = t .1; line = its-line i (r .1) e; inside = t .2 }
 
-module _ (d : ℕ) (o : Bool) {x : Source} {s r : State} {b b′ : Bufs} where
+module _ (d : ℕ) (o : Bool) {x : Source} {s r : Whole} {b b′ : Bufs} where
   -- a row reads what it stands for
   pub is-row : (i : ℕ) → i < size → {p : Part} → p ≡ partOf i → Did (reads d o (progOf prog p)) x s r b b′ → Did (reads d o (prog i)) x s r b b′
   is-row i h e y = subst (λ (q : Prog). Did (reads d o q) x s r b b′) (sym (stands-for i h e)) y
@@ -243,41 +239,25 @@ module _ (d : ℕ) (o : Bool) {x : Source} {s r : State} {b b′ : Bufs} where
   pub is-line : {a j : ℕ} → Line a j → Did (reads d o (prog j)) x s r b b′ → Did (reads d o (grammar (production a))) x s r b b′
   is-line l y = subst (λ (q : Prog). Did (reads d o q) x s r b b′) (l .line) y
 
-  -- `not`, `recover` or an `if_next` that is passed over, by which it is
+  -- `not` or `recover`, by which it is
   module _ (n c : ℕ) where
-    none-passed : n < 3 → Did (reads d o (stepOf n c)) x s r b b′ → Did (stepping d o n c) x s r b b′
-    none-passed e y = subst (λ (t : Bool). Did (ifb t (P.branches (setOf c) (λ a. a)) (reads d o (stepOf n c))) x s r b b′) (sym (ne-eqb n 3 (λ i. omega (arith, e, i)))) y
+    pub is-unless : n ≡ 1 → Did (P.refuses (setOf c)) x s r b b′ → Did (reads d o (stepOf n c)) x s r b b′
+    is-unless f y = subst (λ (t : Bool). Did (reads d o (ifb t (G.unless (setOf c)) (G.recover (setOf c)))) x s r b b′) (sym (eq-eqb n 1 f)) y
 
-    pub is-unless : n ≡ 1 → Did (P.refuses (setOf c)) x s r b b′ → Did (stepping d o n c) x s r b b′
-    is-unless f y = none-passed (omega (arith, f)) (subst (λ (t : Bool). Did (reads d o (ifb t (G.unless (setOf c)) (G.recover (setOf c)))) x s r b b′) (sym (eq-eqb n 1 f)) y)
-
-    pub is-passed : n ≡ 3 → Did (P.branches (setOf c) (λ a. a)) x s r b b′ → Did (stepping d o n c) x s r b b′
-    is-passed e y = subst (λ (t : Bool). Did (ifb t (P.branches (setOf c) (λ a. a)) (reads d o (stepOf n c))) x s r b b′) (sym (eq-eqb n 3 e)) y
-
-    pub is-recover : (n ≡ 1 → ⊥) → n < 3 → Did (P.recovery d o (setOf c)) x s r b b′ → Did (stepping d o n c) x s r b b′
-    is-recover f h y = none-passed h (subst (λ (t : Bool). Did (reads d o (ifb t (G.unless (setOf c)) (G.recover (setOf c)))) x s r b b′) (sym (ne-eqb n 1 f)) y)
-
-    pub is-step : n < 3 → Did (stepping d o n c) x s r b b′ → Did (reads d o (stepOf n c)) x s r b b′
-    is-step k y = subst (λ (t : Bool). Did (ifb t (P.branches (setOf c) (λ a. a)) (reads d o (stepOf n c))) x s r b b′) (ne-eqb n 3 (λ i. omega (arith, k, i))) y
-
-pub proper : (n : ℕ) → n < 86 → {l : Label} → l ≡ labelOf n → Proper l
-proper n h {l} e = subst (λ (q : Label). Proper q) (sym e) (go (ℕ-discrete n 85))
-  where
-    go : Dec (n ≡ 85) → Proper (labelOf n)
-    go (yes q) = subst (λ (c : Bool). Proper (ifb c Ids (As n))) (sym (eq-eqb n 85 q)) tt
-    go (no q) = subst (λ (c : Bool). Proper (ifb c Ids (As n))) (sym (ne-eqb n 85 q)) (omega (arith, h, q))
+    pub is-recover : (n ≡ 1 → ⊥) → Did (P.recovery d o (setOf c)) x s r b b′ → Did (reads d o (stepOf n c)) x s r b b′
+    is-recover f y = subst (λ (t : Bool). Did (reads d o (ifb t (G.unless (setOf c)) (G.recover (setOf c)))) x s r b b′) (sym (ne-eqb n 1 f)) y
 
 -- an item that begins with a rule keyword
 item-stands : prog item ≡ rule-decl
-unfolding prog partOf rowOf production productions
+unfolding prog partOf rowOf production productions namesOf
 item-stands = refl
 
-pub is-item : {x : Source} {s r : State} {b b′ : Bufs} → Did (reads (limits .depth) false (prog item)) x s r b b′ → Did (P.read-rule limits) x s r b b′
+pub is-item : {x : Source} {s r : Whole} {b b′ : Bufs} → Did (reads (limits .depth) false (prog item)) x s r b b′ → Did (P.read-rule limits) x s r b b′
 unfolding P.read-rule
 is-item {x} {s} {r} {b} {b′} y = subst (λ (q : Prog). Did (reads (limits .depth) false q) x s r b b′) item-stands y
 
 -- what is left of a line
-module _ (d : ℕ) (o : Bool) {x : Source} {s z : State} {b b₂ : Bufs} where
+module _ (d : ℕ) (o : Bool) {x : Source} {s z : Whole} {b b₂ : Bufs} where
   pub row-follows : (i : ℕ) → 0 < i → Did (reads d o (prog i)) x s z b b₂ → Did (follows d o i) x s z b b₂
   row-follows i h y = subst (λ (c : Bool). Did (ifb c (λ a. a) (reads d o (prog i))) x s z b b₂) (sym (ne-eqb i 0 (λ e. omega (arith, h, e)))) y
 
@@ -288,7 +268,7 @@ module _ (d : ℕ) (o : Bool) {x : Source} {s z : State} {b b₂ : Bufs} where
   follows-none i h y = subst (λ (c : Bool). Did (ifb c (λ a. a) (reads d o (prog i))) x s z b b₂) (eq-eqb i 0 h) y
 
   -- a row is read, and what follows it
-  pub row-goes : (i : ℕ) → i < size → {p : Part} → p ≡ partOf i → (k : ℕ) (q : Prog) → progOf prog p ≡ followed prog k q → {r : State} {b′ : Bufs} → Did (reads d o q) x s r b b′ → Did (follows d o k) x r z b′ b₂ → Did (reads d o (prog i)) x s z b b₂
+  pub row-goes : (i : ℕ) → i < size → {p : Part} → p ≡ partOf i → (k : ℕ) (q : Prog) → progOf prog p ≡ followed prog k q → {r : Whole} {b′ : Bufs} → Did (reads d o q) x s r b b′ → Did (follows d o k) x r z b′ b₂ → Did (reads d o (prog i)) x s z b b₂
   row-goes i h e k q f {r} {b′} y w = subst (λ (p : Prog). Did (reads d o p) x s z b b₂) (sym (stands-for i h e ∙ f)) (by (eqb k 0) w)
     where
       by : (c : Bool) → Did (ifb c (λ a. a) (reads d o (prog k))) x r z b′ b₂ → Did (reads d o (ifb c q (G._⨟_ q (prog k)))) x s z b b₂
@@ -304,12 +284,12 @@ then-follows d o k p a m = go (eqb k 0)
     go false = ap (reads d o (prog k)) (if-ok-yes _ a m)
 
 -- row i is read from s on once the rest of the line, from row k on, is read where the part came to
-abbrev pub Left : ℕ → Bool → Source → State → Bufs → ℕ → ℕ → State → Bufs → Type 0
-Left d o x s b₀ i k r b′ = (z : State) (b : Bufs) → Did (follows d o k) x r z b′ b → Did (reads d o (prog i)) x s z b₀ b
+abbrev pub Left : ℕ → Bool → Source → Whole → Bufs → ℕ → ℕ → Whole → Bufs → Type 0
+Left d o x s b₀ i k r b′ = (z : Whole) (b : Bufs) → Did (follows d o k) x r z b′ b → Did (reads d o (prog i)) x s z b₀ b
 
 -- in the loop: s is where the state i₀ s₀ has come to, and whatever reads the rest of the line from row i on has read row i₀
-pub record Going (d : ℕ) (o : Bool) (x : Source) (i₀ : ℕ) (s₀ : State) (ev₀ er₀ sc₀ : List ℕ) (i : ℕ) (s : State) (ev er sc : List ℕ) : Type 0 where
-  pub go : {z : State} {b : Bufs} → Did (follows d o i) x s z (bufs ev er sc) b → Did (reads d o (prog i₀)) x s₀ z (bufs ev₀ er₀ sc₀) b
+pub record Going (d : ℕ) (o : Bool) (x : Source) (i₀ : ℕ) (s₀ : Whole) (ev₀ er₀ sc₀ : List ℕ) (i : ℕ) (s : Whole) (ev er sc : List ℕ) : Type 0 where
+  pub go : {z : Whole} {b : Bufs} → Did (follows d o i) x s z (bufs ev er sc) b → Did (reads d o (prog i₀)) x s₀ z (bufs ev₀ er₀ sc₀) b
   pub wf : Wf x (bufs ev er sc) s
   pub inside : i < size
   pub below : i ≤ i₀
@@ -317,12 +297,12 @@ pub record Going (d : ℕ) (o : Bool) (x : Source) (i₀ : ℕ) (s₀ : State) (
   pub errors : length er ≡ length er₀
   pub scratch : length sc ≡ length sc₀
 
-pub going : (d : ℕ) (o : Bool) {x : Source} (i : ℕ) {s : State} (ev er sc : List ℕ) → Wf x (bufs ev er sc) s → Row i → Going d o x i s ev er sc i s ev er sc
+pub going : (d : ℕ) (o : Bool) {x : Source} (i : ℕ) {s : Whole} (ev er sc : List ℕ) → Wf x (bufs ev er sc) s → Row i → Going d o x i s ev er sc i s ev er sc
 going d o i ev er sc w h = record { go = λ y. follows-row d o i (h .0) y; wf = w; inside = h .1; below = le-refl i; events = refl; errors = refl; scratch = refl }
 
-module _ {d : ℕ} {o : Bool} {x : Source} {i₀ i : ℕ} {s₀ s : State} {ev₀ er₀ sc₀ ev er sc : List ℕ} (g : Going d o x i₀ s₀ ev₀ er₀ sc₀ i s ev er sc) where
+module _ {d : ℕ} {o : Bool} {x : Source} {i₀ i : ℕ} {s₀ s : Whole} {ev₀ er₀ sc₀ ev er sc : List ℕ} (g : Going d o x i₀ s₀ ev₀ er₀ sc₀ i s ev er sc) where
   -- the line ends early, at row i
-  pub ends-at : 0 < i → {z : State} {b : Bufs} → Did (reads d o (prog i)) x s z (bufs ev er sc) b → Did (reads d o (prog i₀)) x s₀ z (bufs ev₀ er₀ sc₀) b
+  pub ends-at : 0 < i → {z : Whole} {b : Bufs} → Did (reads d o (prog i)) x s z (bufs ev er sc) b → Did (reads d o (prog i₀)) x s₀ z (bufs ev₀ er₀ sc₀) b
   ends-at h y = g .go (row-follows d o i h y)
 
   -- nothing follows
@@ -330,32 +310,28 @@ module _ {d : ℕ} {o : Bool} {x : Source} {i₀ i : ℕ} {s₀ s : State} {ev�
   ends h = g .go (subst (λ (c : Bool). Did (ifb c (λ a. a) (reads d o (prog i))) x s s (bufs ev er sc) (bufs ev er sc)) (sym (eq-eqb i 0 (omega (arith, h)))) (from x s ev er sc (g .wf)))
 
   -- the rest of the line is read from row j on
-  pub goes-on : 0 < i → {j : ℕ} {r : State} {ev′ er′ sc′ : List ℕ} → Wf x (bufs ev′ er′ sc′) r → j < i → ((z : State) (b : Bufs) → Did (follows d o j) x r z (bufs ev′ er′ sc′) b → Did (reads d o (prog i)) x s z (bufs ev er sc) b)
+  pub goes-on : 0 < i → {j : ℕ} {r : Whole} {ev′ er′ sc′ : List ℕ} → Wf x (bufs ev′ er′ sc′) r → j < i → ((z : Whole) (b : Bufs) → Did (follows d o j) x r z (bufs ev′ er′ sc′) b → Did (reads d o (prog i)) x s z (bufs ev er sc) b)
       → length ev′ ≡ length ev → length er′ ≡ length er → length sc′ ≡ length sc → Going d o x i₀ s₀ ev₀ er₀ sc₀ j r ev′ er′ sc′
   goes-on a w h f k l m =
       record { go = λ y. ends-at a (f _ _ y); wf = w; inside = omega (arith, h, g .inside); below = omega (arith, h, g .below); events = k ∙ g .events; errors = l ∙ g .errors; scratch = m ∙ g .scratch }
 
 -- a row that was seen was seen in good order
-pub when-good : (ids : List ℕ) (s : State) (i : ℕ) {S p : ℕ} → When S p ≡ partOf i → {v : Bool} → v ≡ ahead (setOf S) ids s → v ≡ true → s .mode ≡ 0
+pub when-good : (ids : List ℕ) (s : Whole) (i : ℕ) {S p : ℕ} → When S p ≡ partOf i → {v : Bool} → v ≡ ahead (setOf S) ids s → v ≡ true → s .mode ≡ 0
 when-good ids s i {S} e sees n = branch.good (setOf S) ids s (sym sees ∙ n)
 
-module _ (d : ℕ) (o : Bool) (i : ℕ) (h : i < size) {x : Source} {s : State} (ev er sc : List ℕ) (w : Wf x (bufs ev er sc) s) where
+module _ (d : ℕ) (o : Bool) (i : ℕ) (h : i < size) {x : Source} {s : Whole} (ev er sc : List ℕ) (w : Wf x (bufs ev er sc) s) where
   still : Did (λ a. a) x s s (bufs ev er sc) (bufs ev er sc)
   still = from x s ev er sc w
 
-  pub eat-idle : {n m k : ℕ} → Eat n m k ≡ partOf i → (s .mode ≡ 0 → ⊥) → Left d o x s (bufs ev er sc) i k s (bufs ev er sc)
-  eat-idle {n} {m} {k} e q z c y = row-goes d o i h e k (G.eat (setOf n) (namesOf n (labelOf m))) refl (stops still d o (G.eat (setOf n) (namesOf n (labelOf m))) tt q) y
+  pub eat-idle : {n c k : ℕ} → Eat n c k ≡ partOf i → (s .mode ≡ 0 → ⊥) → Left d o x s (bufs ev er sc) i k s (bufs ev er sc)
+  eat-idle {n} {c} {k} e q z u y = row-goes d o i h e k (G.eat (setOf n) (namesOf c)) refl (stops still d o (G.eat (setOf n) (namesOf c)) tt q) y
 
-  pub eat-goes : {n m k : ℕ} → Eat n m k ≡ partOf i → {r : State} {ev′ : List ℕ} → ((N : List ℕ) → Events (P.eats (setOf n) N) x s r ev ev′) → Left d o x s (bufs ev er sc) i k r (bufs ev′ er sc)
-  eat-goes {n} {m} {k} e f z c y = row-goes d o i h e k (G.eat (setOf n) (namesOf n (labelOf m))) refl (plusE still (f (namesOf n (labelOf m)))) y
+  pub eat-goes : {n c k : ℕ} → Eat n c k ≡ partOf i → {r : Whole} {ev′ : List ℕ} → Events (P.eats (setOf n) (namesOf c)) x s r ev ev′ → Left d o x s (bufs ev er sc) i k r (bufs ev′ er sc)
+  eat-goes {n} {c} {k} e f z u y = row-goes d o i h e k (G.eat (setOf n) (namesOf c)) refl (plusE still f) y
 
-  pub eat-fails : {n m k : ℕ} → Eat n m k ≡ partOf i → (l : Label) → l ≡ labelOf m → {r : State} {ev′ : List ℕ} → Events (P.eats (setOf n) (namesOf n l)) x s r ev ev′ → Left d o x s (bufs ev er sc) i k r (bufs ev′ er sc)
-  eat-fails {n} {m} {k} e l f {r} {ev′} v z c y =
-      row-goes d o i h e k (G.eat (setOf n) (namesOf n (labelOf m))) refl (plusE still (subst (λ (q : Label). Events (P.eats (setOf n) (namesOf n q)) x s r ev ev′) f v)) y
-
-  module _ {r : State} {b′ : Bufs} where
-    pub step-goes : {n c k : ℕ} → Step n c k ≡ partOf i → n < 3 → Did (stepping d o n c) x s r (bufs ev er sc) b′ → Left d o x s (bufs ev er sc) i k r b′
-    step-goes {n} {c} {k} e q v z u y = row-goes d o i h e k (stepOf n c) refl (is-step d o n c q v) y
+  module _ {r : Whole} {b′ : Bufs} where
+    pub step-goes : {n c k : ℕ} → Step n c k ≡ partOf i → Did (reads d o (stepOf n c)) x s r (bufs ev er sc) b′ → Left d o x s (bufs ev er sc) i k r b′
+    step-goes {n} {c} {k} e v z u y = row-goes d o i h e k (stepOf n c) refl v y
 
     pub node-goes : {a l k : ℕ} → Node a l k ≡ partOf i → Did (P.run d o (production a)) x s r (bufs ev er sc) b′ → Left d o x s (bufs ev er sc) i k r b′
     node-goes {a} {l} {k} e v z c y = row-goes d o i h e k (G.node (production a)) refl v y
@@ -372,34 +348,34 @@ module _ (d : ℕ) (o : Bool) (i : ℕ) (h : i < size) {x : Source} {s : State} 
   pub then-idle : {p q k : ℕ} → Then p q k ≡ partOf i → (s .mode ≡ 0 → ⊥) → Left d o x s (bufs ev er sc) i k s (bufs ev er sc)
   then-idle {p} {q} {k} e n z c y = row-goes d o i h e k (G.then (prog p)) refl (stops still d o (G.then (prog p)) tt n) y
 
-  pub then-goes : {p q k : ℕ} → Then p q k ≡ partOf i → 0 < q → s .mode ≡ 0 → {r : State} {ev′ : List ℕ} → Events P.trivia x s r ev ev′ → Left d o x s (bufs ev er sc) i q r (bufs ev′ er sc)
+  pub then-goes : {p q k : ℕ} → Then p q k ≡ partOf i → 0 < q → s .mode ≡ 0 → {r : Whole} {ev′ : List ℕ} → Events P.trivia x s r ev ev′ → Left d o x s (bufs ev er sc) i q r (bufs ev′ er sc)
   then-goes {p} {q} {k} e f good {r} {ev′} t z c y =
       is-row d o i h e (thence still d o (followed prog k (prog p)) (followed prog k (G.then (prog p))) (then-follows d o k (prog p)) good
       (plus (plusE still t) (subst (λ (u : Prog). Did (reads d o u) x r z (bufs ev′ er sc) c) (its-line i h e) (follows-row d o q f y))))
 
-  pub when-passes : {S p : ℕ} → When S p ≡ partOf i → {v : Bool} → v ≡ ahead (setOf S) (x .ids) s → v ≡ false → {q : State} {b : Bufs} → Did (P.branches (setOf S) (λ a. a)) x s q (bufs ev er sc) b → Did (reads d o (prog i)) x s q (bufs ev er sc) b
+  pub when-passes : {S p : ℕ} → When S p ≡ partOf i → {v : Bool} → v ≡ ahead (setOf S) (x .ids) s → v ≡ false → {q : Whole} {b : Bufs} → Did (P.branches (setOf S) (λ a. a)) x s q (bufs ev er sc) b → Did (reads d o (prog i)) x s q (bufs ev er sc) b
   when-passes {S} {p} e sees n y = is-row d o i h e (passes still d o (setOf S) (prog p) sees n y)
 
-  pub when-goes : {S p : ℕ} → When S p ≡ partOf i → 0 < p → {v : Bool} → v ≡ ahead (setOf S) (x .ids) s → v ≡ true → {r : State} {ev′ : List ℕ} → Events P.trivia x s r ev ev′ → Left d o x s (bufs ev er sc) i p r (bufs ev′ er sc)
+  pub when-goes : {S p : ℕ} → When S p ≡ partOf i → 0 < p → {v : Bool} → v ≡ ahead (setOf S) (x .ids) s → v ≡ true → {r : Whole} {ev′ : List ℕ} → Events P.trivia x s r ev ev′ → Left d o x s (bufs ev er sc) i p r (bufs ev′ er sc)
   when-goes {S} {p} e f sees n t z c y = is-row d o i h e (enters still d o (setOf S) (prog p) sees n (plus (plusE still t) (follows-row d o p f y)))
 
   -- alternatives: by how they go on where the first fails
   module _ {n p q f : ℕ} (e : Try n p q f ≡ partOf i) where
-    as-opt : n ≡ 9 → {z : State} {b : Bufs} → Did (reads d o (G.opt (prog p))) x s z (bufs ev er sc) b → Did (reads d o (prog i)) x s z (bufs ev er sc) b
+    as-opt : n ≡ 9 → {z : Whole} {b : Bufs} → Did (reads d o (G.opt (prog p))) x s z (bufs ev er sc) b → Did (reads d o (prog i)) x s z (bufs ev er sc) b
     as-opt k {z} {b} y = is-row d o i h e (subst (λ (c : Bool). Did (reads d o (ifb c (G.opt (prog p)) (ifb (eqb n 10) (G.last (prog p)) (G._/_ (prog p) (prog q))))) x s z (bufs ev er sc) b) (sym (eq-eqb n 9 k)) y)
 
-    as-last : (n ≡ 9 → ⊥) → n ≡ 10 → {z : State} {b : Bufs} → Did (reads d o (G.last (prog p))) x s z (bufs ev er sc) b → Did (reads d o (prog i)) x s z (bufs ev er sc) b
+    as-last : (n ≡ 9 → ⊥) → n ≡ 10 → {z : Whole} {b : Bufs} → Did (reads d o (G.last (prog p))) x s z (bufs ev er sc) b → Did (reads d o (prog i)) x s z (bufs ev er sc) b
     as-last j k {z} {b} y =
         is-row d o i h e (subst (λ (c : Bool). Did (reads d o (ifb c (G.opt (prog p)) (ifb (eqb n 10) (G.last (prog p)) (G._/_ (prog p) (prog q))))) x s z (bufs ev er sc) b) (sym (ne-eqb n 9 j))
         (subst (λ (c : Bool). Did (reads d o (ifb c (G.last (prog p)) (G._/_ (prog p) (prog q)))) x s z (bufs ev er sc) b) (sym (eq-eqb n 10 k)) y))
 
-    as-alt : (n ≡ 9 → ⊥) → (n ≡ 10 → ⊥) → {z : State} {b : Bufs} → Did (reads d o (G._/_ (prog p) (prog q))) x s z (bufs ev er sc) b → Did (reads d o (prog i)) x s z (bufs ev er sc) b
+    as-alt : (n ≡ 9 → ⊥) → (n ≡ 10 → ⊥) → {z : Whole} {b : Bufs} → Did (reads d o (G._/_ (prog p) (prog q))) x s z (bufs ev er sc) b → Did (reads d o (prog i)) x s z (bufs ev er sc) b
     as-alt j k {z} {b} y =
         is-row d o i h e (subst (λ (c : Bool). Did (reads d o (ifb c (G.opt (prog p)) (ifb (eqb n 10) (G.last (prog p)) (G._/_ (prog p) (prog q))))) x s z (bufs ev er sc) b) (sym (ne-eqb n 9 j))
         (subst (λ (c : Bool). Did (reads d o (ifb c (G.last (prog p)) (G._/_ (prog p) (prog q)))) x s z (bufs ev er sc) b) (sym (ne-eqb n 10 k)) y))
 
     -- whichever of the three it is
-    by-how : {z : State} {b : Bufs} → Did (reads d o (G.opt (prog p))) x s z (bufs ev er sc) b → Did (reads d o (G.last (prog p))) x s z (bufs ev er sc) b → Did (reads d o (G._/_ (prog p) (prog q))) x s z (bufs ev er sc) b → Did (reads d o (prog i)) x s z (bufs ev er sc) b
+    by-how : {z : Whole} {b : Bufs} → Did (reads d o (G.opt (prog p))) x s z (bufs ev er sc) b → Did (reads d o (G.last (prog p))) x s z (bufs ev er sc) b → Did (reads d o (G._/_ (prog p) (prog q))) x s z (bufs ev er sc) b → Did (reads d o (prog i)) x s z (bufs ev er sc) b
     by-how {z} {b} y₁ y₂ y₃ = go (ℕ-discrete n 9) (ℕ-discrete n 10)
       where
         go : Dec (n ≡ 9) → Dec (n ≡ 10) → Did (reads d o (prog i)) x s z (bufs ev er sc) b
@@ -410,28 +386,28 @@ module _ (d : ℕ) (o : Bool) (i : ℕ) (h : i < size) {x : Source} {s : State} 
     pub try-stops : (s .mode ≡ 0 → ⊥) → Did (reads d o (prog i)) x s s (bufs ev er sc) (bufs ev er sc)
     try-stops k = by-how (stops still d o (G.opt (prog p)) tt k) (stops still d o (G.last (prog p)) tt k) (stops still d o (G._/_ (prog p) (prog q)) tt k)
 
-    module _ (good : s .mode ≡ 0) {m : Mark} (mark : m ≡ markOf s) {r : State} {b : Bufs} (y : Did (λ a. reads d true (prog p) (P.trivia a)) x s r (bufs ev er sc) b) where
+    module _ (good : s .mode ≡ 0) {m : ℕ × ℕ} (mark : m ≡ markOf s) {r : Whole} {b : Bufs} (y : Did (λ a. reads d true (prog p) (P.trivia a)) x s r (bufs ev er sc) b) where
       pub try-on : (r .mode ≡ 1 → ⊥) → Did (reads d o (prog i)) x s r (bufs ev er sc) b
       try-on k =
           by-how (waives d o (prog p) still good mark y (waived-on m r k)) (tried-last (tries d o (G.last (prog p)) still good mark) y (lost-on m r k))
           (tried (tries d o (G._/_ (prog p) (prog q)) still good mark) y k)
 
       -- it failed: what is read then is nothing, in good order or, behind the last, failed; or the others
-      module _ (k : r .mode ≡ 1) {c : ℕ} (g : c ≡ missedOf n) where
-        turned : {a : Bool} → eqb n 10 ≡ a → withMode c (gone m r) ≡ withMode (ifb a 1 0) (gone m r)
-        turned u = ap (λ (a : ℕ). withMode a (gone m r)) (g ∙ ap (λ (a : Bool). ifb a 1 0) u)
+      module _ (k : r .mode ≡ 1) {v : Whole} (back : v ≡ gone m r) {c : ℕ} (g : c ≡ missedOf n) where
+        turned : {a : Bool} → eqb n 10 ≡ a → withMode c v ≡ withMode (ifb a 1 0) (gone m r)
+        turned u = (λ i. withMode c (back i)) ∙ ap (λ (a : ℕ). withMode a (gone m r)) (g ∙ ap (λ (a : Bool). ifb a 1 0) u)
 
-        pub try-fails : How n q → Left d o x s (bufs ev er sc) i q (withMode c (gone m r)) b
+        pub try-fails : How n q → Left d o x s (bufs ev er sc) i q (withMode c v) b
         try-fails (inl h) z u w = as-opt (h .0) (core.then (waives d o (prog p) still good mark y (turned (ne-eqb n 10 (λ j. omega (arith, h .0, j))) ∙ waived-back m r k)) (follows-none d o q (h .1) w))
         try-fails (inr (inl h)) z u w =
             as-last (λ j. omega (arith, h .0, j)) (h .0) (core.then (tried-last (tries d o (G.last (prog p)) still good mark) y (turned (eq-eqb n 10 (h .0)) ∙ ap (λ (a : ℕ). withMode a (gone m r)) (sym k) ∙ lost-back m r k)) (follows-none d o q (h .1) w))
         try-fails (inr (inr h)) z u w = as-alt (λ j. omega (arith, h .0, j)) (λ j. omega (arith, h .0, j)) (again (tries d o (G._/_ (prog p) (prog q)) still good mark) y k (turned (ne-eqb n 10 (λ j. omega (arith, h .0, j)))) .go (follows-row d o q (h .1) w))
 
-        pub failed-wf : Wf x b (withMode c (gone m r))
-        failed-wf = again (tries d o (G._/_ (prog p) (prog q)) still good mark) y k refl .here .wf
+        pub failed-wf : Wf x b (withMode c v)
+        failed-wf = again (tries d o (G._/_ (prog p) (prog q)) still good mark) y k (ap (withMode 0) back) .here .wf
 
 -- what is left of a line does nothing where its first row was missed
-module _ (d : ℕ) (o : Bool) {x : Source} {s : State} {b : Bufs} (w : Did (λ a. a) x s s b b) (n : s .mode ≡ 0 → ⊥) where
+module _ (d : ℕ) (o : Bool) {x : Source} {s : Whole} {b : Bufs} (w : Did (λ a. a) x s s b b) (n : s .mode ≡ 0 → ⊥) where
   rest-idle : (k : ℕ) → either (eqb k 0) (guarded (prog k)) ≡ true → Did (follows d o k) x s s b b
   rest-idle k t = go (eqb k 0) t
     where
@@ -439,27 +415,27 @@ module _ (d : ℕ) (o : Bool) {x : Source} {s : State} {b : Bufs} (w : Did (λ a
       go true u = w
       go false u = stops w d o (prog k) (subst T (sym u) tt) n
 
--- a part whose first row is missed fails at once, all names N entered or those of its label
-module _ (d : ℕ) (p : ℕ) (h : p < size) {led pos at : ℕ} {set name : ℕ} {x : Source} {s r : State} {ev er sc : List ℕ} (w : Wf x (bufs ev er sc) s) (f : Missing led p pos (x .ids) set name at) (g : leads (partOf p) ≡ true) (n : r .mode ≡ 1) where
-  pub first-missed : (l : Label) → l ≡ labelOf name → Events (P.eats (setOf set) (namesOf set l)) x s r ev ev → Did (reads d true (prog p)) x s r (bufs ev er sc) (bufs ev er sc)
-  first-missed l q v =
+-- a part whose first row is missed fails at once
+module _ (d : ℕ) (p : ℕ) (h : p < size) {led pos at code : ℕ} {x : Source} {s r : Whole} {ev er sc : List ℕ} (w : Wf x (bufs ev er sc) s) (f : Missing led p pos (x .ids) code at) (g : leads (partOf p) ≡ true) (n : r .mode ≡ 1) where
+  pub first-missed : Events (P.eats (setOf (f .set)) (namesOf code)) x s r ev ev → Did (reads d true (prog p)) x s r (bufs ev er sc) (bufs ev er sc)
+  first-missed v =
       let y = plusE (from x s ev er sc w) v in
-      eat-fails d true p h ev er sc w (f .row) l q v r (bufs ev er sc) (rest-idle d true (from x r ev er sc (y .wf)) (λ z. omega (arith, n, z)) (f .next) (ap leads (f .row) ∙ g))
+      eat-goes d true p h ev er sc w (f .row) v r (bufs ev er sc) (rest-idle d true (from x r ev er sc (y .wf)) (λ z. omega (arith, n, z)) (f .next) (ap leads (f .row) ∙ g))
 
 -- what is told of a part's first row
 abbrev MissingOf : ℕ → ℕ → ℕ → List ℕ → First → Type 0
 MissingOf led p pos ids Unknown = Unit
-MissingOf led p pos ids (Missed set name at) = Missing led p pos ids set name at
+MissingOf led p pos ids (Missed code at) = Missing led p pos ids code at
 
 pub unforetold : (led p pos : ℕ) (ids : List ℕ) → Foretold led p pos ids Unknown
-unforetold led p pos ids = record { missed = λ set name at e. absurd (subst (λ (z : First). elim z as (λ _. Type 0) [ Unknown ↦ Unit | Missed a b c ↦ ⊥ ]) e tt) }
+unforetold led p pos ids = record { missed = λ code at e. absurd (subst (λ (z : First). elim z as (λ _. Type 0) [ Unknown ↦ Unit | Missed a b ↦ ⊥ ]) e tt) }
 
-pub foretold : {led p pos : ℕ} {ids : List ℕ} {set name at : ℕ} → Missing led p pos ids set name at → Foretold led p pos ids (Missed set name at)
-foretold {led} {p} {pos} {ids} m = record { missed = λ s n a e. subst (MissingOf led p pos ids) e m }
+pub foretold : {led p pos : ℕ} {ids : List ℕ} {code at : ℕ} → Missing led p pos ids code at → Foretold led p pos ids (Missed code at)
+foretold {led} {p} {pos} {ids} m = record { missed = λ c a e. subst (MissingOf led p pos ids) e m }
 
-module _ {led p pos : ℕ} {ids : List ℕ} {set name next at : ℕ} (a : led ≡ 0 → ⊥) (e : Eat set name next ≡ partOf p) (q : Peeked ids pos at) where
-  pub missing-end : length ids ≤ at → Missing led p pos ids set name at
-  missing-end h = record { asked = a; next = next; row = e; peeked = q; none = ap hits (next-end (setOf set) q h) }
+module _ {led p pos : ℕ} {ids : List ℕ} {S code next at : ℕ} (a : led ≡ 0 → ⊥) (e : Eat S code next ≡ partOf p) (q : Peeked ids pos at) where
+  pub missing-end : length ids ≤ at → Missing led p pos ids code at
+  missing-end h = record { asked = a; set = S; next = next; row = e; peeked = q; none = ap hits (next-end (setOf S) q h) }
 
-  pub missing-other : at < length ids → m.Nothing ≡ matchedOf (pick (setOf set) (getD ids at 0)) → Missing led p pos ids set name at
-  missing-other h t = record { asked = a; next = next; row = e; peeked = q; none = ap hits (next-other (setOf set) q h t) }
+  pub missing-other : at < length ids → false ≡ isSome (pick (setOf S) (getD ids at 0)) → Missing led p pos ids code at
+  missing-other h t = record { asked = a; set = S; next = next; row = e; peeked = q; none = ap hits (next-lacks (setOf S) q h t) }

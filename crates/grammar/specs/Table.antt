@@ -13,10 +13,10 @@ use Rattle.peg.specs.Prog as G
 use Rattle.peg.specs.Grammar.{grammar, kind}
 use Rattle.peg.specs.Run as P
 use Rattle.peg.proofs.Every.{productions}
-use Rattle.reader.specs.declared.names.Label.{Label}
-use Rattle.reader.specs.declared.names.Label.the-variants.{Ids, As}
-use Rattle.reader.specs.Bits.{ifb}
-use Rattle.reader.specs.Did.{namesOf, Peeked, hits}
+use Rattle.notes.specs.Bits.{ifb}
+use Rattle.notes.specs.Means.{namesOf}
+use Rattle.notes.specs.Did.{Peeked, hits}
+use Rattle.steps.specs.Steps.{Tabled}
 use Rattle.grammar.specs.declared.parts.Part.{Part}
 use Rattle.grammar.specs.declared.parts.Part.the-variants.{Eat, Step, Node, Memo, Seq, Then, When, Many, Try}
 use Rattle.grammar.specs.declared.parts.First.{First}
@@ -36,16 +36,16 @@ pub record Lent (t : List ℕ) : Type 0 where
   pub long : length t ≡ size
   pub row : (i : ℕ) → getD t i 0 ≡ rowOf i
 
+-- the table and the sets' words as they are lent
+abbrev pub Lends : List ℕ → List (List ℕ) → Type 0
+Lends t sets = Lent t × Tabled sets
+
 -- a row in octal: the combinator's number, then three digits for each operand
 abbrev pub split : ℕ → Part
 split r = made (r / 0o1_000_000_000) (r / 0o1_000_000 % 0o1_000) (r / 0o1_000 % 0o1_000) (r % 0o1_000)
 
 unfoldable pub partOf : ℕ → Part
 partOf i = split (rowOf i)
-
--- the names that a set enters: one name, or the set's ids
-abbrev pub labelOf : ℕ → Label
-labelOf n = ifb (eqb n 85) Ids (As n)
 
 -- a production by its kind
 unfoldable pub production : ℕ → Production
@@ -61,7 +61,7 @@ followed g k p = ifb (eqb k 0) p (p ⨟ g k)
 
 -- a part, given what the rows before it stand for
 abbrev pub progOf : (ℕ → Prog) → Part → Prog
-progOf g (Eat s n k) = followed g k (eat (setOf s) (namesOf s (labelOf n)))
+progOf g (Eat s c k) = followed g k (eat (setOf s) (namesOf c))
 progOf g (Step n s k) = followed g k (stepOf n s)
 progOf g (Node a i k) = followed g k (node (production a))
 progOf g (Memo a i k) = followed g k (memo (production a))
@@ -91,10 +91,6 @@ follows d o i = ifb (eqb i 0) (λ a. a) (reads d o (prog i))
 abbrev pub Row : ℕ → Type 0
 Row i = (0 < i) × (i < size)
 
--- what takes no other part: `not`, `recover`, or the names of an `if_next` whose row is not there
-abbrev pub stepping : ℕ → Bool → ℕ → ℕ → P.Reader
-stepping d o n s = ifb (eqb n 3) (P.branches (setOf s) (λ a. a)) (reads d o (stepOf n s))
-
 -- a production's kind and the row of its line
 pub record Line (a i : ℕ) : Type 0 where
   pub known : kind (production a) ≡ a
@@ -113,12 +109,13 @@ abbrev pub missedOf : ℕ → ℕ
 missedOf n = ifb (eqb n 10) 1 0
 
 -- a part whose first row is missed: the row of the table says what it is, and at is the row that stands there
-pub record Missing (led p pos : ℕ) (ids : List ℕ) (set name at : ℕ) : Type 0 where
+pub record Missing (led p pos : ℕ) (ids : List ℕ) (code at : ℕ) : Type 0 where
   pub asked : led ≡ 0 → ⊥
+  pub set : ℕ
   pub next : ℕ
-  pub row : Eat set name next ≡ partOf p
+  pub row : Eat set code next ≡ partOf p
   pub peeked : Peeked ids pos at
   pub none : hits (P.next (setOf set) (drop pos ids)) ≡ false
 
 pub record Foretold (led p pos : ℕ) (ids : List ℕ) (r : First) : Type 0 where
-  pub missed : (set name at : ℕ) → r ≡ Missed set name at → Missing led p pos ids set name at
+  pub missed : (code at : ℕ) → r ≡ Missed code at → Missing led p pos ids code at

@@ -1,19 +1,13 @@
 // What reads by the table: one function for each combinator. They call one another in a cycle, and what falls is d, the nodes that
 // may still be opened, and within a line the row of the table.
 use crate::table::ITEM;
-use crate::table::ROWS;
-use kinds::Matched;
 use kinds::kind;
-use kinds::matched;
-use reader::cache::seen;
-use reader::names::Label;
-use reader::rows::peek;
-use reader::state::State;
-use reader::state::begun;
-use reader::state::closed;
-use reader::state::skip_trivia;
-use reader::steps::Eaten;
-use reader::steps::eat_at;
+use kinds::within;
+use notes::cache::remembers;
+use notes::cache::seen;
+use notes::names::expected;
+use notes::rows::peek;
+use steps::state::State;
 ghost use mathlib.Core.Path.{_≡_};
 ghost use mathlib.Core.Bool.{true, false};
 ghost use mathlib.Core.Logic.{_⊎_};
@@ -24,16 +18,14 @@ ghost use Rattle.peg.specs.Prog.{ifnext, _/_};
 ghost use Rattle.peg.specs.Prog as G;
 ghost use Rattle.peg.specs.Grammar as K;
 ghost use Rattle.peg.specs.Run as P;
-ghost use Rattle.reader.specs.Means.{limits, source, bufs, Rows};
-ghost use Rattle.reader.specs.Did.{Ok, Wf, Did, Both, ahead};
+ghost use Rattle.notes.specs.Means.{limits, source, bufs, Rows};
+ghost use Rattle.notes.specs.Did.{Wf, Did, Both};
+ghost use Rattle.steps.specs.Steps.{whole, Whence, Tabled};
 ghost use Rattle.grammar.specs.Rows.{size};
-ghost use Rattle.grammar.specs.Table.{Lent, Row, Foretold, missedOf, partOf, labelOf, stepping, prog, production, reads, Line, Cached, Bit};
+ghost use Rattle.grammar.specs.Table.{Lent, Lends, Row, Foretold, missedOf, partOf, stepOf, prog, production, reads, Line, Cached, Bit};
 
 // `not`, beside `recover`.
 const UNLESS: u32 = 1;
-
-// An `if_next` whose row is not there.
-const PASS: u32 = 3;
 
 // The last alternative of several.
 const LAST: u32 = 10;
@@ -41,7 +33,7 @@ const LAST: u32 = 10;
 // A combinator of the module with its operands: sets and names by number, a production by its kind and the row of its line, parts by
 // their rows. Where the last operand is what follows, 0 stands for nothing.
 pub enum Part {
-    Eat(usize, u32, usize),
+    Eat(usize, usize, usize),
     // `not` or `recover`, by which it is.
     Step(u32, usize, usize),
     Node(u32, usize, usize),
@@ -57,7 +49,7 @@ pub enum Part {
 }
 
 // A row of the table, which is lent: a table named where it is read would be laid out anew for each row.
-fn part_at(i: usize, table: &[u32]) -> Part
+fn part_at(i: usize, table: &[u32; 284]) -> Part
     requires { ⌜ (i < size) × Lent (now table) ⌝ }
     ensures { λ r. ⌜ r ≡ partOf i ⌝ }
 {
@@ -70,7 +62,7 @@ fn part_at(i: usize, table: &[u32]) -> Part
     let second = b as usize;
     let third = c as usize;
     match n {
-        0 => Part::Eat(first, b, third),
+        0 => Part::Eat(first, second, third),
         1 => Part::Step(1, first, third),
         2 => Part::Step(2, first, third),
         3 => Part::Node(a, second, third),
@@ -96,41 +88,37 @@ fn missed(how: u32) -> u8
 // What is known of a part before it is read.
 pub enum First {
     Unknown,
-    // It fails at once: the set and the name of its first row, and the row that stands there.
-    Missed(usize, u32, usize),
+    // It fails at once: the code of its first row's names, and the row that stands there.
+    Missed(usize, usize),
 }
 
 // Looks whether a part fails at its first row, so that no call is made for it.
-fn first_row(led: usize, p: usize, pos: usize, ids: &[u32], table: &[u32]) -> First
-    requires { ⌜ (p < size) × Lent (now table) × (pos ≤ length (now ids)) ⌝ }
+fn first_row(
+    led: usize,
+    p: usize,
+    pos: usize,
+    ids: &[u32],
+    table: &[u32; 284],
+    sets: &[[u64; 2]; 55],
+) -> First
+    requires { ⌜ (p < size) × Lends (now table) (now sets) × (pos ≤ length (now ids)) ⌝ }
     ensures { λ r. ⌜ Foretold led p pos (now (ids .entry)) r ⌝ }
 {
     if led == 0 {
         return First::Unknown;
     }
-    let Part::Eat(set, name, next) = part_at(p, table) else {
+    let Part::Eat(set, code, next) = part_at(p, table) else {
         return First::Unknown;
     };
     let at = peek(pos, ids);
     if at >= ids.len() {
-        return First::Missed(set, name, at);
+        return First::Missed(code, at);
     }
     let id = ids[at];
-    let Matched::Nothing = matched(set, id) else {
+    if within(set, id, sets) {
         return First::Unknown;
-    };
-    First::Missed(set, name, at)
-}
-
-// The number past all names stands for the ids of the set.
-fn label(name: u32) -> Label
-    requires { ⌜ name < 86 ⌝ }
-    ensures { λ r. ⌜ r ≡ labelOf name ⌝ }
-{
-    if name == 85 {
-        return Label::Ids;
     }
-    Label::As(name as u8)
+    First::Missed(code, at)
 }
 
 // EXPR and TERM remember where they failed: two bits for each row.
@@ -144,8 +132,7 @@ fn bit_of(kind: u32, row: usize) -> usize
     2 * row + 1
 }
 
-// `not` or `recover`, which take no other part, or the names of an `if_next` that is passed over. They stand apart from `exec`, so that their room on
-// the stack is not taken by each open node.
+// `not` or `recover`, which take no other part. They stand apart from `exec`, so that their room on the stack is not taken by each open node.
 fn step(
     which: u32,
     set: usize,
@@ -157,17 +144,27 @@ fn step(
     ends: &[u32],
     events: &mut [u32],
     errors: &mut [u32],
+    notes: &mut [usize; 67],
+    sets: &[[u64; 2]; 55],
 ) -> State
-    requires { ⌜ Rows (source (now src) (now ids) (now ends)) × Ok (length (now ids)) s × (s .evcap ≤ length (now events)) × (s .ercap ≤ length (now errors)) × (which ≤ 3) × (which ≡ 3 → ahead (setOf set) (now ids) s ≡ false) ⌝ }
-    ensures { λ r. ⌜ Both (stepping d optional which set) (source (now (src .entry)) (now (ids .entry)) (now (ends .entry))) s r (now (events .entry)) (now (events .exit)) (now (errors .entry)) (now (errors .exit)) ⌝ }
+    requires { ⌜ Whence (now src) (now ids) (now ends) s (now notes) (now events) (now errors) × (set < 55) × Tabled (now sets) ⌝ }
+    ensures { λ r. ⌜ Both (reads d optional (stepOf which set)) (source (now (src .entry)) (now (ids .entry)) (now (ends .entry))) (whole s (now (notes .entry))) (whole r (now (notes .exit))) (now (events .entry)) (now (events .exit)) (now (errors .entry)) (now (errors .exit)) ⌝ }
 {
     if which == UNLESS {
-        return s.unless(set, ids, ends, events);
+        return s.unless(set, ids, ends, events, notes, sets);
     }
-    if which == PASS {
-        return s.pass(set, ids);
-    }
-    s.recover(d, optional, set, src, ids, ends, events, errors)
+    s.recover(
+        d,
+        optional,
+        set,
+        src,
+        ids,
+        ends,
+        events,
+        errors,
+        notes,
+        sets,
+    )
 }
 
 // A part of a line and what follows it, where d more nodes may be opened; optional says whether a part around it may be left out. What follows is read
@@ -183,31 +180,36 @@ fn exec(
     events: &mut [u32],
     errors: &mut [u32],
     scratch: &mut [u64],
-    table: &[u32],
+    notes: &mut [usize; 67],
+    table: &[u32; 284],
+    sets: &[[u64; 2]; 55],
 ) -> State
-    requires { ⌜ Rows (source (now src) (now ids) (now ends)) × Wf (source (now src) (now ids) (now ends)) (bufs (now events) (now errors) (now scratch)) s × Row i × Lent (now table) ⌝ }
-    ensures { λ r. ⌜ Did (reads d optional (prog i)) (source (now (src .entry)) (now (ids .entry)) (now (ends .entry))) s r (bufs (now (events .entry)) (now (errors .entry)) (now (scratch .entry))) (bufs (now (events .exit)) (now (errors .exit)) (now (scratch .exit))) ⌝ }
+    requires { ⌜ Rows (source (now src) (now ids) (now ends)) × Wf (source (now src) (now ids) (now ends)) (bufs (now events) (now errors) (now scratch)) (whole s (now notes)) × Row i × Lends (now table) (now sets) ⌝ }
+    ensures { λ r. ⌜ Did (reads d optional (prog i)) (source (now (src .entry)) (now (ids .entry)) (now (ends .entry))) (whole s (now (notes .entry))) (whole r (now (notes .exit))) (bufs (now (events .entry)) (now (errors .entry)) (now (scratch .entry))) (bufs (now (events .exit)) (now (errors .exit)) (now (scratch .exit))) ⌝ }
 {
     while i > 0 {
         match part_at(i, table) {
-            Part::Eat(set, name, next) => {
+            Part::Eat(set, code, next) => {
                 i = next;
                 if s.mode == 0 {
-                    match eat_at(s.pos, s.ev, s.evcap, s.full, set, ids, ends, events) {
-                        Eaten::Row(past) => {
-                            s.pos = past.pos;
-                            s.ev = past.ev;
-                            s.full = past.full;
-                        }
-                        Eaten::Miss(at) => {
-                            s = s.expected(set, label(name), at);
-                            s.mode = 1;
-                        }
-                    }
+                    s = s.expect(set, code, ids, ends, events, notes, sets);
                 }
             }
             Part::Step(which, set, next) => {
-                s = step(which, set, s, d, optional, src, ids, ends, events, errors);
+                s = step(
+                    which,
+                    set,
+                    s,
+                    d,
+                    optional,
+                    src,
+                    ids,
+                    ends,
+                    events,
+                    errors,
+                    notes,
+                    sets,
+                );
                 i = next;
             }
             Part::Node(kind, line, next) => {
@@ -223,7 +225,9 @@ fn exec(
                     events,
                     errors,
                     scratch,
+                    notes,
                     table,
+                    sets,
                 );
                 i = next;
             }
@@ -240,12 +244,27 @@ fn exec(
                     events,
                     errors,
                     scratch,
+                    notes,
                     table,
+                    sets,
                 );
                 i = next;
             }
             Part::Many(p, next) => {
-                s = many(p, s, d, src, ids, ends, events, errors, scratch, table);
+                s = many(
+                    p,
+                    s,
+                    d,
+                    src,
+                    ids,
+                    ends,
+                    events,
+                    errors,
+                    scratch,
+                    notes,
+                    table,
+                    sets,
+                );
                 i = next;
             }
             Part::Seq(p, q) => {
@@ -260,7 +279,9 @@ fn exec(
                     events,
                     errors,
                     scratch,
+                    notes,
                     table,
+                    sets,
                 );
                 i = q;
             }
@@ -268,39 +289,28 @@ fn exec(
                 if s.mode != 0 {
                     i = next;
                 } else {
-                    let at = skip_trivia(s.pos, s.ev, s.evcap, s.full, ids, ends, events);
-                    s.pos = at.pos;
-                    s.ev = at.ev;
-                    s.full = at.full;
+                    s = s.trivia(ids, ends, events);
                     i = p;
                 }
             }
             Part::When(set, p) => {
-                if !s.sees(set, ids) {
-                    s = step(PASS, set, s, d, optional, src, ids, ends, events, errors);
+                if !s.sees(set, ids, sets) {
+                    s.pass(set, ids, notes);
                     return s;
                 }
-                let at = skip_trivia(s.pos, s.ev, s.evcap, s.full, ids, ends, events);
-                s.pos = at.pos;
-                s.ev = at.ev;
-                s.full = at.full;
+                s = s.trivia(ids, ends, events);
                 i = p;
             }
             Part::Try(how, p, q, led) => {
                 if s.mode != 0 {
                     return s;
                 }
-                let pos = s.pos;
-                let ev = s.ev;
-                let at = skip_trivia(s.pos, s.ev, s.evcap, s.full, ids, ends, events);
-                s.pos = at.pos;
-                s.ev = at.ev;
-                s.full = at.full;
-                match first_row(led, p, s.pos, ids, table) {
-                    First::Missed(set, name, row) => {
-                        s = s.expected(set, label(name), row);
-                        s.pos = pos;
-                        s.ev = ev;
+                let m = s.mark();
+                s = s.trivia(ids, ends, events);
+                match first_row(led, p, s.pos, ids, table, sets) {
+                    First::Missed(code, row) => {
+                        expected(code, row, notes);
+                        s = s.rewind(m);
                         s.mode = missed(how);
                         i = q;
                     }
@@ -316,13 +326,14 @@ fn exec(
                             events,
                             errors,
                             scratch,
+                            notes,
                             table,
+                            sets,
                         );
                         if s.mode != 1 {
                             return s;
                         }
-                        s.pos = pos;
-                        s.ev = ev;
+                        s = s.rewind(m);
                         s.mode = missed(how);
                         i = q;
                     }
@@ -333,7 +344,7 @@ fn exec(
     s
 }
 
-// A production: a node around what its line reads. It is begun and closed in place, and handed over only where `end` has an error to choose.
+// A production: a node around what its line reads.
 fn node(
     kind: u32,
     line: usize,
@@ -346,32 +357,29 @@ fn node(
     events: &mut [u32],
     errors: &mut [u32],
     scratch: &mut [u64],
-    table: &[u32],
+    notes: &mut [usize; 67],
+    table: &[u32; 284],
+    sets: &[[u64; 2]; 55],
 ) -> State
-    requires { ⌜ Rows (source (now src) (now ids) (now ends)) × Wf (source (now src) (now ids) (now ends)) (bufs (now events) (now errors) (now scratch)) s × Line kind line × Lent (now table) ⌝ }
-    ensures { λ r. ⌜ Did (P.run d optional (production kind)) (source (now (src .entry)) (now (ids .entry)) (now (ends .entry))) s r (bufs (now (events .entry)) (now (errors .entry)) (now (scratch .entry))) (bufs (now (events .exit)) (now (errors .exit)) (now (scratch .exit))) ⌝ }
+    requires { ⌜ Rows (source (now src) (now ids) (now ends)) × Wf (source (now src) (now ids) (now ends)) (bufs (now events) (now errors) (now scratch)) (whole s (now notes)) × Line kind line × Lends (now table) (now sets) ⌝ }
+    ensures { λ r. ⌜ Did (P.run d optional (production kind)) (source (now (src .entry)) (now (ids .entry)) (now (ends .entry))) (whole s (now (notes .entry))) (whole r (now (notes .exit))) (bufs (now (events .entry)) (now (errors .entry)) (now (scratch .entry))) (bufs (now (events .exit)) (now (errors .exit)) (now (scratch .exit))) ⌝ }
 {
-    let start = begun(
-        s.pos,
-        s.fuel,
-        s.mode,
-        s.ev,
-        s.evcap,
-        s.full,
-        d,
-        ids,
-        ends,
-        events,
-    );
-    s.pos = start.pos;
-    s.fuel = start.fuel;
-    s.mode = start.mode;
-    s.ev = start.ev;
-    s.full = start.full;
+    s = s.begin(d, ids, ends, events);
     let from = s.pos;
     let at = s.ev;
     if d == 0 {
-        return s.end(kind, from, at, optional, src, ids, ends, events, errors);
+        return s.end(
+            kind,
+            from,
+            at,
+            optional,
+            src,
+            ids,
+            ends,
+            events,
+            errors,
+            notes,
+        );
     }
     s = exec(
         line,
@@ -384,31 +392,22 @@ fn node(
         events,
         errors,
         scratch,
+        notes,
         table,
+        sets,
     );
-    if s.mode == 0 {
-        let pen = closed(kind, from, s.pos, at, s.ev, s.evcap, s.full, ends, events);
-        s.ev = pen.ev;
-        s.full = pen.full;
-        return s;
-    }
-    if optional {
-        let pen = closed(
-            kind::ERROR,
-            from,
-            s.pos,
-            at,
-            s.ev,
-            s.evcap,
-            s.full,
-            ends,
-            events,
-        );
-        s.ev = pen.ev;
-        s.full = pen.full;
-        return s;
-    }
-    s.end(kind, from, at, optional, src, ids, ends, events, errors)
+    s.end(
+        kind,
+        from,
+        at,
+        optional,
+        src,
+        ids,
+        ends,
+        events,
+        errors,
+        notes,
+    )
 }
 
 // A production that failed at this row before is not read again.
@@ -424,10 +423,12 @@ fn cached(
     events: &mut [u32],
     errors: &mut [u32],
     scratch: &mut [u64],
-    table: &[u32],
+    notes: &mut [usize; 67],
+    table: &[u32; 284],
+    sets: &[[u64; 2]; 55],
 ) -> State
-    requires { ⌜ Rows (source (now src) (now ids) (now ends)) × Wf (source (now src) (now ids) (now ends)) (bufs (now events) (now errors) (now scratch)) s × Line kind line × Cached kind × Lent (now table) ⌝ }
-    ensures { λ r. ⌜ Did (P.memos (K.kind (production kind)) (P.run d optional (production kind))) (source (now (src .entry)) (now (ids .entry)) (now (ends .entry))) s r (bufs (now (events .entry)) (now (errors .entry)) (now (scratch .entry))) (bufs (now (events .exit)) (now (errors .exit)) (now (scratch .exit))) ⌝ }
+    requires { ⌜ Rows (source (now src) (now ids) (now ends)) × Wf (source (now src) (now ids) (now ends)) (bufs (now events) (now errors) (now scratch)) (whole s (now notes)) × Line kind line × Cached kind × Lends (now table) (now sets) ⌝ }
+    ensures { λ r. ⌜ Did (P.memos (K.kind (production kind)) (P.run d optional (production kind))) (source (now (src .entry)) (now (ids .entry)) (now (ends .entry))) (whole s (now (notes .entry))) (whole r (now (notes .exit))) (bufs (now (events .entry)) (now (errors .entry)) (now (scratch .entry))) (bufs (now (events .exit)) (now (errors .exit)) (now (scratch .exit))) ⌝ }
 {
     if s.mode != 0 {
         return s;
@@ -449,12 +450,15 @@ fn cached(
         events,
         errors,
         scratch,
+        notes,
         table,
+        sets,
     );
     if s.mode != 1 {
         return s;
     }
-    s.remembers(bit, scratch)
+    remembers(bit, scratch, notes);
+    s
 }
 
 // A repetition; its rows are a bound that is never reached.
@@ -468,10 +472,12 @@ fn many(
     events: &mut [u32],
     errors: &mut [u32],
     scratch: &mut [u64],
-    table: &[u32],
+    notes: &mut [usize; 67],
+    table: &[u32; 284],
+    sets: &[[u64; 2]; 55],
 ) -> State
-    requires { ⌜ Rows (source (now src) (now ids) (now ends)) × Wf (source (now src) (now ids) (now ends)) (bufs (now events) (now errors) (now scratch)) s × Row p × Lent (now table) ⌝ }
-    ensures { λ r. ⌜ Did (reads d true (G.many (prog p))) (source (now (src .entry)) (now (ids .entry)) (now (ends .entry))) s r (bufs (now (events .entry)) (now (errors .entry)) (now (scratch .entry))) (bufs (now (events .exit)) (now (errors .exit)) (now (scratch .exit))) ⌝ }
+    requires { ⌜ Rows (source (now src) (now ids) (now ends)) × Wf (source (now src) (now ids) (now ends)) (bufs (now events) (now errors) (now scratch)) (whole s (now notes)) × Row p × Lends (now table) (now sets) ⌝ }
+    ensures { λ r. ⌜ Did (reads d true (G.many (prog p))) (source (now (src .entry)) (now (ids .entry)) (now (ends .entry))) (whole s (now (notes .entry))) (whole r (now (notes .exit))) (bufs (now (events .entry)) (now (errors .entry)) (now (scratch .entry))) (bufs (now (events .exit)) (now (errors .exit)) (now (scratch .exit))) ⌝ }
 {
     if s.mode != 0 {
         return s;
@@ -491,7 +497,9 @@ fn many(
             events,
             errors,
             scratch,
+            notes,
             table,
+            sets,
         );
         if s.mode != 0 {
             return s.undone(m);
@@ -510,11 +518,13 @@ pub fn rule_item(
     events: &mut [u32],
     errors: &mut [u32],
     scratch: &mut [u64],
+    notes: &mut [usize; 67],
+    table: &[u32; 284],
+    sets: &[[u64; 2]; 55],
 ) -> State
-    requires { ⌜ Rows (source (now src) (now ids) (now ends)) × Wf (source (now src) (now ids) (now ends)) (bufs (now events) (now errors) (now scratch)) s ⌝ }
-    ensures { λ r. ⌜ Did (P.read-rule limits) (source (now (src .entry)) (now (ids .entry)) (now (ends .entry))) s r (bufs (now (events .entry)) (now (errors .entry)) (now (scratch .entry))) (bufs (now (events .exit)) (now (errors .exit)) (now (scratch .exit))) ⌝ }
+    requires { ⌜ Rows (source (now src) (now ids) (now ends)) × Wf (source (now src) (now ids) (now ends)) (bufs (now events) (now errors) (now scratch)) (whole s (now notes)) × Lends (now table) (now sets) ⌝ }
+    ensures { λ r. ⌜ Did (P.read-rule limits) (source (now (src .entry)) (now (ids .entry)) (now (ends .entry))) (whole s (now (notes .entry))) (whole r (now (notes .exit))) (bufs (now (events .entry)) (now (errors .entry)) (now (scratch .entry))) (bufs (now (events .exit)) (now (errors .exit)) (now (scratch .exit))) ⌝ }
 {
-    let table = ROWS;
     exec(
         ITEM,
         s,
@@ -526,6 +536,8 @@ pub fn rule_item(
         events,
         errors,
         scratch,
-        &table,
+        notes,
+        table,
+        sets,
     )
 }

@@ -5,8 +5,8 @@ use merger::Merged;
 ghost use mathlib.Core.Path.{_≡_};
 ghost use Rattle.peg.specs.Answer.{after};
 ghost use Rattle.peg.specs.Merge.{merging};
-ghost use Rattle.reader.specs.Judge.{desk};
-ghost use Rattle.reader.specs.Means.{limits};
+ghost use Rattle.refusals.specs.Judge.{desk};
+ghost use Rattle.notes.specs.Means.{limits};
 ghost use Rattle.cutter.specs.Rows.{cut};
 ghost use Rattle.stableglow.specs.Face.{face, faced, readFace, readFaced, cutFace, cutFaced};
 

@@ -6,5 +6,5 @@ use Rattle.cells.proofs.Zeros.{cleared}
 S = "({args} .d .state)"
 ANS = {
     "returns": f"λ i. record {{ number = 0; outcome = {{outcome}} .ensures i; covered = {S} .pos; event-count = ({S} .ev + 4) / 4; error-count = {{args}} .d .before; left = {S} .fuel;"
-    f" events = cleared ({{args}} .events .now) _ ({S} .ev + 4) ({{pre}} .0) ({{clear}} .ensures) i; errors = cleared ({{args}} .errors .now) _ ({S} .er) ({{pre}} .1) ({{clear2}} .ensures) i; scratch = {{wipe}} .ensures i }}",
+    f" events = cleared ({{args}} .events .now) _ ({S} .ev + 4) ({{pre}} .0) ({{clear}} .ensures) i; errors = cleared ({{args}} .errors .now) _ ({{args}} .er) ({{pre}} .1) ({{clear2}} .ensures) i; scratch = {{wipe}} .ensures i }}",
 }

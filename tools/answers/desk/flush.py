@@ -1,25 +1,29 @@
-
-WHERE='items/flush'
-USES="""-- `desk::items::flush` meets its contract. The loop's invariant: what was written and what is left to read is all. Assumes nothing.
-use Prim.Native.Nat.{_+_, _-_, _≤_}
+WHERE = "items/flush"
+USES = """-- `desk::items::flush` meets its contract. The loop's invariant: what was written and what is left to read is all. Assumes nothing.
+use Prim.Native.Nat.{ℕ, _+_, _-_, _≤_}
+use mathlib.Core.List.{List, []}
 use native.Mathlib.Omega.{arith}
 use lib.ListN.{length}
+use Rattle.steps.specs.Steps.{whole}
 use Rattle.desk.proofs.Writing.{Flushing, flushing, flush-open, flush-on, flush-out, flush-most}
 """
-ANS={
-'Inv-loop':'Flushing records before s₀ s events₀ events at index',
-'μ-loop':'length records - at',
-'loop-holds':'flushing ({pre} .0) ({pre} .1) (omega (arith, {fits} .before))',
-'add-loop':'omega (arith, {loop} .inv .near, {good})',
-'same-length':'{loop} .inv .puts .long',
-'returns':'flush-most ({loop} .inv) ({if1} .taken)',
-'cast-names':'omega (arith, {shared-slice-known4} .given ({loop} .at + 3))',
-'put-requires':'flush-open ({loop} .inv)',
-'add-index':'omega (arith, {if1} .left, {loop} .inv .low)',
-'add-at':'omega (arith, {shared-slice-known4} .given ({loop} .at + 3), {good})',
-'add-at-2':'omega (arith, {shared-slice-known4} .given ({loop} .at + 3), {good})',
-'loop-less':'omega arith',
-'loop-again':'flush-on ({loop} .inv) ({loop-test} .taken) ({if1} .left) (omega (arith, {shared-slice-known4} .given ({loop} .at + 3))) ({put} .ensures)',
-'same-length-2':'{loop} .inv .puts .long',
-'returns-2':'flush-out ({loop} .inv) ({loop-test} .left)',
+# What holds whatever is noted is known where nothing is.
+INV = "({loop} .inv [])"
+WORD = "{shared-slice-known4} .given ({loop} .at + 3)"
+ANS = {
+    "Inv-loop": "(l : List ℕ) → Flushing records before (whole s₀ l) (whole s l) events₀ events at index",
+    "μ-loop": "length records - at",
+    "loop-holds": "λ l. flushing ({pre} .0) ({pre} .1) (omega (arith, {fits} .before))",
+    "add-loop": f"omega (arith, {INV} .near, {{good}})",
+    "same-length": f"{INV} .puts .long",
+    "returns": "λ l. flush-most ({loop} .inv l) ({if1} .taken)",
+    "cast-names": f"omega (arith, {WORD})",
+    "put-requires": f"flush-open {INV}",
+    "add-index": f"omega (arith, {{if1}} .left, {INV} .low)",
+    "add-at": f"omega (arith, {WORD}, {{good}})",
+    "add-at-2": f"omega (arith, {WORD}, {{good}})",
+    "loop-less": "omega arith",
+    "loop-again": f"λ l. flush-on ({{loop}} .inv l) ({{loop-test}} .taken) ({{if1}} .left) (omega (arith, {WORD})) ({{put}} .ensures l)",
+    "same-length-2": f"{INV} .puts .long",
+    "returns-2": "λ l. flush-out ({loop} .inv l) ({loop-test} .left)",
 }

@@ -1,10 +1,22 @@
-
-WHERE='items/tell'
-USES="""-- `desk::items::tell` meets its contract. Assumes nothing.
+WHERE = "items/tell"
+USES = """-- `desk::items::tell` meets its contract. Assumes nothing.
 use native.Mathlib.Omega.{arith}
+use mathlib.Core.Path.{sym, subst}
+use Rattle.notes.specs.Whole.{Whole}
+use Rattle.notes.specs.Means.{bufs}
+use Rattle.notes.proofs.Cells.{long, new-item}
+use Rattle.steps.specs.Steps.{whole}
+use Rattle.desk.specs.Items.{Tells, tally}
 use Rattle.desk.proofs.Telling.{tells}
 """
-ANS={
-'flush-requires':'({pre} .0, {pre} .1)',
-'returns':'λ x sc w. tells x ({args} .s) ({args} .before) ({flush} .result) ({args} .events .now) _ ({args} .errors .now) sc w ({flush} .ensures)',
+L = "({args} .notes .now)"
+EV = "({args} .events .now)"
+ER = "({args} .errors .now)"
+EV2 = "({flush} .last .1 .1 .1 .0)"
+S = f"(whole ({{args}} .s) {L})"
+D = "({flush} .result)"
+ANS = {
+    "flush-requires": "{pre} .0",
+    "returns": f"λ x sc w. subst (λ (v : Whole). Tells x {S} ({{args}} .before) (record {{ state = v; before = {D} .before }}) (bufs {EV} {ER} sc) (bufs {EV2} {ER} sc))"
+    f" (sym (new-item {L} (whole ({D} .state) {L}) (long {L} (w .0 .1 .long)) _)) (tells x {S} ({{args}} .before) (tally {D} {L}) {EV} {EV2} {ER} sc w ({{flush}} .ensures {L}))",
 }

@@ -9,5 +9,4 @@ ANS = {("returns" if k == 0 else f"returns-{k + 1}"): f"row-of _ {ROW} {k} ({{ma
 OTHER = "(omega arith)"
 for k in range(9):
     OTHER = f"(past {k} {OTHER} ({{match}} .rest{' .0' * (8 - k)} .1))"
-ANS["shared-slice-read-row"] = ANS["mul-row"] = "omega (arith, {pre} .0, {pre} .1 .long)"
 ANS["returns-10"] = f"row-else _ {ROW} {OTHER}"

@@ -1,7 +1,7 @@
 -- The C face of the reader: each case of the enum in numbers.
 use mathlib.Core.Path.{sym, ap, _∙_}
 use Rattle.desk.specs.declared.read.Reading.{Reading}
-use Rattle.desk.specs.Whole.{afterOf}
+use Rattle.desk.specs.Framing.{afterOf}
 use Rattle.stableglow.specs.Face.{readFace}
 use borrow.Author.Needs.{needs}
 use Rattle.stableglow.proofs.stableglow_read.Statement.{statement}

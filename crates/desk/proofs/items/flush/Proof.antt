@@ -1,32 +1,34 @@
 -- `desk::items::flush` meets its contract. The loop's invariant: what was written and what is left to read is all. Assumes nothing.
-use Prim.Native.Nat.{_+_, _-_, _≤_}
+use Prim.Native.Nat.{ℕ, _+_, _-_, _≤_}
+use mathlib.Core.List.{List, []}
 use native.Mathlib.Omega.{arith}
 use lib.ListN.{length}
+use Rattle.steps.specs.Steps.{whole}
 use Rattle.desk.proofs.Writing.{Flushing, flushing, flush-open, flush-on, flush-out, flush-most}
 use borrow.Author.Needs.{needs}
 use Rattle.desk.proofs.items.flush.Statement.{statement}
 use Rattle.desk.proofs.items.flush.Tie as tie
 use Rattle.desk.proofs.items.flush.Reads as reads
 use Rattle.desk.proofs.items.flush.Lts as lts
-use Rattle.reader.proofs.state.State.put.Reads as put-reads
+use Rattle.steps.proofs.state.State.put.Reads as put-reads
 
 abbrev Inv-loop : tie.InvT-loop
-Inv-loop s₀ before records events₀ at₀ index₀ s events at index = Flushing records before s₀ s events₀ events at index
+Inv-loop s₀ before records events₀ at₀ index₀ s events at index = (l : List ℕ) → Flushing records before (whole s₀ l) (whole s l) events₀ events at index
 
 abbrev μ-loop : tie.MeasureT-loop
 μ-loop s₀ before records events₀ at₀ index₀ s events at index = length records - at
 
 loop-holds : tie.Need-loop-holds Inv-loop μ-loop
-loop-holds c = flushing (c .before .before .pre .0) (c .before .before .pre .1) (omega (arith, c .before .before .fits .before))
+loop-holds c = λ l. flushing (c .before .before .pre .0) (c .before .before .pre .1) (omega (arith, c .before .before .fits .before))
 
 add-loop : tie.Need-add-loop Inv-loop μ-loop
-add-loop c = omega (arith, c .loop .inv .near, c .before .before .before .good)
+add-loop c = omega (arith, (c .loop .inv []) .near, c .before .before .before .good)
 
 same-length : tie.Need-same-length Inv-loop μ-loop
-same-length c = c .before .before .loop .inv .puts .long
+same-length c = (c .before .before .loop .inv []) .puts .long
 
 returns : tie.Need-returns Inv-loop μ-loop
-returns c = flush-most (c .before .before .loop .inv) (c .if1 .taken)
+returns c = λ l. flush-most (c .before .before .loop .inv l) (c .if1 .taken)
 
 mul-start : tie.Need-mul-start Inv-loop μ-loop
 mul-start c = search needs
@@ -56,10 +58,10 @@ cast-names : tie.Need-cast-names Inv-loop μ-loop
 cast-names c = omega (arith, c .shared-slice-known4 .given (c .before .before .before .before .before .loop .at + 3))
 
 put-requires : tie.Need-put-requires Inv-loop μ-loop
-put-requires c κs = flush-open (c .before .before .before .before .before .before .loop .inv)
+put-requires c κs = flush-open (c .before .before .before .before .before .before .loop .inv [])
 
 add-index : tie.Need-add-index Inv-loop μ-loop
-add-index c = omega (arith, c .before .before .before .before .before .before .before .if1 .left, c .before .before .before .before .before .before .before .before .before .loop .inv .low)
+add-index c = omega (arith, c .before .before .before .before .before .before .before .if1 .left, (c .before .before .before .before .before .before .before .before .before .loop .inv []) .low)
 
 add-at : tie.Need-add-at Inv-loop μ-loop
 add-at c = omega (arith, c .before .before .before .before .shared-slice-known4 .given (c .before .before .before .before .before .before .before .before .before .loop .at + 3), c .before .before .before .before .before .before .before .before .before .before .before .before .good)
@@ -71,13 +73,13 @@ loop-less : tie.Need-loop-less Inv-loop μ-loop
 loop-less c = omega arith
 
 loop-again : tie.Need-loop-again Inv-loop μ-loop
-loop-again c = flush-on (c .before .before .before .before .before .before .before .before .before .loop .inv) (c .before .before .before .before .before .before .before .before .loop-test .taken) (c .before .before .before .before .before .before .before .if1 .left) (omega (arith, c .before .before .before .before .shared-slice-known4 .given (c .before .before .before .before .before .before .before .before .before .loop .at + 3))) (c .before .before .put .ensures)
+loop-again c = λ l. flush-on (c .before .before .before .before .before .before .before .before .before .loop .inv l) (c .before .before .before .before .before .before .before .before .loop-test .taken) (c .before .before .before .before .before .before .before .if1 .left) (omega (arith, c .before .before .before .before .shared-slice-known4 .given (c .before .before .before .before .before .before .before .before .before .loop .at + 3))) (c .before .before .put .ensures l)
 
 same-length-2 : tie.Need-same-length-2 Inv-loop μ-loop
-same-length-2 c = c .before .loop .inv .puts .long
+same-length-2 c = (c .before .loop .inv []) .puts .long
 
 returns-2 : tie.Need-returns-2 Inv-loop μ-loop
-returns-2 c = flush-out (c .before .loop .inv) (c .loop-test .left)
+returns-2 c = λ l. flush-out (c .before .loop .inv l) (c .loop-test .left)
 
 pub flush-spec : {M : Type 1} → statement M
 flush-spec =

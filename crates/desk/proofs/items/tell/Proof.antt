@@ -1,5 +1,11 @@
 -- `desk::items::tell` meets its contract. Assumes nothing.
 use native.Mathlib.Omega.{arith}
+use mathlib.Core.Path.{sym, subst}
+use Rattle.notes.specs.Whole.{Whole}
+use Rattle.notes.specs.Means.{bufs}
+use Rattle.notes.proofs.Cells.{long, new-item}
+use Rattle.steps.specs.Steps.{whole}
+use Rattle.desk.specs.Items.{Tells, tally}
 use Rattle.desk.proofs.Telling.{tells}
 use borrow.Author.Needs.{needs}
 use Rattle.desk.proofs.items.tell.Statement.{statement}
@@ -7,6 +13,12 @@ use Rattle.desk.proofs.items.tell.Tie as tie
 use Rattle.desk.proofs.items.tell.Reads as reads
 use Rattle.desk.proofs.items.tell.Lts as lts
 use Rattle.desk.proofs.items.flush.Reads as flush-reads
+
+element-copy-out-item : tie.Need-element-copy-out-item
+element-copy-out-item c = search needs
+
+element-copy-out-er : tie.Need-element-copy-out-er
+element-copy-out-er c = search needs
 
 mul-flush : tie.Need-mul-flush
 mul-flush c = search needs
@@ -21,22 +33,28 @@ part-flush-end : tie.Need-part-flush-end
 part-flush-end c = search needs
 
 flush-requires : tie.Need-flush-requires
-flush-requires c κs = (c .before .before .before .before .pre .0, c .before .before .before .before .pre .1)
+flush-requires c κs = c .before .before .before .before .before .before .pre .0
+
+element-write-notes : tie.Need-element-write-notes
+element-write-notes c = search needs
 
 same-length : tie.Need-same-length
 same-length c = search needs
 
 returns : tie.Need-returns
-returns c = λ x sc w. tells x (c .before .before .before .before .before .before .before .before .args .s) (c .before .before .before .before .before .before .before .before .args .before) (c .before .before .before .flush .result) (c .before .before .before .before .before .before .before .before .args .events .now) _ (c .before .before .before .before .before .before .before .before .args .errors .now) sc w (c .before .before .before .flush .ensures)
+returns c = λ x sc w. subst (λ (v : Whole). Tells x (whole (c .before .before .before .before .before .before .before .before .before .args .s) (c .before .before .before .before .before .before .before .before .before .args .notes .now)) (c .before .before .before .before .before .before .before .before .before .args .before) (record { state = v; before = (c .before .before .flush .result) .before }) (bufs (c .before .before .before .before .before .before .before .before .before .args .events .now) (c .before .before .before .before .before .before .before .before .before .args .errors .now) sc) (bufs (c .before .before .flush .last .1 .1 .1 .0) (c .before .before .before .before .before .before .before .before .before .args .errors .now) sc)) (sym (new-item (c .before .before .before .before .before .before .before .before .before .args .notes .now) (whole ((c .before .before .flush .result) .state) (c .before .before .before .before .before .before .before .before .before .args .notes .now)) (long (c .before .before .before .before .before .before .before .before .before .args .notes .now) (w .0 .1 .long)) _)) (tells x (whole (c .before .before .before .before .before .before .before .before .before .args .s) (c .before .before .before .before .before .before .before .before .before .args .notes .now)) (c .before .before .before .before .before .before .before .before .before .args .before) (tally (c .before .before .flush .result) (c .before .before .before .before .before .before .before .before .before .args .notes .now)) (c .before .before .before .before .before .before .before .before .before .args .events .now) (c .before .before .flush .last .1 .1 .1 .0) (c .before .before .before .before .before .before .before .before .before .args .errors .now) sc w (c .before .before .flush .ensures (c .before .before .before .before .before .before .before .before .before .args .notes .now)))
 
 pub tell-spec : {M : Type 1} → statement M
 tell-spec =
     tie.close
     (tie.spec
+    element-copy-out-item
+    element-copy-out-er
     mul-flush
     sub-flush
     part-flush-start
     part-flush-end
     flush-requires
+    element-write-notes
     same-length
     returns)

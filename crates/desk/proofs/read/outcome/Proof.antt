@@ -2,7 +2,7 @@
 use Prim.Native.Nat.{ℕ, zero, suc, _<_, _≤_}
 use mathlib.Core.Path.{_≡_, refl}
 use native.Mathlib.Omega.{arith}
-use Rattle.desk.proofs.Whole.{done, deep}
+use Rattle.desk.proofs.Framing.{done, deep}
 use borrow.Author.Needs.{needs}
 use Rattle.desk.proofs.read.outcome.Statement.{statement}
 use Rattle.desk.proofs.read.outcome.Tie as tie

@@ -1,13 +1,16 @@
 -- SOURCE_FILE around all items.
 use Prim.Native.Nat.{_-_}
 use native.Mathlib.Omega.{arith}
-use mathlib.Core.Path.{sym, _∙_}
+use mathlib.Core.Path.{refl, sym, _∙_}
 use lib.ListN.{length, length-set}
 use Rattle.kinds.specs.Kinds as k
-use Rattle.reader.proofs.Lists.{stored, take-four, length-four}
+use Rattle.kinds.specs.Sets.{idOf}
+use Rattle.kinds.specs.Answers.{words}
 use borrow.Rule.Slice.PartMut.{same-len-mid}
-use Rattle.reader.specs.Means.{source}
-use Rattle.desk.proofs.Whole.{opens, frames}
+use Rattle.notes.specs.Means.{source}
+use Rattle.notes.proofs.Lists.{stored, take-four, length-four}
+use Rattle.grammar.proofs.Lines.{rows-lent}
+use Rattle.desk.proofs.Framing.{opens, frames}
 use borrow.Author.Needs.{needs}
 use Rattle.desk.proofs.read.whole.Statement.{statement}
 use Rattle.desk.proofs.read.whole.Tie as tie
@@ -15,7 +18,7 @@ use Rattle.desk.proofs.read.whole.Reads as reads
 use Rattle.desk.proofs.read.whole.Lts as lts
 use Rattle.desk.proofs.items.items.Reads as items-reads
 use Rattle.desk.proofs.read.blank.Reads as blank-reads
-use Rattle.reader.proofs.state.State.put.Reads as put-reads
+use Rattle.steps.proofs.state.State.put.Reads as put-reads
 
 cast-size : tie.Need-cast-size
 cast-size c = search needs
@@ -38,6 +41,9 @@ sub-blank c = search needs
 blank-requires : tie.Need-blank-requires
 blank-requires c κs = search needs
 
+element-write-notes : tie.Need-element-write-notes
+element-write-notes c = search needs
+
 sub-inner : tie.Need-sub-inner
 sub-inner c = search needs
 
@@ -48,7 +54,8 @@ part-inner-end : tie.Need-part-inner-end
 part-inner-end c = search needs
 
 items-requires : tie.Need-items-requires
-items-requires c κs = let w = opens (source (c .before .before .before .before .before .before .before .before .before .before .before .args .src .now) (c .before .before .before .before .before .before .before .before .before .before .before .args .ids .now) (c .before .before .before .before .before .before .before .before .before .before .before .args .ends .now)) (c .before .before .before .before .before .before .before .before .before .before .before .args .fuel) (stored (c .before .before .before .before .before .before .before .before .before .before .before .args .events .now) 0 1 k.SOURCE-FILE 0 (length (c .before .before .before .before .before .before .before .before .before .before .before .args .src .now))) (c .before .before .before .before .before .before .before .before .before .before .before .args .errors .now) (c .before .before .before .before .before .before .before .before .before .before .before .args .scratch .now) (c .before .before .before .before .blank .ensures) (c .before .before .before .before .before .before .before .before .before .before .before .pre .2) in (c .before .before .before .before .before .before .before .before .before .before .before .pre .0, w .0, w .1)
+unfolding idOf words
+items-requires c κs = let w = opens (source (c .before .before .before .before .before .before .before .before .before .before .before .before .before .before .args .src .now) (c .before .before .before .before .before .before .before .before .before .before .before .before .before .before .args .ids .now) (c .before .before .before .before .before .before .before .before .before .before .before .before .before .before .args .ends .now)) (c .before .before .before .before .before .before .before .before .before .before .before .before .before .before .args .fuel) (stored (c .before .before .before .before .before .before .before .before .before .before .before .before .before .before .args .events .now) 0 1 k.SOURCE-FILE 0 (length (c .before .before .before .before .before .before .before .before .before .before .before .before .before .before .args .src .now))) (c .before .before .before .before .before .before .before .before .before .before .before .before .before .before .args .errors .now) (c .before .before .before .before .before .before .before .before .before .before .before .before .before .before .args .scratch .now) (c .before .before .before .before .before .before .before .before .before .before .before .before .before .before .args .notes .now) (c .before .before .before .before .before .before .before .blank .ensures) (c .before .before .before .before .before .before .before .before .before .before .before .before .before .before .pre .4) (c .before .before .before .before .before .before .before .before .before .before .before .before .before .before .pre .2) in (c .before .before .before .before .before .before .before .before .before .before .before .before .before .before .pre .0, w .0, w .1, (rows-lent, refl))
 
 put-requires : tie.Need-put-requires
 put-requires c κs = search needs
@@ -57,13 +64,13 @@ same-length : tie.Need-same-length
 same-length c = search needs
 
 same-length-2 : tie.Need-same-length-2
-same-length-2 c = same-len-mid 4 (length (stored (c .before .before .before .before .before .before .before .before .before .before .before .before .before .before .before .before .before .before .before .before .before .before .args .events .now) 0 1 k.SOURCE-FILE 0 (length (c .before .before .before .before .before .before .before .before .before .before .before .before .before .before .before .before .before .before .before .before .before .before .args .src .now))) - 4) (stored (c .before .before .before .before .before .before .before .before .before .before .before .before .before .before .before .before .before .before .before .before .before .before .args .events .now) 0 1 k.SOURCE-FILE 0 (length (c .before .before .before .before .before .before .before .before .before .before .before .before .before .before .before .before .before .before .before .before .before .before .args .src .now))) (c .before .before .put .last .1 .1 .1 .1 .1 .0) (c .before .before .put .kept .1 .1 .1 .1 .1 .0 ∙ c .before .before .before .before .before .before .before .before .before .before .items .kept .1 .1 .1 .1 .0) ∙ length-four (c .before .before .before .before .before .before .before .before .before .before .before .before .before .before .before .before .before .before .before .before .before .before .args .events .now) 0 1 k.SOURCE-FILE 0 (length (c .before .before .before .before .before .before .before .before .before .before .before .before .before .before .before .before .before .before .before .before .before .before .args .src .now))
+same-length-2 c = same-len-mid 4 (length (stored (c .before .before .before .before .before .before .before .before .before .before .before .before .before .before .before .before .before .before .before .before .before .before .before .before .before .args .events .now) 0 1 k.SOURCE-FILE 0 (length (c .before .before .before .before .before .before .before .before .before .before .before .before .before .before .before .before .before .before .before .before .before .before .before .before .before .args .src .now))) - 4) (stored (c .before .before .before .before .before .before .before .before .before .before .before .before .before .before .before .before .before .before .before .before .before .before .before .before .before .args .events .now) 0 1 k.SOURCE-FILE 0 (length (c .before .before .before .before .before .before .before .before .before .before .before .before .before .before .before .before .before .before .before .before .before .before .before .before .before .args .src .now))) (c .before .before .put .last .1 .1 .1 .1 .1 .0) (c .before .before .put .kept .1 .1 .1 .1 .1 .0 ∙ c .before .before .before .before .before .before .before .before .before .before .items .kept .1 .1 .1 .1 .0) ∙ length-four (c .before .before .before .before .before .before .before .before .before .before .before .before .before .before .before .before .before .before .before .before .before .before .before .before .before .args .events .now) 0 1 k.SOURCE-FILE 0 (length (c .before .before .before .before .before .before .before .before .before .before .before .before .before .before .before .before .before .before .before .before .before .before .before .before .before .args .src .now))
 
 same-length-3 : tie.Need-same-length-3
 same-length-3 c = search needs
 
 returns : tie.Need-returns
-returns c = frames (source (c .before .before .before .before .before .before .before .before .before .before .before .before .before .before .before .before .before .before .before .before .before .before .args .src .now) (c .before .before .before .before .before .before .before .before .before .before .before .before .before .before .before .before .before .before .before .before .before .before .args .ids .now) (c .before .before .before .before .before .before .before .before .before .before .before .before .before .before .before .before .before .before .before .before .before .before .args .ends .now)) (c .before .before .before .before .before .before .before .before .before .before .before .before .before .before .before .before .before .before .before .before .before .before .args .fuel) (stored (c .before .before .before .before .before .before .before .before .before .before .before .before .before .before .before .before .before .before .before .before .before .before .args .events .now) 0 1 k.SOURCE-FILE 0 (length (c .before .before .before .before .before .before .before .before .before .before .before .before .before .before .before .before .before .before .before .before .before .before .args .src .now))) (c .before .before .before .before .before .before .before .before .before .before .before .before .before .before .before .before .before .before .before .before .before .before .args .errors .now) (c .before .before .before .before .before .before .before .before .before .before .before .before .before .before .before .before .before .before .before .before .before .before .args .scratch .now) (c .before .before .before .before .before .before .before .before .before .before .before .before .before .before .before .blank .ensures) (c .before .before .before .before .before .before .before .before .before .before .before .before .before .before .before .before .before .before .before .before .before .before .pre .1) (omega (arith, c .before .before .before .before .before .before .before .before .before .before .before .before .before .before .before .before .before .before .before .before .before .before .pre .3, length-four (c .before .before .before .before .before .before .before .before .before .before .before .before .before .before .before .before .before .before .before .before .before .before .args .events .now) 0 1 k.SOURCE-FILE 0 (length (c .before .before .before .before .before .before .before .before .before .before .before .before .before .before .before .before .before .before .before .before .before .before .args .src .now)))) _ (length-four (c .before .before .before .before .before .before .before .before .before .before .before .before .before .before .before .before .before .before .before .before .before .before .args .events .now) 0 1 k.SOURCE-FILE 0 (length (c .before .before .before .before .before .before .before .before .before .before .before .before .before .before .before .before .before .before .before .before .before .before .args .src .now))) (take-four (c .before .before .before .before .before .before .before .before .before .before .before .before .before .before .before .before .before .before .before .before .before .before .args .events .now) 0 1 k.SOURCE-FILE 0 (length (c .before .before .before .before .before .before .before .before .before .before .before .before .before .before .before .before .before .before .before .before .before .before .args .src .now)) (c .before .before .before .before .before .before .before .before .before .before .before .before .before .before .before .before .before .before .before .before .before .before .pre .3)) (c .before .before .before .before .before .before .before .before .before .before .items .ensures) (c .before .before .put .ensures)
+returns c = frames (source (c .before .before .before .before .before .before .before .before .before .before .before .before .before .before .before .before .before .before .before .before .before .before .before .before .before .args .src .now) (c .before .before .before .before .before .before .before .before .before .before .before .before .before .before .before .before .before .before .before .before .before .before .before .before .before .args .ids .now) (c .before .before .before .before .before .before .before .before .before .before .before .before .before .before .before .before .before .before .before .before .before .before .before .before .before .args .ends .now)) (c .before .before .before .before .before .before .before .before .before .before .before .before .before .before .before .before .before .before .before .before .before .before .before .before .before .args .fuel) (stored (c .before .before .before .before .before .before .before .before .before .before .before .before .before .before .before .before .before .before .before .before .before .before .before .before .before .args .events .now) 0 1 k.SOURCE-FILE 0 (length (c .before .before .before .before .before .before .before .before .before .before .before .before .before .before .before .before .before .before .before .before .before .before .before .before .before .args .src .now))) (c .before .before .before .before .before .before .before .before .before .before .before .before .before .before .before .before .before .before .before .before .before .before .before .before .before .args .errors .now) (c .before .before .before .before .before .before .before .before .before .before .before .before .before .before .before .before .before .before .before .before .before .before .before .before .before .args .scratch .now) (c .before .before .before .before .before .before .before .before .before .before .before .before .before .before .before .before .before .before .before .before .before .before .before .before .before .args .notes .now) (c .before .before .before .before .before .before .before .before .before .before .before .before .before .before .before .before .before .before .blank .ensures) (c .before .before .before .before .before .before .before .before .before .before .before .before .before .before .before .before .before .before .before .before .before .before .before .before .before .pre .4) (c .before .before .before .before .before .before .before .before .before .before .before .before .before .before .before .before .before .before .before .before .before .before .before .before .before .pre .1) (omega (arith, c .before .before .before .before .before .before .before .before .before .before .before .before .before .before .before .before .before .before .before .before .before .before .before .before .before .pre .3, length-four (c .before .before .before .before .before .before .before .before .before .before .before .before .before .before .before .before .before .before .before .before .before .before .before .before .before .args .events .now) 0 1 k.SOURCE-FILE 0 (length (c .before .before .before .before .before .before .before .before .before .before .before .before .before .before .before .before .before .before .before .before .before .before .before .before .before .args .src .now)))) _ (length-four (c .before .before .before .before .before .before .before .before .before .before .before .before .before .before .before .before .before .before .before .before .before .before .before .before .before .args .events .now) 0 1 k.SOURCE-FILE 0 (length (c .before .before .before .before .before .before .before .before .before .before .before .before .before .before .before .before .before .before .before .before .before .before .before .before .before .args .src .now))) (take-four (c .before .before .before .before .before .before .before .before .before .before .before .before .before .before .before .before .before .before .before .before .before .before .before .before .before .args .events .now) 0 1 k.SOURCE-FILE 0 (length (c .before .before .before .before .before .before .before .before .before .before .before .before .before .before .before .before .before .before .before .before .before .before .before .before .before .args .src .now)) (c .before .before .before .before .before .before .before .before .before .before .before .before .before .before .before .before .before .before .before .before .before .before .before .before .before .pre .3)) (c .before .before .before .before .before .before .before .before .before .before .items .ensures) (c .before .before .put .ensures (c .before .before .before .before .before .before .before .before .before .before .items .last .1 .1 .1 .1 .1 .1 .1 .0))
 
 pub whole-spec : {M : Type 1} → statement M
 whole-spec =
@@ -76,6 +83,7 @@ whole-spec =
     slice-write-events-4
     sub-blank
     blank-requires
+    element-write-notes
     sub-inner
     part-inner-start
     part-inner-end

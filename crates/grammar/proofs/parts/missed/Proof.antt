@@ -2,7 +2,7 @@
 use mathlib.Core.Path.{sym, ap}
 use mathlib.Core.Bool.{Bool}
 use borrow.Author.Tests.{eq-eqb, ne-eqb}
-use Rattle.reader.specs.Bits.{ifb}
+use Rattle.notes.specs.Bits.{ifb}
 use borrow.Author.Needs.{needs}
 use Rattle.grammar.proofs.parts.missed.Statement.{statement}
 use Rattle.grammar.proofs.parts.missed.Tie as tie

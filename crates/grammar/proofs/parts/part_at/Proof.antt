@@ -8,10 +8,10 @@ use Rattle.grammar.proofs.parts.part_at.Reads as reads
 use Rattle.grammar.proofs.parts.part_at.Lts as lts
 
 mul-row : tie.Need-mul-row
-mul-row c = omega (arith, c .pre .0, c .pre .1 .long)
+mul-row c = search needs
 
-shared-slice-read-row : tie.Need-shared-slice-read-row
-shared-slice-read-row c = omega (arith, c .before .pre .0, c .before .pre .1 .long)
+element-copy-out-row : tie.Need-element-copy-out-row
+element-copy-out-row c = search needs
 
 cast-first : tie.Need-cast-first
 cast-first c = search needs
@@ -57,7 +57,7 @@ part-at-spec =
     tie.close
     (tie.spec
     mul-row
-    shared-slice-read-row
+    element-copy-out-row
     cast-first
     cast-second
     cast-third

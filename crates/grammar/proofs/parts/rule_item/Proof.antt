@@ -1,6 +1,6 @@
 -- An item that begins with a rule keyword is the table's last row.
 use native.Mathlib.Omega.{arith}
-use Rattle.grammar.proofs.Lines.{is-item, rows-lent}
+use Rattle.grammar.proofs.Lines.{is-item}
 use borrow.Author.Needs.{needs}
 use Rattle.grammar.proofs.parts.rule_item.Statement.{statement}
 use Rattle.grammar.proofs.parts.rule_item.Tie as tie
@@ -8,11 +8,8 @@ use Rattle.grammar.proofs.parts.rule_item.Reads as reads
 use Rattle.grammar.proofs.parts.rule_item.Lts as lts
 use Rattle.grammar.proofs.parts.exec.Reads as exec-reads
 
-slice-aggregate-exec : tie.Need-slice-aggregate-exec
-slice-aggregate-exec c = search needs
-
 exec-requires : tie.Need-exec-requires
-exec-requires c κs = (c .before .before .before .before .before .before .before .before .before .before .pre .0, c .before .before .before .before .before .before .before .before .before .before .pre .1, omega arith, rows-lent)
+exec-requires c κs = (c .before .before .before .before .before .before .before .before .before .before .pre .0, c .before .before .before .before .before .before .before .before .before .before .pre .1, (omega arith, omega arith), c .before .before .before .before .before .before .before .before .before .before .pre .2)
 
 same-length : tie.Need-same-length
 same-length c = search needs
@@ -27,6 +24,4 @@ returns : tie.Need-returns
 returns c = is-item (c .before .before .before .before .before .before .exec .ensures)
 
 pub rule-item-spec : {M : Type 1} → statement M
-rule-item-spec =
-    tie.close
-    (tie.spec slice-aggregate-exec exec-requires same-length same-length-2 same-length-3 returns)
+rule-item-spec = tie.close (tie.spec exec-requires same-length same-length-2 same-length-3 returns)

@@ -1,33 +1,25 @@
 -- What takes no other part, by which it is.
-use native.Mathlib.Omega.{arith}
-use Rattle.reader.proofs.Ends.{both-of}
-use Rattle.grammar.proofs.Lines.{is-unless, is-passed, is-recover}
+use Rattle.steps.proofs.Ends.{both-of}
+use Rattle.grammar.proofs.Lines.{is-unless, is-recover}
 use borrow.Author.Needs.{needs}
 use Rattle.grammar.proofs.parts.step.Statement.{statement}
 use Rattle.grammar.proofs.parts.step.Tie as tie
 use Rattle.grammar.proofs.parts.step.Reads as reads
 use Rattle.grammar.proofs.parts.step.Lts as lts
-use Rattle.reader.proofs.state.State.pass.Reads as pass-reads
-use Rattle.reader.proofs.state.State.recover.Reads as recover-reads
-use Rattle.reader.proofs.state.State.unless.Reads as unless-reads
+use Rattle.steps.proofs.state.State.recover.Reads as recover-reads
+use Rattle.steps.proofs.state.State.unless.Reads as unless-reads
 
 unless-requires : tie.Need-unless-requires
-unless-requires c κs = (c .before .before .before .before .before .before .before .pre .0 .lines, c .before .before .before .before .before .before .before .pre .1, c .before .before .before .before .before .before .before .pre .2)
+unless-requires c κs = ((c .before .before .before .before .before .before .before .before .pre .0 .0 .lines, c .before .before .before .before .before .before .before .before .pre .0 .1, c .before .before .before .before .before .before .before .before .pre .0 .2), c .before .before .before .before .before .before .before .before .pre .2)
 
 same-length : tie.Need-same-length
 same-length c = c .before .before .unless .kept .1 .1 .1 .1 .0
 
 returns : tie.Need-returns
-returns c = both-of (c .before .before .before .before .before .before .before .before .before .before .pre .1) (c .before .before .before .before .before .before .before .before .before .before .pre .2) (c .before .before .before .before .before .before .before .before .before .before .pre .3) (λ sc w. is-unless (c .before .before .before .before .before .before .before .before .before .before .args .d) (c .before .before .before .before .before .before .before .before .before .before .args .optional) (c .before .before .before .before .before .before .before .before .before .before .args .which) (c .before .before .before .before .before .before .before .before .before .before .args .set) (c .before .before .before .before .if1 .taken) (c .before .before .unless .ensures (c .before .before .before .before .before .before .before .before .before .before .args .src .now) .did _ sc w))
-
-pass-requires : tie.Need-pass-requires
-pass-requires c κs = (c .before .before .before .before .before .before .before .pre .0 .lines .few, c .before .before .before .before .before .before .before .pre .1)
-
-returns-2 : tie.Need-returns-2
-returns-2 c = both-of (c .before .before .before .before .before .before .before .before .pre .1) (c .before .before .before .before .before .before .before .before .pre .2) (c .before .before .before .before .before .before .before .before .pre .3) (λ sc w. is-passed (c .before .before .before .before .before .before .before .before .args .d) (c .before .before .before .before .before .before .before .before .args .optional) (c .before .before .before .before .before .before .before .before .args .which) (c .before .before .before .before .before .before .before .before .args .set) (c .before .if2 .taken) (c .pass .ensures (c .before .before .before .before .before .before .before .before .args .src .now) (c .before .before .before .before .before .before .before .before .args .ends .now) (c .before .before .before .before .before .before .before .before .pre .5 (c .before .if2 .taken)) .did _ w))
+returns c = both-of (c .before .before .before .before .before .before .before .before .before .before .before .pre .0 .1) (c .before .before .before .before .before .before .before .before .before .before .before .pre .0 .2) (c .before .before .before .before .before .before .before .before .before .before .before .pre .0 .3) (λ sc w. is-unless (c .before .before .before .before .before .before .before .before .before .before .before .args .d) (c .before .before .before .before .before .before .before .before .before .before .before .args .optional) (c .before .before .before .before .before .before .before .before .before .before .before .args .which) (c .before .before .before .before .before .before .before .before .before .before .before .args .set) (c .before .before .before .before .before .if1 .taken) (c .before .before .unless .ensures (c .before .before .before .before .before .before .before .before .before .before .before .args .src .now) .did _ sc w))
 
 recover-requires : tie.Need-recover-requires
-recover-requires c κs = (c .before .before .before .before .before .before .before .before .before .pre .0, c .before .before .before .before .before .before .before .before .before .pre .1, c .before .before .before .before .before .before .before .before .before .pre .2, c .before .before .before .before .before .before .before .before .before .pre .3)
+recover-requires c κs = c .before .before .before .before .before .before .before .before .before .pre
 
 same-length-2 : tie.Need-same-length-2
 same-length-2 c = c .before .before .before .before .recover .kept .1 .1 .1 .1 .1 .1 .1 .0
@@ -35,8 +27,8 @@ same-length-2 c = c .before .before .before .before .recover .kept .1 .1 .1 .1 .
 same-length-3 : tie.Need-same-length-3
 same-length-3 c = c .before .before .before .before .recover .kept .1 .1 .1 .1 .1 .1 .1 .1 .0
 
-returns-3 : tie.Need-returns-3
-returns-3 c = both-of (c .before .before .before .before .before .before .before .before .before .before .before .before .before .before .pre .1) (c .before .before .before .before .before .before .before .before .before .before .before .before .before .before .pre .2) (c .before .before .before .before .before .before .before .before .before .before .before .before .before .before .pre .3) (λ sc w. is-recover (c .before .before .before .before .before .before .before .before .before .before .before .before .before .before .args .d) (c .before .before .before .before .before .before .before .before .before .before .before .before .before .before .args .optional) (c .before .before .before .before .before .before .before .before .before .before .before .before .before .before .args .which) (c .before .before .before .before .before .before .before .before .before .before .before .before .before .before .args .set) (c .before .before .before .before .before .before .before .before .if1 .left) (omega (arith, c .before .before .before .before .before .before .before .before .before .before .before .before .before .before .pre .4, c .before .before .before .before .before .before .before .if2 .left)) (c .before .before .before .before .recover .ensures .did sc w))
+returns-2 : tie.Need-returns-2
+returns-2 c = both-of (c .before .before .before .before .before .before .before .before .before .before .before .before .before .before .pre .0 .1) (c .before .before .before .before .before .before .before .before .before .before .before .before .before .before .pre .0 .2) (c .before .before .before .before .before .before .before .before .before .before .before .before .before .before .pre .0 .3) (λ sc w. is-recover (c .before .before .before .before .before .before .before .before .before .before .before .before .before .before .args .d) (c .before .before .before .before .before .before .before .before .before .before .before .before .before .before .args .optional) (c .before .before .before .before .before .before .before .before .before .before .before .before .before .before .args .which) (c .before .before .before .before .before .before .before .before .before .before .before .before .before .before .args .set) (c .before .before .before .before .before .before .before .before .if1 .left) (c .before .before .before .before .recover .ensures .did sc w))
 
 pub step-spec : {M : Type 1} → statement M
 step-spec =
@@ -45,9 +37,7 @@ step-spec =
     unless-requires
     same-length
     returns
-    pass-requires
-    returns-2
     recover-requires
     same-length-2
     same-length-3
-    returns-3)
+    returns-2)

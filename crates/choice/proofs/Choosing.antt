@@ -1,0 +1,365 @@
+-- Error choice: a record is written, an error is added to the pending ones unless its row has one, and a choice is the definition's.
+-- Assumes nothing.
+use Prim.Native.Nat.{ℕ, zero, suc, _+_, _-_, _*_, _≤_, _<_}
+use mathlib.Core.Path.{_≡_, refl, sym, ap, ap₂, subst, _∙_}
+use mathlib.Core.List.{List, [], _∷_, _++_, append-assoc, append-nil}
+use mathlib.Core.Bool.{Bool, true, false}
+use native.Mathlib.Nat.{le-refl, le-trans}
+use native.Mathlib.Omega.{arith}
+use borrow.Author.Tests.{lt-ltb, le-ltb, ltb-true, ltb-false, lt-leb, leb-true, leb-false, ne-eqb, eqb-false}
+use lib.Dec.{T, ltb, leb, eqb}
+use lib.ListN.{length, getD, take, drop, set, length-append}
+use lib.Seq.{paste, take-paste, length-paste, length-take-le, take-add, drop-at}
+use Rattle.kinds.specs.Kinds as k
+use Rattle.peg.specs.Run as P
+use Rattle.peg.specs.Run.{Event, Choice, wanted, unwanted}
+use Rattle.peg.specs.Buffer.{four}
+use Rattle.peg.specs.Render.{Source, Rec, starts-at, ends-at, id-at, text-at, record-of, records, flat-records, form-of, names-of, said, held, used}
+use Rattle.notes.specs.Whole.{Whole, beside, resting}
+use Rattle.notes.specs.Bits.{ifb}
+use Rattle.notes.specs.Change.{withEr, withFull, withWants}
+use Rattle.notes.specs.Means.{limits, bufs, Past, Rows, Apart, recorded, Chosen, wantOf, unwantOf, namesIn, Means, Stands, overOf}
+use Rattle.notes.specs.Did.{Placed, Ok, Sound, Coded, Wf, Counted, Errors}
+use Rattle.choice.specs.Choice.{choiceOf, scan, Noted, Pends, Chose}
+use Rattle.notes.proofs.Lists.{stored, take-four, length-four}
+use Rattle.notes.proofs.Cells.{long, new-er, no-wants}
+use Rattle.notes.proofs.Core.{blank, sound}
+use Rattle.notes.proofs.Rooms.{flat-append, said-is, held-is, fits, first-of, spill, full-first, exceeds-none, exceeds-errors}
+use Rattle.choice.proofs.Records.{starts, ends, starts-is, ends-is, id-is}
+use Rattle.choice.proofs.Scanning.{scan-recorded}
+
+-- A RECORD
+module _ (s : Whole) (start end form count : ℕ) (names er : List ℕ) (c : count ≤ length names) where
+  abbrev numbers : List ℕ
+  numbers = start ∷ end ∷ form ∷ count ∷ take count names
+
+  size : length numbers ≡ 4 + count
+  size = omega (arith, length-take-le count names c)
+
+  pub record-full : s .er ≤ s .ercap → s .ercap - s .er < count + 4 → Noted numbers s (withFull 8 s) er er
+  record-full h l =
+      record {
+        is = refl;
+        filled = ap (λ (b : Bool). ifb b 8 0) (sym (lt-ltb (s .ercap) (s .er + length numbers) (omega (arith, size))));
+        wrote = λ y. absurd (omega arith);
+        fits = h;
+        grows = le-refl _;
+        long = refl;
+      }
+
+  record-written : s .er ≤ s .ercap → count + 4 ≤ s .ercap - s .er → s .ercap ≤ length er → (er′ : List ℕ) → er′ ≡ paste (stored er (s .er) start end form count) (s .er + 4) names count → Noted numbers s (withFull 0 (withEr (s .er + 4 + count) s)) er er′
+  record-written h f l er′ e =
+      let q = length-four er (s .er) start end form count in
+      record {
+        is = refl;
+        filled = ap (λ (b : Bool). ifb b 8 0) (sym (le-ltb (s .ercap) (s .er + length numbers) (omega (arith, size))));
+        wrote = λ y.
+            ap (take (s .er + 4 + count)) e
+            ∙ take-paste (stored er (s .er) start end form count) (s .er + 4) names count (omega (arith, q)) c
+            ∙ ap (λ (t : List ℕ). t ++ take count names) (take-four er (s .er) start end form count (omega arith))
+            ∙ append-assoc (take (s .er) er) (four start end form count) (take count names);
+        fits = omega arith;
+        grows = omega arith;
+        long = ap length e ∙ length-paste (stored er (s .er) start end form count) (s .er + 4) names count (omega (arith, q)) c ∙ q;
+      }
+
+-- the same where the number of the records' numbers is noted
+pub record-noted : (l : List ℕ) (s : Whole) → Coded l → (start end form count : ℕ) (names er : List ℕ) → count ≤ length names → getD l 4 0 ≤ getD l 5 0 → count + 4 ≤ getD l 5 0 - getD l 4 0 → getD l 5 0 ≤ length er → (er′ : List ℕ) → er′ ≡ paste (stored er (getD l 4 0) start end form count) (getD l 4 0 + 4) names count → Noted (start ∷ end ∷ form ∷ count ∷ take count names) (beside l s) (withFull 0 (beside (set l 4 (getD l 4 0 + 4 + count)) s)) er er′
+record-noted l s w start end form count names er c h f g er′ e =
+    subst (λ (v : Whole). Noted (start ∷ end ∷ form ∷ count ∷ take count names) (beside l s) (withFull 0 v) er er′) (sym (new-er l s (long l (w .long)) (getD l 4 0 + 4 + count))) (record-written (beside l s) start end form count names er c h f g er′ e)
+
+-- PENDING ERRORS
+neither : (b c : Bool) → (elim b [ true ↦ true | false ↦ c ]) ≡ false → (b ≡ false) × (c ≡ false)
+neither true c e = absurd (subst T e tt)
+neither false c e = (refl, e)
+
+module _ (m : ℕ) (c : Choice) where
+  pending-more : (r : ℕ) (es : List (ℕ × Choice)) → (r ≡ m → ⊥) → P.pending r es ≡ false → P.pending r (es ++ ((m, c) ∷ [])) ≡ false
+  pending-more r [] n h = ap (λ (b : Bool). elim b [ true ↦ true | false ↦ false ]) (ne-eqb r m n)
+  pending-more r (e ∷ es) n h =
+      let y = neither (eqb r (e .0)) (P.pending r es) h in
+      ap₂ (λ (b d : Bool). elim b [ true ↦ true | false ↦ d ]) (y .0) (pending-more r es n (y .1))
+
+  apart-more : (n : ℕ) (es : List (ℕ × Choice)) → m ≤ n → P.pending m es ≡ false → Apart n es → Apart n (es ++ ((m, c) ∷ []))
+  apart-more n [] h p a = (h, refl, tt)
+  apart-more n (e ∷ es) h p a =
+      let y = neither (eqb m (e .0)) (P.pending m es) p in
+      (a .0, pending-more (e .0) es (λ q. eqb-false m (e .0) (y .0) (sym q)) (a .1), apart-more n es h (y .1) (a .2))
+
+  recorded-more : (x : Source) (es : List (ℕ × Choice)) → recorded x (es ++ ((m, c) ∷ [])) ≡ recorded x es ++ (record-of limits x m c ∷ [])
+  unfolding recorded
+  recorded-more x [] = refl
+  recorded-more x (e ∷ es) = ap (λ (l : List Rec). record-of limits x (e .0) (e .1) ∷ l) (recorded-more x es)
+
+-- the records of the item at hand
+module _ {x : Source} {p : Past} {first er ercap item : ℕ} {errors : List ℕ} {es : List (ℕ × Choice)} (k : Chosen x p first er ercap item errors es) (i : item ≤ er) (l : er ≤ length errors) where
+  -- what stands fits
+  fitting : er ≤ ercap → _≡_ {A = ℕ} 0 (ifb (ltb ercap (length (flat-records (p .records ++ recorded x es)))) 8 0)
+  fitting f = ap (λ (b : Bool). ifb b 8 0) (sym (le-ltb ercap (length (flat-records (p .records ++ recorded x es))) (omega (arith, ap length (k .is), length-take-le er errors l))))
+
+  item-part : take (er - item) (drop item errors) ≡ flat-records (recorded x es)
+  item-part =
+      let e : item + (er - item) ≡ er = omega arith in
+      sym (drop-at (take item errors) (take (er - item) (drop item errors)) item (length-take-le item errors (omega arith)))
+      ∙ ap (drop item) (sym (take-add item (er - item) errors) ∙ ap (λ (j : ℕ). take j errors) e ∙ k .is ∙ flat-append (p .records) (recorded x es))
+      ∙ drop-at (flat-records (p .records)) (flat-records (recorded x es)) item (sym (k .since))
+
+-- AN ERROR AT A ROW
+flat-one : (q : Rec) {a b f c : ℕ} {ms : List ℕ} → a ≡ q .0 → b ≡ q .1 → f ≡ q .2 → ms ≡ q .3 → c ≡ length ms → a ∷ b ∷ f ∷ c ∷ ms ≡ flat-records (q ∷ [])
+flat-one q h i j k l = cc (append-nil (q .3))
+
+form-any : (i : ℕ) (t : List ℕ) (e : Bool) (ns : List ℕ) → form-of limits i t (choiceOf e []) ≡ form-of limits i t (choiceOf e ns)
+form-any i t true ns = refl
+form-any i t false ns = refl
+
+abbrev row : Source → ℕ → ℕ
+row x at = length (x .ids) - at
+
+abbrev part : Whole → List ℕ → List ℕ
+part s er = take (s .er - s .item) (drop (s .item) er)
+
+module _ {x : Source} (w : Rows x) (at : ℕ) (h : at ≤ length (x .ids)) (s : Whole) (er : List ℕ) (c : Counted (s .ev) (s .evcap) (s .item) (s .er) (s .ercap)) (l : s .ercap ≤ length er) {start end : ℕ} (b : start ≡ starts x at) (e : end ≡ ends x at) where
+  begins : start ≡ starts-at x (row x at)
+  begins = b ∙ sym (starts-is w at h)
+
+  stops : end ≡ ends-at x (row x at)
+  stops = e ∙ sym (ends-is w at h)
+
+  module _ {p : Past} {es : List (ℕ × Choice)} (k : Pends x p s er es) {y : Bool} (t : y ≡ scan start end 0 (part s er)) where
+    pending-is : P.pending (row x at) es ≡ y
+    pending-is =
+        sym
+        (t
+        ∙ ap₂ (λ (i j : ℕ). scan i j 0 (part s er)) begins stops
+        ∙ ap (scan (starts-at x (row x at)) (ends-at x (row x at)) 0) (item-part k (c .since) (le-trans (c .errors) l))
+        ∙ scan-recorded w (row x at) (omega arith) (length (x .ids) - s .first) (omega arith) es (k .apart))
+
+    added : (v : Choice) → P.add (row x at) v es ≡ elim y [ true ↦ es | false ↦ es ++ ((row x at, v) ∷ []) ]
+    added v = ap (λ (q : Bool). elim q [ true ↦ es | false ↦ es ++ ((row x at, v) ∷ []) ]) pending-is
+
+  -- one is pending there
+  pub chose-none : (v : Choice) → true ≡ scan start end 0 (part s er) → Chose (P.add (row x at) v) x s (withFull 0 s) er er
+  chose-none v t =
+      record {
+        is = refl;
+        filled = λ p es k. fitting k (c .since) (le-trans (c .errors) l) (c .errors) ∙ ap (λ (q : List (ℕ × Choice)). ifb (ltb (s .ercap) (length (flat-records (p .records ++ recorded x q)))) 8 0) (sym (added k t v));
+        chosen = λ p es k y. subst (Pends x p s er) (sym (added k t v)) k;
+        fits = c .errors;
+        grows = le-refl _;
+        long = refl;
+      }
+
+  -- none is, and a record is written
+  module _ (y : Bool) (ns : List ℕ) {i form count : ℕ} {ms : List ℕ} (o : i ≡ getD (x .ids) at k.UNKNOWN) (f : form ≡ form-of limits i (take (end - start) (drop start (x .bytes))) (choiceOf y [])) (v : ms ≡ names-of form (choiceOf y ns)) (u : count ≡ length ms) where
+    abbrev numbers-at : List ℕ
+    numbers-at = start ∷ end ∷ form ∷ count ∷ ms
+
+    formed : form ≡ form-of limits (id-at x (row x at)) (text-at x (row x at)) (choiceOf y ns)
+    formed = f ∙ form-any i _ y ns ∙ ap₂ (λ (j : ℕ) (t : List ℕ). form-of limits j t (choiceOf y ns)) (o ∙ sym (id-is w at h)) (ap₂ (λ (j k : ℕ). take (k - j) (drop j (x .bytes))) begins stops)
+
+    record-is : numbers-at ≡ flat-records (record-of limits x (row x at) (choiceOf y ns) ∷ [])
+    record-is = flat-one (record-of limits x (row x at) (choiceOf y ns)) begins stops formed (v ∙ ap (λ (j : ℕ). names-of j (choiceOf y ns)) formed) u
+
+    records-are : {p : Past} {es : List (ℕ × Choice)} (k : Pends x p s er es) → false ≡ scan start end 0 (part s er) → take (s .er) er ++ numbers-at ≡ flat-records (p .records ++ recorded x (P.add (row x at) (choiceOf y ns) es))
+    records-are {p} {es} k t =
+        ap₂ (λ (i j : List ℕ). i ++ j) (k .is) record-is
+        ∙ sym (flat-append (p .records ++ recorded x es) (record-of limits x (row x at) (choiceOf y ns) ∷ []))
+        ∙ ap flat-records (append-assoc (p .records) (recorded x es) (record-of limits x (row x at) (choiceOf y ns) ∷ []) ∙ ap (λ (q : List Rec). p .records ++ q) (sym (recorded-more (row x at) (choiceOf y ns) x es)))
+        ∙ ap (λ (q : List (ℕ × Choice)). flat-records (p .records ++ recorded x q)) (sym (added k t (choiceOf y ns)))
+
+    pub chose-new : {r : Whole} {er′ : List ℕ} → s .first ≤ at → Noted numbers-at s r er er′ → false ≡ scan start end 0 (part s er) → Chose (P.add (row x at) (choiceOf y ns)) x s r er er′
+    chose-new {r} {er′} a d t =
+        let n : s .er + length numbers-at ≡ length (take (s .er) er ++ numbers-at) = omega (arith, length-append (take (s .er) er) numbers-at, length-take-le (s .er) er (le-trans (c .errors) l)) in
+        record {
+          is = d .is;
+          filled = λ p es k. d .filled ∙ ap (λ (j : ℕ). ifb (ltb (s .ercap) j) 8 0) (n ∙ ap length (records-are k t));
+          chosen = λ p es k q.
+              subst (λ (g : Whole). Pends x p g er′ (P.add (row x at) (choiceOf y ns) es)) (sym (d .is))
+              (record {
+                is = d .wrote q ∙ records-are k t;
+                since = k .since;
+                room = k .room;
+                apart = subst (Apart (length (x .ids) - s .first)) (sym (added k t (choiceOf y ns))) (apart-more (row x at) (choiceOf y ns) (length (x .ids) - s .first) es (omega arith) (pending-is k t) (k .apart));
+              });
+          fits = d .fits;
+          grows = d .grows;
+          long = d .long;
+        }
+
+-- A CHOICE
+-- the furthest row is taken; expected wins a tie
+abbrev pub furthest : ℕ → ℕ → ℕ
+furthest w u = ifb (leb u w) w u
+
+module _ (n : ℕ) (l : List ℕ) (es : List (ℕ × Choice)) where
+  decide-unwanted : (w u : ℕ) → w < u → u ≤ n + 1 → P.decide (wantOf n w l) (unwantOf n u) es ≡ P.add (n - (u - 1)) unwanted es
+  decide-unwanted w zero h g = absurd (omega arith)
+  decide-unwanted zero (suc u) h g = let e : u ≡ suc u - 1 = omega arith in ap (λ (i : ℕ). P.add (n - i) unwanted es) e
+  decide-unwanted (suc w) (suc u) h g =
+      let e : u ≡ suc u - 1 = omega arith in
+      ap (λ (b : Bool). elim b [ true ↦ P.add (n - u) unwanted es | false ↦ P.add (n - w) (wanted l) es ]) (lt-ltb (n - u) (n - w) (omega arith)) ∙ ap (λ (i : ℕ). P.add (n - i) unwanted es) e
+
+  decide-wanted : (w u : ℕ) → u ≤ w → (w ≡ 0 → ⊥) → P.decide (wantOf n w l) (unwantOf n u) es ≡ P.add (n - (w - 1)) (wanted l) es
+  decide-wanted zero u h g = absurd (g refl)
+  decide-wanted (suc w) zero h g = let e : w ≡ suc w - 1 = omega arith in ap (λ (i : ℕ). P.add (n - i) (wanted l) es) e
+  decide-wanted (suc w) (suc u) h g =
+      let e : w ≡ suc w - 1 = omega arith in
+      ap (λ (b : Bool). elim b [ true ↦ P.add (n - u) unwanted es | false ↦ P.add (n - w) (wanted l) es ]) (le-ltb (n - u) (n - w) (omega arith)) ∙ ap (λ (i : ℕ). P.add (n - i) (wanted l) es) e
+
+  decide-row : (w u : ℕ) {r : ℕ} → r ≡ furthest w u → (r ≡ 0 → ⊥) → u ≤ n + 1 → P.decide (wantOf n w l) (unwantOf n u) es ≡ P.add (n - (r - 1)) (choiceOf (leb u w) l) es
+  decide-row w u {r} q z g = go (leb u w) refl q
+    where
+      go : (b : Bool) → leb u w ≡ b → r ≡ ifb b w u → P.decide (wantOf n w l) (unwantOf n u) es ≡ P.add (n - (r - 1)) (choiceOf b l) es
+      go true e p = decide-wanted w u (leb-true u w e) (λ y. z (p ∙ y)) ∙ ap (λ (i : ℕ). P.add (n - (i - 1)) (wanted l) es) (sym p)
+      go false e p = decide-unwanted w u (leb-false u w e) g ∙ ap (λ (i : ℕ). P.add (n - (i - 1)) unwanted es) (sym p)
+
+  decide-none : (w u : ℕ) {r : ℕ} → r ≡ furthest w u → r ≡ 0 → P.decide (wantOf n w l) (unwantOf n u) es ≡ es
+  decide-none zero zero q z = refl
+  decide-none zero (suc u) {r} q z = let e : r ≡ suc u = q ∙ ap (λ (b : Bool). ifb b 0 (suc u)) (lt-leb (suc u) 0 (omega arith)) in absurd (omega arith)
+  decide-none (suc w) u {r} q z = absurd (go (leb u (suc w)) refl q)
+    where
+      go : (b : Bool) → leb u (suc w) ≡ b → r ≡ ifb b (suc w) u → ⊥
+      go true e p = omega arith
+      go false e p = omega (arith, leb-false u (suc w) e)
+
+pub furthest-in : {n pos first far w u r : ℕ} → Placed n pos first far w u → r ≡ furthest w u → (r ≡ 0 → ⊥) → (first ≤ r - 1) × (r - 1 ≤ n)
+furthest-in {n} {pos} {first} {far} {w} {u} {r} v q z = go (leb u w) q
+  where
+    go : (b : Bool) → r ≡ ifb b w u → (first ≤ r - 1) × (r - 1 ≤ n)
+    go true p = let h : first < w = v .want-since (λ y. z (p ∙ y)) in omega (arith, v .want-in)
+    go false p = let h : first < u = v .unwant-since (λ y. z (p ∙ y)) in omega (arith, v .unwant-in)
+
+-- one moment more, at which the events fit
+spilled : (p : Past) (x : Source) (o : List Event) (es : List (ℕ × Choice)) → records limits x o [] ≡ p .records → 4 * suc (length o) ≤ p .event-room → ifb (ltb (p .error-room) (length (flat-records (p .records ++ recorded x es)))) 8 0 ≡ spill p x o es
+spilled p x o es q f = ap (λ (i : ℕ). ifb (ltb (p .error-room) i) 8 0) taken ∙ go (ltb (p .error-room) (used limits x (o, es) .1)) refl
+  where
+    taken : length (flat-records (p .records ++ recorded x es)) ≡ said limits x o + held limits x es
+    taken =
+        ap length (flat-append (p .records) (recorded x es))
+        ∙ length-append (flat-records (p .records)) (flat-records (recorded x es))
+        ∙ omega (arith, ap (λ (l : List Rec). length (flat-records l)) q, said-is limits x o [], held-is x es)
+
+    go : (b : Bool) → ltb (p .error-room) (used limits x (o, es) .1) ≡ b → ifb b 8 0 ≡ spill p x o es
+    go true e = sym (exceeds-errors (p .event-room) (p .error-room) (used limits x (o, es)) f (ltb-true _ _ e))
+    go false e = sym (exceeds-none (p .event-room) (p .error-room) (used limits x (o, es)) f (ltb-false _ _ e))
+
+ok-emptied : (n : ℕ) (s : Whole) → Ok n s → Ok n (withWants 0 0 s)
+ok-emptied n s w = (record { here = w .0 .here; since = w .0 .since; far-in = w .0 .far-in; want-in = omega arith; want-since = λ e. absurd (e refl); unwant-in = omega arith; unwant-since = λ e. absurd (e refl) }, w .1, w .2)
+
+module _ (x : Source) (s : Whole) (er : List ℕ) (w : Ok (length (x .ids)) s) (l : s .ercap ≤ length er) where
+  -- both are emptied, and nothing else changes but the records
+  module _ (r : Whole) (er′ : List ℕ) (i : r ≡ withEr (r .er) (withFull (r .full) (withWants 0 0 s))) (f : r .er ≤ s .ercap) (g : s .er ≤ r .er) (n : length er′ ≡ length er) (z : r .full ≡ 0 → s .full ≡ 0) where
+    ok-chosen : Ok (length (x .ids)) r
+    ok-chosen = subst (Ok (length (x .ids))) (sym i) (ok-emptied (length (x .ids)) s w .0, w .1, record { events = w .2 .events; since = le-trans (w .2 .since) g; errors = f })
+
+    errors-chosen : ((ev sc : List ℕ) → Wf x (bufs ev er sc) s → (p : Past) (a : P.State) → Stands p x s (bufs ev er sc) a → Stands p x r (bufs ev er′ sc) (P.choose a)) → Errors P.choose x s r er er′
+    errors-chosen d =
+        let cap : r .ercap ≡ s .ercap = ap (λ (t : Whole). t .ercap) i in
+        record {
+          did = λ ev sc v.
+              record {
+                does = d ev sc v;
+                wf = (ok-chosen, record { events = subst (λ (t : Whole). t .evcap ≤ length ev) (sym i) (v .1 .events); errors = omega (arith, cap, v .1 .errors, n); scratch = v .1 .scratch });
+                room = z;
+                first = ap (λ (t : Whole). t .first) i;
+                ahead = omega (arith, ap (λ (t : Whole). t .pos) i);
+                grows = omega (arith, ap (λ (t : Whole). t .ev) i);
+                kept = refl;
+              };
+          ok = ok-chosen;
+          fits = omega (arith, cap, n);
+          evcap = ap (λ (t : Whole). t .evcap) i;
+          place = ap (λ (t : Whole). t .pos) i;
+          still = ap (λ (t : Whole). t .ev) i;
+          room = z;
+        }
+
+  -- a room is exceeded already
+  exceeded : (s .full ≡ 0 → ⊥) → Errors P.choose x s (withWants 0 0 s) er er
+  unfolding overOf
+  exceeded n =
+      errors-chosen (withWants 0 0 s) er refl (w .2 .errors) (le-refl _) refl (λ z. z)
+      (λ ev sc v p a t. record { over = t .over ∙ sym (full-first (overOf p x a) (spill p x (a .out) (P.decide (a .want) (a .unwant) (a .chosen))) (λ z. n (t .over ∙ z))); means = λ z. absurd (n z) })
+
+  choose-full : {f : ℕ} → s .full ≡ f → (f ≡ 0 → ⊥) → Errors P.choose x s (withFull f (withWants 0 0 s)) er er
+  choose-full q n = subst (λ (i : ℕ). Errors P.choose x s (withFull i (withWants 0 0 s)) er er) q (exceeded (λ z. n (sym q ∙ z)))
+
+  -- the pending errors become g of them
+  choose-by : (g : List (ℕ × Choice) → List (ℕ × Choice)) {r : Whole} {er′ : List ℕ} → s .full ≡ 0 → Chose g x (withWants 0 0 s) r er er′ → ((es : List (ℕ × Choice)) → P.decide (wantOf (length (x .ids)) (s .want) (namesIn s)) (unwantOf (length (x .ids)) (s .unwant)) es ≡ g es) → Errors P.choose x s r er er′
+  unfolding overOf
+  choose-by g {r} {er′} z c d = errors-chosen r er′ (c .is) (c .fits) (c .grows) (c .long) (λ y. z) stands
+    where
+      stands : (ev sc : List ℕ) → Wf x (bufs ev er sc) s → (p : Past) (a : P.State) → Stands p x s (bufs ev er sc) a → Stands p x r (bufs ev er′ sc) (P.choose a)
+      stands ev sc v p a t =
+          let m = t .means z in
+          let e : P.decide (a .want) (a .unwant) (a .chosen) ≡ g (a .chosen) = ap₂ (λ (i : mathlib.Core.Option.Option (ℕ × List ℕ)) (j : mathlib.Core.Option.Option ℕ). P.decide i j (a .chosen)) (m .want) (m .unwant) ∙ d (a .chosen) in
+          record {
+            over =
+                c .filled p (a .chosen) (m .chosen)
+                ∙ ap (λ (i : ℕ). ifb (ltb i (length (flat-records (p .records ++ recorded x (g (a .chosen)))))) 8 0) (sym (m .chosen .room))
+                ∙ spilled p x (a .out) (g (a .chosen)) (m .written .past) (fits v m .0)
+                ∙ ap₂ (λ (i : ℕ) (q : List (ℕ × Choice)). first-of i (spill p x (a .out) q)) (sym z ∙ t .over) (sym e);
+            means = λ y.
+                subst (λ (q : Whole). Means p x q (bufs ev er′ sc) (P.choose a)) (sym (c .is))
+                (record {
+                  rest = m .rest;
+                  mode = m .mode;
+                  fuel = m .fuel;
+                  written = m .written;
+                  want = refl;
+                  unwant = refl;
+                  chosen = subst (λ (q : Whole). Pends x p q er′ (P.decide (a .want) (a .unwant) (a .chosen))) (c .is) (subst (Pends x p r er′) (sym e) (c .chosen p (a .chosen) (m .chosen) y));
+                  cache = m .cache;
+                });
+          }
+
+  -- nothing was expected nor unexpected
+  chose-nothing : Chose (λ es. es) x (withWants 0 0 s) (withFull 0 (withWants 0 0 s)) er er
+  chose-nothing =
+      record {
+        is = refl;
+        filled = λ p es k. fitting k (w .2 .since) (le-trans (w .2 .errors) l) (w .2 .errors);
+        chosen = λ p es k y. k;
+        fits = w .2 .errors;
+        grows = le-refl _;
+        long = refl;
+      }
+
+-- the list of notes with both emptied
+abbrev pub noWants : List ℕ → List ℕ
+noWants l = set (set l 0 0) 1 0
+
+module _ {n : ℕ} (l : List ℕ) (w : Sound n l) where
+  pub sound-emptied : Sound n (noWants l)
+  sound-emptied =
+      let s = resting (getD l 7 0) in
+      sound (noWants l) s (subst (Ok n) (sym (no-wants l s (long l (w .1 .long)))) (ok-emptied n (beside l s) w))
+
+  pub ercap-emptied : getD (noWants l) 5 0 ≡ getD l 5 0
+  ercap-emptied = ap (λ (s : Whole). s .ercap) (no-wants l blank (long l (w .1 .long)))
+
+  pub first-emptied : getD (noWants l) 7 0 ≡ getD l 7 0
+  first-emptied = ap (λ (s : Whole). s .first) (no-wants l blank (long l (w .1 .long)))
+
+-- the three ways that a choice goes, over the list of notes
+module _ (x : Source) (l : List ℕ) (s : Whole) (er : List ℕ) (w : Ok (length (x .ids)) (beside l s)) (c : getD l 5 0 ≤ length er) where
+  emptied : beside (noWants l) s ≡ withWants 0 0 (beside l s)
+  emptied = no-wants l s (long l (w .1 .long))
+
+  pub emptied-ok : Ok (length (x .ids)) (beside (noWants l) s)
+  emptied-ok = subst (Ok (length (x .ids))) (sym emptied) (ok-emptied (length (x .ids)) (beside l s) w)
+
+  pub chooses-full : {f : ℕ} → s .full ≡ f → (f ≡ 0 → ⊥) → Errors P.choose x (beside l s) (withFull f (beside (noWants l) s)) er er
+  chooses-full {f} q n = subst (λ (v : Whole). Errors P.choose x (beside l s) (withFull f v) er er) (sym emptied) (choose-full x (beside l s) er w c q n)
+
+  module _ (z : s .full ≡ 0) {r : ℕ} (q : r ≡ furthest (getD l 0 0) (getD l 1 0)) where
+    pub chooses-none : r ≡ 0 → Errors P.choose x (beside l s) (withFull 0 (beside (noWants l) s)) er er
+    chooses-none e =
+        subst (λ (v : Whole). Errors P.choose x (beside l s) (withFull 0 v) er er) (sym emptied)
+        (choose-by x (beside l s) er w c (λ es. es) z (chose-nothing x (beside l s) er w c) (λ es. decide-none (length (x .ids)) (namesIn (beside l s)) es (getD l 0 0) (getD l 1 0) q e))
+
+    pub chooses-at : {v : Whole} {er′ : List ℕ} → (r ≡ 0 → ⊥) → Chose (P.add (length (x .ids) - (r - 1)) (choiceOf (leb (getD l 1 0) (getD l 0 0)) (namesIn (beside (noWants l) s)))) x (beside (noWants l) s) v er er′ → Errors P.choose x (beside l s) v er er′
+    chooses-at {v} {er′} e y =
+        let g : Whole → List (ℕ × Choice) → List (ℕ × Choice) = λ t. P.add (length (x .ids) - (r - 1)) (choiceOf (leb (getD l 1 0) (getD l 0 0)) (namesIn t)) in
+        choose-by x (beside l s) er w c (g (beside l s)) z (subst (λ (t : Whole). Chose (g t) x t v er er′) emptied y)
+        (λ es. decide-row (length (x .ids)) (namesIn (beside l s)) es (getD l 0 0) (getD l 1 0) q e (w .0 .unwant-in))

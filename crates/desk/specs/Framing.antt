@@ -1,0 +1,56 @@
+-- The whole reading: SOURCE_FILE around the items, and what the reader's answer stands for in the public definition.
+use Prim.Native.Nat.{ℕ, _+_, _-_, _*_, _/_, _≤_}
+use mathlib.Core.Path.{_≡_}
+use mathlib.Core.List.{List, _++_}
+use lib.ListN.{length, take, replicate}
+use Rattle.peg.specs.Run as P
+use Rattle.peg.specs.Render.{Source, Reading, rendered, outcome-of, moments, over, flat, flat-records}
+use Rattle.peg.specs.Answer.{After, refusing}
+use Rattle.notes.specs.Means.{limits, modeOf}
+use Rattle.desk.specs.declared.items.Desk.{Desk}
+use Rattle.desk.specs.Items.{Tally}
+use Rattle.desk.specs.declared.read.Reading as D
+use Rattle.desk.specs.declared.read.Reading.the-variants.{Refused, Answered}
+
+-- "A refusal returns its number and zeros"; "An answer returns outcome, rows covered, counts of events and error records, fuel left"
+abbrev pub afterOf : D.Reading → List ℕ → List ℕ → List ℕ → After
+afterOf (Refused n) ev er sc = refusing n ev er sc
+afterOf (Answered o c e r f) ev er sc = record { number = 0; outcome = o; covered = c; event-count = e; error-count = r; left = f; events = ev; errors = er; scratch = sc }
+
+abbrev pub outcomeOf : ℕ → ℕ
+outcomeOf m = outcome-of (modeOf m)
+
+-- the answer of a state that has finished with so many numbers of error records, where the lists are as given: zeros behind them, and in scratch
+abbrev pub answering : Desk → ℕ → List ℕ → List ℕ → List ℕ → After
+answering d left ev er sc =
+    let to = d .state .ev + 4 in
+    record {
+      number = 0;
+      outcome = outcomeOf (d .state .mode);
+      covered = d .state .pos;
+      event-count = to / 4;
+      error-count = d .before;
+      left = d .state .fuel;
+      events = take to ev ++ replicate (length ev - to) 0;
+      errors = take left er ++ replicate (length er - left) 0;
+      scratch = replicate (length sc) 0;
+    }
+
+abbrev pub reading : Source → ℕ → P.State
+reading x fuel = P.read limits (x .ids) fuel
+
+-- the lists that a reading gives, and its numbers, E and R being the rooms
+pub record Finished (x : Source) (fuel : ℕ) (r : Tally) (ev er : List ℕ) : Type 0 where
+  pub events : take (r .state .ev + 4) ev ≡ flat (rendered limits x (reading x fuel) .events)
+  pub errors : take (r .state .er) er ≡ flat-records (rendered limits x (reading x fuel) .errors)
+  pub event-fits : r .state .ev + 4 ≤ length ev
+  pub error-fits : r .state .er ≤ length er
+  pub outcome : outcomeOf (r .state .mode) ≡ rendered limits x (reading x fuel) .outcome
+  pub covered : r .state .pos ≡ rendered limits x (reading x fuel) .covered
+  pub event-count : r .state .ev + 4 ≡ 4 * length (rendered limits x (reading x fuel) .events)
+  pub error-count : r .before ≡ length (rendered limits x (reading x fuel) .errors)
+  pub left : r .state .fuel ≡ rendered limits x (reading x fuel) .left
+
+pub record Framed (x : Source) (fuel E R : ℕ) (r : Tally) (ev er : List ℕ) : Type 0 where
+  pub full : r .state .full ≡ over E R (moments limits x (reading x fuel))
+  pub finished : r .state .full ≡ 0 → Finished x fuel r ev er

@@ -1,0 +1,10 @@
+pub mod Lists
+pub mod Bits
+pub mod Pigeon
+pub mod Naming
+pub mod Cells
+pub mod Rooms
+pub mod Core
+pub mod Sticky
+pub mod Peeks
+pub mod Furthest

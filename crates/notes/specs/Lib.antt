@@ -1,0 +1,5 @@
+pub mod Bits
+pub mod Whole
+pub mod Change
+pub mod Means
+pub mod Did

@@ -1,0 +1,107 @@
+// The desk's refusals 1 to 6.
+use kinds::id;
+use kinds::is_id;
+ghost use mathlib.Core.Path.{_≡_};
+ghost use mathlib.Core.List.{List};
+ghost use Prim.Native.Nat.{ℕ};
+ghost use lib.ListN.{length};
+ghost use Rattle.peg.specs.Answer.{any, no-id, elsewhere, tile, refusal};
+ghost use Rattle.refusals.specs.Judge.{desk};
+
+// Whether a row has an id that is none.
+fn unknown(ids: &[u32]) -> bool
+    ensures { λ r. ⌜ r ≡ any no-id (now (ids .entry)) ⌝ }
+{
+    let mut at = 0;
+    while at < ids.len() {
+        let row = ids[at];
+        if !is_id(row) {
+            return true;
+        }
+        at += 1;
+    }
+    false
+}
+
+// Whether an id begins an import or an include.
+fn brings_in(row: u32) -> bool
+    ensures { λ r. ⌜ r ≡ elsewhere row ⌝ }
+{
+    if row == id::IMPORT_KW {
+        return true;
+    }
+    row == id::INCLUDE_KW
+}
+
+// Whether there is an import or include row.
+fn imports(ids: &[u32]) -> bool
+    ensures { λ r. ⌜ r ≡ any elsewhere (now (ids .entry)) ⌝ }
+{
+    let mut at = 0;
+    while at < ids.len() {
+        let row = ids[at];
+        if brings_in(row) {
+            return true;
+        }
+        at += 1;
+    }
+    false
+}
+
+// Whether the rows tile a source of that many bytes.
+fn tiles(size: usize, starts: &[u32], ends: &[u32]) -> bool
+    requires { ⌜ length (now starts) ≡ length (now ends) ⌝ }
+    ensures { λ r. ⌜ r ≡ tile 0 size (now (starts .entry)) (now (ends .entry)) ⌝ }
+{
+    let mut reached = 0u32;
+    let mut at = 0;
+    while at < ends.len() {
+        if starts[at] != reached {
+            return false;
+        }
+        if ends[at] <= reached {
+            return false;
+        }
+        reached = ends[at];
+        at += 1;
+    }
+    reached as usize == size
+}
+
+// The number of the first refusal of 1 to 6 that applies, or 0, where so many words of scratch are lent.
+pub fn judged(src: &[u8], ids: &[u32], starts: &[u32], ends: &[u32], scratch: usize) -> u32
+    ensures { λ r. ⌜ ((fuel : ℕ) (sc ev er : List ℕ) → length sc ≡ scratch → r ≡ refusal (desk (now (src .entry)) (now (ids .entry)) (now (starts .entry)) (now (ends .entry)) fuel sc ev er)) ⌝ }
+{
+    let rows = ids.len();
+    if src.len() > 1048576 {
+        return 1;
+    }
+    if rows > 65536 {
+        return 1;
+    }
+    if starts.len() > 65536 {
+        return 1;
+    }
+    if ends.len() > 65536 {
+        return 1;
+    }
+    if rows != starts.len() {
+        return 2;
+    }
+    if rows != ends.len() {
+        return 2;
+    }
+    if unknown(ids) {
+        return 3;
+    }
+    if !tiles(src.len(), starts, ends) {
+        return 4;
+    }
+    if imports(ids) {
+        return 5;
+    }
+    if scratch < (2 * (rows + 1) + 63) / 64 {
+        return 6;
+    }
+    0
+}

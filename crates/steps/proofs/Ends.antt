@@ -1,0 +1,197 @@
+-- Nodes ended, errors chosen, recovery. Assumes nothing.
+use Prim.Native.Nat.{ℕ, zero, suc, _+_, _-_, _*_, _≤_, _<_}
+use mathlib.Core.Path.{_≡_, refl, sym, ap, subst, _∙_}
+use mathlib.Core.List.{List, [], _∷_}
+use mathlib.Core.Bool.{Bool, true, false}
+use native.Mathlib.Nat.{le-refl, le-trans}
+use native.Mathlib.Omega.{arith}
+use lib.ListN.{length, take, drop, replicate, length-replicate}
+use Rattle.kinds.specs.Kinds as k
+use Rattle.kinds.specs.Sets.{idsOf}
+use Rattle.peg.specs.Run as P
+use Rattle.peg.specs.Run.{Mode, ok, failed, stopped, Stop, spent, deep, Next, end, other, hit, Choice}
+use Rattle.peg.specs.Open.{Adds, Open}
+use Rattle.peg.specs.Render.{Source, Rec, said, held, records, flat-records}
+use Rattle.peg.proofs.Buffer.{adding}
+use Rattle.notes.specs.Whole.{Whole}
+use Rattle.notes.specs.Change.{withMode}
+use Rattle.notes.specs.Means.{limits, Bufs, bufs, Past, Means, Stands, modeOf, overOf}
+use Rattle.notes.specs.Did.{Ok, Wf, Did, Events, Errors, Plain, Began, Both, Shuts, shutA}
+use Rattle.notes.proofs.Rooms.{er-count, said-is}
+use Rattle.notes.proofs.Core.{Like, like-same, like-at, Sticky, alike, idle, then}
+use Rattle.notes.proofs.Sticky.{Sticks, sticky, sticky-trans, sticky-shut, sticky-finish, sticky-choose, sticky-skip, sticky-expected, sticky-names, sticky-turn, sticky-since, sticky-swallowed}
+use Rattle.steps.proofs.Parts.{retold, turned, node}
+
+-- how a node is ended
+finish-ok : (o : Bool) (a n : ℕ) (t : P.State) → t .mode ≡ ok → P.finish o a n t ≡ shutA a n t
+finish-ok o a n t e = λ i. elim (e i) [ ok ↦ shutA a n t | failed ↦ P.emit (P.closed k.ERROR n (length (t .rest))) (P.unless-optional o t) | stopped w ↦ P.emit (P.closed k.ERROR n (length (t .rest))) (P.unless-optional o t) ]
+
+finish-not : (o : Bool) (a n m : ℕ) (t : P.State) → (m ≡ 0 → ⊥) → t .mode ≡ modeOf m → P.finish o a n t ≡ P.emit (P.closed k.ERROR n (length (t .rest))) (P.unless-optional o t)
+finish-not o a n zero t h e = absurd (h refl)
+finish-not o a n (suc zero) t h e = λ i. elim (e i) [ ok ↦ shutA a n t | failed ↦ P.emit (P.closed k.ERROR n (length (t .rest))) (P.unless-optional o t) | stopped w ↦ P.emit (P.closed k.ERROR n (length (t .rest))) (P.unless-optional o t) ]
+finish-not o a n (suc (suc zero)) t h e = λ i. elim (e i) [ ok ↦ shutA a n t | failed ↦ P.emit (P.closed k.ERROR n (length (t .rest))) (P.unless-optional o t) | stopped w ↦ P.emit (P.closed k.ERROR n (length (t .rest))) (P.unless-optional o t) ]
+finish-not o a n (suc (suc (suc m))) t h e = λ i. elim (e i) [ ok ↦ shutA a n t | failed ↦ P.emit (P.closed k.ERROR n (length (t .rest))) (P.unless-optional o t) | stopped w ↦ P.emit (P.closed k.ERROR n (length (t .rest))) (P.unless-optional o t) ]
+
+module _ (o : Bool) (kind n at : ℕ) {x : Source} {s r : Whole} {b b′ : Bufs} where
+  -- as f closes it, where f is what `finish` does here
+  ended : (f : P.Reader) → ((p : Past) → Sticks p x f) → ((p : Past) (a : P.State) → Means p x s b a → f a ≡ P.finish o kind n a) → Shuts f at x s r b b′ → Shuts (P.finish o kind n) at x s r b b′
+  ended f F e y = record { does = λ p a w t. alike (like-at t (F p a) (sticky-finish p x o kind n a) (λ z. like-same (e p a (t .means z)))) (y .does p a w t); wf = y .wf; room = y .room; first = y .first; ahead = y .ahead; grows = y .grows; kept = y .kept }
+
+  pub ends-ok : s .mode ≡ 0 → Shuts (shutA kind n) at x s r b b′ → Shuts (P.finish o kind n) at x s r b b′
+  ends-ok h = ended (shutA kind n) (λ p. sticky-shut p x kind n) (λ p a m. sym (finish-ok o kind n a (m .mode ∙ ap modeOf h)))
+
+  pub ends-optional : o ≡ true → (s .mode ≡ 0 → ⊥) → Shuts (shutA k.ERROR n) at x s r b b′ → Shuts (P.finish o kind n) at x s r b b′
+  ends-optional q h = ended (shutA k.ERROR n) (λ p. sticky-shut p x k.ERROR n) (λ p a m. sym (finish-not o kind n (s .mode) a h (m .mode) ∙ ap (λ (c : Bool). P.emit (P.closed k.ERROR n (length (a .rest))) (P.unless-optional c a)) q))
+
+-- outside optional parts an error is chosen first
+pub ends-chosen : (o : Bool) (kind n at : ℕ) {x : Source} {s s₁ r : Whole} {ev ev′ er er′ : List ℕ} → o ≡ false → (s .mode ≡ 0 → ⊥) → Errors P.choose x s s₁ er er′
+    → ((er sc : List ℕ) → Wf x (bufs ev er sc) s₁ → Shuts (shutA k.ERROR n) at x s₁ r (bufs ev er sc) (bufs ev′ er sc)) → (sc : List ℕ) → Wf x (bufs ev er sc) s → Shuts (P.finish o kind n) at x s r (bufs ev er sc) (bufs ev′ er′ sc)
+ends-chosen o kind n at {x} {s} {s₁} {r} {ev} {ev′} {er} {er′} q h e shut sc w =
+    let c = e .did ev sc w in
+    let y = shut er′ sc (c .wf) in
+    ended o kind n at (λ a. shutA k.ERROR n (P.choose a)) (λ p a. sticky-trans p x a (P.choose a) (shutA k.ERROR n (P.choose a)) (sticky-choose p x a) (sticky-shut p x k.ERROR n (P.choose a)))
+    (λ p a m. sym (finish-not o kind n (s .mode) a h (m .mode) ∙ ap (λ (c : Bool). P.emit (P.closed k.ERROR n (length (a .rest))) (P.unless-optional c a)) q))
+    (record {
+      does = λ p a w t. y .does p (P.choose a) (λ z. w (c .room z)) (c .does p a t);
+      wf = y .wf;
+      room = λ z. c .room (y .room z);
+      first = y .first ∙ c .first;
+      ahead = le-trans (c .ahead) (y .ahead);
+      grows = le-trans (c .grows) (y .grows);
+      kept = λ i l g. y .kept i (le-trans l (c .grows)) (λ z. g (c .room z));
+    })
+
+-- an ERROR node around what is skipped
+pub swallows : (d : ℕ) (o : Bool) (S : List ℕ) {x : Source} {s s₁ s₂ r : Whole} {ev ev₁ ev₂ ev₃ er er′ : List ℕ} (sc : List ℕ) → Wf x (bufs ev er sc) s → Began d x s s₁ ev ev₁ → Events (P.skip-to S) x s₁ s₂ ev₁ ev₂
+    → (Wf x (bufs ev₂ er sc) s₂ → Shuts (P.finish o k.ERROR (length (x .ids) - s₁ .pos)) (s₁ .ev) x s₂ r (bufs ev₂ er sc) (bufs ev₃ er′ sc)) → Did (P.swallow d o S) x s r (bufs ev er sc) (bufs ev₃ er′ sc)
+swallows d o S {x} {s} {s₁} {er = er} sc w y z e =
+    let B = y .events .did er sc w in
+    let D = z .did er sc (B .wf) in
+    node d k.ERROR o (P.skip-to S) (λ a. adding .at-skip S a) (λ p. sticky-skip p x S) (s₁ .pos) (s₁ .ev) refl refl B (y .opens) D (e (D .wf))
+
+-- no error of the item is pending where no number of one stands written
+pub none-pending : {p : Past} {x : Source} {s : Whole} {b : Bufs} {a : P.State} → Wf x b s → Means p x s b a → s .er ≡ s .item → a .chosen ≡ []
+none-pending {p} {x} {s} {b} {a} w m e = none (a .chosen) (omega (arith, er-count w m, e, m .chosen .since, said-is limits x (a .out) [], ap (λ (l : List Rec). length (flat-records l)) (m .written .past)))
+  where
+    none : (c : List (ℕ × Choice)) → held limits x c ≡ 0 → c ≡ []
+    none [] h = refl
+    none (e ∷ c) h = absurd (omega arith)
+
+pub some-pending : {p : Past} {x : Source} {s : Whole} {b : Bufs} {a : P.State} → Wf x b s → Means p x s b a → (s .er ≡ s .item → ⊥) → (S : List ℕ) → P.first-names (a .chosen) S a ≡ a
+some-pending {p} {x} {s} {b} {a} w m n S = go (a .chosen) refl
+  where
+    none : a .chosen ≡ [] → s .er ≡ s .item
+    none q = omega (arith, er-count w m, m .chosen .since, said-is limits x (a .out) [], ap (λ (l : List Rec). length (flat-records l)) (m .written .past), ap (held limits x) q)
+
+    go : (c : List (ℕ × Choice)) → a .chosen ≡ c → P.first-names c S a ≡ a
+    go [] q = absurd (n (none q))
+    go (e ∷ c) q = refl
+
+-- the set's names are entered where no error is pending
+module _ (S : List ℕ) {x : Source} {s : Whole} where
+  pub names-first : {r : Whole} → s .er ≡ s .item → Plain (P.expected (idsOf S)) x s r → Plain (λ a. P.first-names (a .chosen) S a) x s r
+  names-first e y =
+      record {
+        did = λ b w.
+            retold (λ a. P.first-names (a .chosen) S a) (λ p a n. refl) (λ p. sticky-expected p x (idsOf S)) (λ p. sticky-names p x S) (λ p a m. sticky-names p x S a)
+            (λ p a t i j. sym (ap (λ (c : List (ℕ × Choice)). P.first-names c S a) (none-pending w (t .means i) e))) (idle w (λ p a t. like-same refl)) (y .did b w);
+        ok = y .ok;
+        evcap = y .evcap;
+        ercap = y .ercap;
+        first = y .first;
+        place = y .place;
+        still = y .still;
+      }
+
+  pub names-pending : (s .er ≡ s .item → ⊥) → Ok (length (x .ids)) s → Plain (λ a. P.first-names (a .chosen) S a) x s s
+  names-pending n w =
+      record {
+        did = λ b v. idle v (λ p a t. like-at t (λ i. refl) (sticky-names p x S a) (λ z. like-same (sym (some-pending v (t .means z) n S))));
+        ok = w;
+        evcap = refl;
+        ercap = refl;
+        first = refl;
+        place = refl;
+        still = refl;
+      }
+
+-- recovery, by what stands next
+recovery-is : (d : ℕ) (o : Bool) (S : List ℕ) (n : ℕ) (a : P.State) → n < 2 → a .mode ≡ modeOf n → P.recovery d o S a ≡ P.recovered d o S (P.next S (a .rest)) (modeOf n) (P.turn ok a)
+recovery-is d o S n a h e = ap (λ (m : Mode). P.recovery d o S (P.turn m a)) e ∙ go n h
+  where
+    go : (n : ℕ) → n < 2 → P.recovery d o S (P.turn (modeOf n) a) ≡ P.recovered d o S (P.next S (a .rest)) (modeOf n) (P.turn ok a)
+    go zero h = refl
+    go (suc zero) h = refl
+    go (suc (suc n)) h = absurd (omega arith)
+
+recovery-not : (d : ℕ) (o : Bool) (S : List ℕ) (n : ℕ) (a : P.State) → 2 ≤ n → a .mode ≡ modeOf n → P.recovery d o S a ≡ a
+recovery-not d o S n a h e = ap (λ (m : Mode). P.recovery d o S (P.turn m a)) e ∙ go n h ∙ sym (ap (λ (m : Mode). P.turn m a) e)
+  where
+    go : (n : ℕ) → 2 ≤ n → P.recovery d o S (P.turn (modeOf n) a) ≡ P.turn (modeOf n) a
+    go zero h = absurd (omega arith)
+    go (suc zero) h = absurd (omega arith)
+    go (suc (suc zero)) h = refl
+    go (suc (suc (suc n))) h = refl
+
+module _ (d : ℕ) (o : Bool) (S : List ℕ) {x : Source} {s : Whole} {b : Bufs} (w : Wf x b s) where
+  pub recovers-not : 2 ≤ s .mode → Did (P.recovery d o S) x s s b b
+  recovers-not h = idle w (λ p a t. like-at t (λ n. refl) (sticky p x .at-recover d o S a) (λ z. like-same (sym (recovery-not d o S (s .mode) a h (t .means z .mode)))))
+
+  module _ (z : Next) (q : P.next S (drop (s .pos) (x .ids)) ≡ z) (h : s .mode < 2) where
+    -- in good order, g is done
+    recovers : (g : P.Reader) {r : Whole} {b′ : Bufs} → ((p : Past) → Sticks p x g) → ((a : P.State) → P.recovered d o S z (modeOf (s .mode)) a ≡ g a) → Did g x (withMode 0 s) r b b′ → Did (P.recovery d o S) x s r b b′
+    recovers g G e y =
+        retold (P.recovery d o S) (λ p. sticky-turn p x ok) G (λ p. sticky p x .at-recover d o S) (λ p a m. sticky-since p x ok a (P.recovery d o S a) (sticky p x .at-recover d o S a))
+        (λ p a t i j.
+        let m = t .means i in
+        sym (recovery-is d o S (s .mode) a h (m .mode) ∙ ap (λ (l : List ℕ). P.recovered d o S (P.next S l) (modeOf (s .mode)) (P.turn ok a)) (m .rest) ∙ ap (λ (c : Next). P.recovered d o S c (modeOf (s .mode)) (P.turn ok a)) q ∙ e (P.turn ok a)))
+        (turned 0 ok refl (idle w (λ p a t. like-same refl))) y
+
+-- scratch that is long enough, where none is at hand
+abbrev pub enough : Source → List ℕ
+enough x = replicate (length (x .ids) + 1) 0
+
+pub lent : (x : Source) (s : Whole) (ev er : List ℕ) → Ok (length (x .ids)) s → s .evcap ≤ length ev → s .ercap ≤ length er → Wf x (bufs ev er (enough x)) s
+lent x s ev er w h i = (w, record { events = h; errors = i; scratch = omega (arith, length-replicate {A = ℕ} (length (x .ids) + 1) 0) })
+
+pub both-of : {f : P.Reader} {x : Source} {s r : Whole} {ev ev′ er er′ : List ℕ} → Ok (length (x .ids)) s → s .evcap ≤ length ev → s .ercap ≤ length er → ((sc : List ℕ) → Wf x (bufs ev er sc) s → Did f x s r (bufs ev er sc) (bufs ev′ er′ sc)) → Both f x s r ev ev′ er er′
+both-of {f} {x} {s} {r} {ev} {ev′} {er} {er′} w h i g =
+    let D = g (enough x) (lent x s ev er w h i) in
+    record { did = g; ok = D .wf .0; event-fits = D .wf .1 .events; error-fits = D .wf .1 .errors }
+
+-- what a node's end asks of a body on events behind its begin
+pub ready : {d : ℕ} {f : P.Reader} {x : Source} {s s₁ s₂ : Whole} {ev ev₁ ev₂ : List ℕ} (er : List ℕ) → Ok (length (x .ids)) s → s .evcap ≤ length ev → s .ercap ≤ length er → Began d x s s₁ ev ev₁ → Events f x s₁ s₂ ev₁ ev₂
+    → (s₂ .ercap ≤ length er) × (s₁ .pos ≤ s₂ .pos) × (s₂ .full ≡ 0 → (4 ≤ s₁ .ev) × (s₁ .ev ≤ s₂ .ev))
+ready {x = x} {s} {ev = ev} er w h i y z =
+    let T = y .events .did er (enough x) (lent x s ev er w h i) in
+    let D = z .did er (enough x) (T .wf) in
+    (D .wf .1 .errors, D .ahead, λ j. let o = y .opens (D .room j) in (omega arith, D .grows))
+
+-- the four ways through `recover`
+module _ (d : ℕ) (o : Bool) (S : List ℕ) {x : Source} {s : Whole} {ev er : List ℕ} (w : Ok (length (x .ids)) s) (h : s .evcap ≤ length ev) (i : s .ercap ≤ length er) where
+  pub recover-stopped : 2 ≤ s .mode → Both (P.recovery d o S) x s s ev ev er er
+  recover-stopped k = both-of w h i (λ sc v. recovers-not d o S v k)
+
+  pub recover-end : s .mode < 2 → P.next S (drop (s .pos) (x .ids)) ≡ end → Both (P.recovery d o S) x s (withMode 0 s) ev ev er er
+  recover-end k q = both-of w h i (λ sc v. recovers d o S v end q k (λ a. a) (λ p a n. refl) (λ a. refl) (idle v (λ p a t. like-same refl)))
+
+  pub recover-found : {b : ℕ} {is : List ℕ} → s .mode ≡ 0 → P.next S (drop (s .pos) (x .ids)) ≡ hit b is → Both (P.recovery d o S) x s (withMode 0 s) ev ev er er
+  recover-found {b} {is} e q =
+      both-of w h i (λ sc v. recovers d o S v (hit b is) q (omega (arith, e)) (λ a. a) (λ p a n. refl) (λ a. ap (λ (n : ℕ). P.recovered d o S (hit b is) (modeOf n) a) e) (idle v (λ p a t. like-same refl)))
+
+  pub recover-failed : {b : ℕ} {is er′ : List ℕ} {r : Whole} → s .mode < 2 → (s .mode ≡ 0 → ⊥) → P.next S (drop (s .pos) (x .ids)) ≡ hit b is → Errors P.choose x (withMode 0 s) r er er′ → Both (P.recovery d o S) x s r ev ev er er′
+  recover-failed {b} {is} k n q y = both-of w h i (λ sc v. recovers d o S v (hit b is) q k P.choose (λ p. sticky-choose p x) (λ a. found (s .mode) k n a) (y .did ev sc v))
+    where
+      found : (m : ℕ) → m < 2 → (m ≡ 0 → ⊥) → (a : P.State) → P.recovered d o S (hit b is) (modeOf m) a ≡ P.choose a
+      found zero k n a = absurd (n refl)
+      found (suc zero) k n a = refl
+      found (suc (suc m)) k n a = absurd (omega arith)
+
+  pub recover-skips : {s₁ s₂ r : Whole} {ev′ er₁ er₂ : List ℕ} → s .mode < 2 → P.next S (drop (s .pos) (x .ids)) ≡ other → Plain (λ a. P.first-names (a .chosen) S a) x (withMode 0 s) s₁ → Errors P.choose x s₁ s₂ er er₁ → Both (P.swallow d o S) x s₂ r ev ev′ er₁ er₂ → Both (P.recovery d o S) x s r ev ev′ er er₂
+  recover-skips k q y z u =
+      both-of w h i
+      (λ sc v.
+      let N = y .did (bufs ev er sc) v in
+      let C = z .did ev sc (N .wf) in
+      let D = then N C in
+      recovers d o S v other q k (λ a. P.swallow d o S (P.choose (P.first-names (a .chosen) S a))) (λ p. sticky-swallowed p x d o S) (λ a. refl) (then D (u .did sc (D .wf))))

@@ -1,0 +1,9 @@
+pub mod Taken
+pub mod Nodes
+pub mod Next
+pub mod Parts
+pub mod Memo
+pub mod Branch
+pub mod Eating
+pub mod Skips
+pub mod Ends

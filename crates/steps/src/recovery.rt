@@ -1,0 +1,144 @@
+// Nodes ended, errors chosen, recovery.
+use crate::state::State;
+use choice::choose;
+use kinds::kind;
+use kinds::within;
+use notes::names::ER;
+use notes::names::ITEM;
+use notes::names::expected;
+use notes::rows::peek;
+ghost use mathlib.Core.Path.{_≡_};
+ghost use mathlib.Core.List.{List};
+ghost use Prim.Native.Nat.{ℕ, _-_, _≤_, _<_};
+ghost use lib.ListN.{length};
+ghost use Rattle.kinds.specs.Sets.{setOf};
+ghost use Rattle.peg.specs.Render.{Source};
+ghost use Rattle.peg.specs.Run as P;
+ghost use Rattle.notes.specs.Whole.{Whole, beside};
+ghost use Rattle.notes.specs.Means.{source, bufs};
+ghost use Rattle.notes.specs.Did.{Ok, Wf, Coded, Plain, Both, Shuts, Peeked};
+ghost use Rattle.steps.specs.Steps.{whole, Tabled, Whence};
+
+impl State {
+    // Ends a node. Outside optional parts an error is chosen where the node did not go well.
+    pub fn end(
+        mut self,
+        kind: u32,
+        from: usize,
+        at: usize,
+        optional: bool,
+        src: &[u8],
+        ids: &[u32],
+        ends: &[u32],
+        events: &mut [u32],
+        errors: &mut [u32],
+        notes: &mut [usize; 67],
+    ) -> Self
+        requires { ⌜ Whence (now src) (now ids) (now ends) self (now notes) (now events) (now errors) × (from ≤ self .pos) × (self .full ≡ 0 → (4 ≤ at) × (at ≤ self .ev)) ⌝ }
+        ensures { λ r. ⌜ ((sc : List ℕ) → Wf (source (now (src .entry)) (now (ids .entry)) (now (ends .entry))) (bufs (now (events .entry)) (now (errors .entry)) sc) (whole self (now (notes .entry))) → Shuts (P.finish optional kind (length (now (ids .entry)) - from)) at (source (now (src .entry)) (now (ids .entry)) (now (ends .entry))) (whole self (now (notes .entry))) (whole r (now (notes .exit))) (bufs (now (events .entry)) (now (errors .entry)) sc) (bufs (now (events .exit)) (now (errors .exit)) sc)) ⌝ }
+    {
+        if self.mode == 0 {
+            return self.shut(kind, from, at, ends, events);
+        }
+        if optional {
+            return self.shut(kind::ERROR, from, at, ends, events);
+        }
+        self.full = choose(self.full, src, ids, ends, errors, notes);
+        self.shut(kind::ERROR, from, at, ends, events)
+    }
+
+    // An ERROR node around the rows up to one of the set.
+    fn swallow(
+        mut self,
+        d: usize,
+        optional: bool,
+        set: usize,
+        src: &[u8],
+        ids: &[u32],
+        ends: &[u32],
+        events: &mut [u32],
+        errors: &mut [u32],
+        notes: &mut [usize; 67],
+        sets: &[[u64; 2]; 55],
+    ) -> Self
+        requires { ⌜ Whence (now src) (now ids) (now ends) self (now notes) (now events) (now errors) × Tabled (now sets) ⌝ }
+        ensures { λ r. ⌜ Both (P.swallow d optional (setOf set)) (source (now (src .entry)) (now (ids .entry)) (now (ends .entry))) (whole self (now (notes .entry))) (whole r (now (notes .exit))) (now (events .entry)) (now (events .exit)) (now (errors .entry)) (now (errors .exit)) ⌝ }
+    {
+        self = self.begin(d, ids, ends, events);
+        let from = self.pos;
+        let at = self.ev;
+        self = self.skip_to(set, ids, ends, events, sets);
+        self.end(
+            kind::ERROR,
+            from,
+            at,
+            optional,
+            src,
+            ids,
+            ends,
+            events,
+            errors,
+            notes,
+        )
+    }
+
+    // Goes on at a row of the set, in good order; what stands before it goes into an ERROR node.
+    pub fn recover(
+        mut self,
+        d: usize,
+        optional: bool,
+        set: usize,
+        src: &[u8],
+        ids: &[u32],
+        ends: &[u32],
+        events: &mut [u32],
+        errors: &mut [u32],
+        notes: &mut [usize; 67],
+        sets: &[[u64; 2]; 55],
+    ) -> Self
+        requires { ⌜ Whence (now src) (now ids) (now ends) self (now notes) (now events) (now errors) × (set < 55) × Tabled (now sets) ⌝ }
+        ensures { λ r. ⌜ Both (P.recovery d optional (setOf set)) (source (now (src .entry)) (now (ids .entry)) (now (ends .entry))) (whole self (now (notes .entry))) (whole r (now (notes .exit))) (now (events .entry)) (now (events .exit)) (now (errors .entry)) (now (errors .exit)) ⌝ }
+    {
+        if self.mode > 1 {
+            return self;
+        }
+        let mode = self.mode;
+        self.mode = 0;
+        let at = peek(self.pos, ids);
+        if at >= ids.len() {
+            return self;
+        }
+        let id = ids[at];
+        if !within(set, id, sets) {
+            first_names(set, at, notes);
+            self.full = choose(self.full, src, ids, ends, errors, notes);
+            return self.swallow(
+                d,
+                optional,
+                set,
+                src,
+                ids,
+                ends,
+                events,
+                errors,
+                notes,
+                sets,
+            );
+        }
+        if mode == 0 {
+            return self;
+        }
+        self.full = choose(self.full, src, ids, ends, errors, notes);
+        self
+    }
+}
+
+// Where no error of the item is pending, the set's names are entered first.
+fn first_names(set: usize, at: usize, notes: &mut [usize; 67])
+    requires { ⌜ Coded (now notes) × (set < 55) × (at ≤ 65536) ⌝ }
+    ensures { λ _. ⌜ ((x : Source) (s : Whole) → Ok (length (x .ids)) (beside (now (notes .entry)) s) → Peeked (x .ids) (s .pos) at → Plain (λ a. P.first-names (a .chosen) (setOf set) a) x (beside (now (notes .entry)) s) (beside (now (notes .exit)) s)) ⌝ }
+{
+    if notes[ER] == notes[ITEM] {
+        expected(set, at, notes);
+    }
+}

@@ -1,0 +1,159 @@
+// The state, and the steps that write events.
+use kinds::is_trivia;
+use notes::rows::start_of;
+ghost use mathlib.Core.Path.{_≡_};
+ghost use mathlib.Core.List.{List};
+ghost use Prim.Native.Nat.{ℕ, _-_, _≤_};
+ghost use lib.Dec.{eqb};
+ghost use lib.ListN.{length};
+ghost use Rattle.peg.specs.Buffer.{four};
+ghost use Rattle.peg.specs.Render.{Source};
+ghost use Rattle.peg.specs.Run as P;
+ghost use Rattle.notes.specs.Change.{markOf, gone, undoneTo};
+ghost use Rattle.notes.specs.Means.{source, bufs, Lines};
+ghost use Rattle.notes.specs.Did.{Ok, Wf, Put, Plain, Began, Shuts, shutA};
+ghost use Rattle.steps.specs.Steps.{whole, Fits, Writes};
+
+// What is handed in and handed back at every step. What is looked at seldom is noted in a list that is lent beside it (crate `notes`).
+pub struct State {
+    // How many rows are covered.
+    pub pos: usize,
+    // How many numbers of events stand written, and how many may.
+    pub ev: usize,
+    pub evcap: usize,
+    pub fuel: u32,
+    // 0 in good order, 1 failed, 2 out of fuel, 3 too deep.
+    pub mode: u8,
+    // 7 or 8 once a room was exceeded, 0 before.
+    pub full: u8,
+}
+
+// A place to come back to.
+pub struct Mark {
+    pub pos: usize,
+    pub ev: usize,
+}
+
+impl State {
+    // Writes an event; where there is no room, says so.
+    pub fn put(mut self, sort: u32, kind: u32, start: u32, end: u32, events: &mut [u32]) -> Self
+        requires { ⌜ Fits self (now events) ⌝ }
+        ensures { λ r. ⌜ ((l : List ℕ) → Put (four sort kind start end) (whole self l) (whole r l) (now (events .entry)) (now (events .exit))) ⌝ }
+    {
+        if self.full != 0 {
+            return self;
+        }
+        let at = self.ev;
+        if self.evcap - at < 4 {
+            self.full = 7;
+            return self;
+        }
+        events[at] = sort;
+        events[at + 1] = kind;
+        events[at + 2] = start;
+        events[at + 3] = end;
+        self.ev = at + 4;
+        self
+    }
+
+    // Takes up trivia, in good order only.
+    pub fn trivia(mut self, ids: &[u32], ends: &[u32], events: &mut [u32]) -> Self
+        requires { ⌜ Lines (now ids) (now ends) × Fits self (now events) ⌝ }
+        ensures { λ r. ⌜ Writes P.trivia (now (ids .entry)) (now (ends .entry)) self r (now (events .entry)) (now (events .exit)) × (r .mode ≡ self .mode) ⌝ }
+    {
+        if self.mode != 0 {
+            return self;
+        }
+        while self.pos < ids.len() {
+            let at = self.pos;
+            let id = ids[at];
+            if !is_trivia(id) {
+                return self;
+            }
+            let start = start_of(at, ends);
+            let end = ends[at];
+            self = self.put(2, id, start, end, events);
+            self.pos = at + 1;
+        }
+        self
+    }
+
+    // Takes one fuel for a node, where d more may be open. The first stop stands.
+    fn charge(mut self, d: usize) -> Self
+        ensures { λ r. ⌜ ((x : Source) (l : List ℕ) → Ok (length (x .ids)) (whole self l) → Plain (λ a. P.charge d (a .fuel) a) x (whole self l) (whole r l)) ⌝ }
+    {
+        if self.fuel == 0 {
+            if self.mode < 2 {
+                self.mode = 2;
+                return self;
+            }
+            return self;
+        }
+        self.fuel = self.fuel - 1;
+        if d == 0 {
+            if self.mode < 2 {
+                self.mode = 3;
+                return self;
+            }
+            return self;
+        }
+        self
+    }
+
+    // Begins a node: its event is written, fuel or not.
+    pub fn begin(mut self, d: usize, ids: &[u32], ends: &[u32], events: &mut [u32]) -> Self
+        requires { ⌜ Lines (now ids) (now ends) × Fits self (now events) × (self .pos ≤ length (now ids)) ⌝ }
+        ensures { λ r. ⌜ ((bytes l : List ℕ) → Ok (length (now (ids .entry))) (whole self l) → Began d (source bytes (now (ids .entry)) (now (ends .entry))) (whole self l) (whole r l) (now (events .entry)) (now (events .exit))) ⌝ }
+    {
+        self = self.trivia(ids, ends, events);
+        self = self.charge(d);
+        let start = start_of(self.pos, ends);
+        self.put(1, 0, start, start, events)
+    }
+
+    // Closes a node that began at row `from`, its event before `at`: that event gets kind and end, and the end event is written.
+    pub fn shut(self, kind: u32, from: usize, at: usize, ends: &[u32], events: &mut [u32]) -> Self
+        requires { ⌜ Fits self (now events) × (self .pos ≤ length (now ends)) × (from ≤ self .pos) × (self .full ≡ 0 → (4 ≤ at) × (at ≤ self .ev)) ⌝ }
+        ensures { λ r. ⌜ ((l bytes ids er sc : List ℕ) → Lines ids (now (ends .entry)) → Wf (source bytes ids (now (ends .entry))) (bufs (now (events .entry)) er sc) (whole self l) → Shuts (shutA kind (length ids - from)) at (source bytes ids (now (ends .entry))) (whole self l) (whole r l) (bufs (now (events .entry)) er sc) (bufs (now (events .exit)) er sc)) ⌝ }
+    {
+        if self.full != 0 {
+            return self;
+        }
+        let start = start_of(from, ends);
+        let end = start_of(self.pos, ends);
+        events[at - 3] = kind;
+        events[at - 1] = end;
+        self.put(3, kind, start, end, events)
+    }
+
+    pub fn mark(self) -> Mark
+        ensures { λ r. ⌜ ((l : List ℕ) → (r .pos, r .ev) ≡ markOf (whole self l)) ⌝ }
+    {
+        Mark {
+            pos: self.pos,
+            ev: self.ev,
+        }
+    }
+
+    // Back to a mark; all but place and events stays.
+    pub fn rewind(mut self, m: Mark) -> Self
+        ensures { λ r. ⌜ ((l : List ℕ) → whole r l ≡ gone (m .pos, m .ev) (whole self l)) ⌝ }
+    {
+        self.pos = m.pos;
+        self.ev = m.ev;
+        self
+    }
+
+    // A repetition's last turn failed or stopped: back to its mark; a failure is no more.
+    pub fn undone(mut self, m: Mark) -> Self
+        ensures { λ r. ⌜ ((l : List ℕ) → whole r l ≡ undoneTo (m .pos, m .ev) (whole self l)) ⌝ }
+    {
+        self.pos = m.pos;
+        self.ev = m.ev;
+        if self.mode == 1 {
+            self.mode = 0;
+            return self;
+        }
+        self
+    }
+}

@@ -1,1 +1,0 @@
-ANS = {"returns": "λ bytes ids er sc l w. {closed} .ensures ({args} .self) bytes ids er sc l w"}
