@@ -55,19 +55,27 @@ returns-6 : tie.Need-returns-6
 returns-6 c = ap some (c .followers2 .ensures) ∙ alike (c .before .before .if2 .left) (c .before .if3 .taken) characters tt
 
 returns-7 : tie.Need-returns-7
-returns-7 c = let r = c .before .before .before .before .before .match .rest in ap some (c .followers3 .ensures) ∙ alike (past (c .before .before .if3 .left) (r .0 .0 .0 .1)) (c .before .if4 .taken) characters tt
+returns-7 c =
+    let r = c .before .before .before .before .before .match .rest in
+    ap some (c .followers3 .ensures) ∙ alike (past (c .before .before .if3 .left) (r .0 .0 .0 .1)) (c .before .if4 .taken) characters tt
 
 returns-8 : tie.Need-returns-8
-returns-8 c = let r = c .before .before .before .before .before .before .match .rest in ap some (c .followers4 .ensures) ∙ alike (past (c .before .before .if4 .left) (r .0 .0 .1)) (c .before .if5 .taken) characters tt
+returns-8 c =
+    let r = c .before .before .before .before .before .before .match .rest in
+    ap some (c .followers4 .ensures) ∙ alike (past (c .before .before .if4 .left) (r .0 .0 .1)) (c .before .if5 .taken) characters tt
 
 returns-9 : tie.Need-returns-9
-returns-9 c = let r = c .before .before .before .before .before .before .before .match .rest in ap some (c .followers5 .ensures) ∙ alike (past (c .before .before .if5 .left) (r .0 .1)) (c .before .if6 .taken) characters tt
+returns-9 c =
+    let r = c .before .before .before .before .before .before .before .match .rest in
+    ap some (c .followers5 .ensures) ∙ alike (past (c .before .before .if5 .left) (r .0 .1)) (c .before .if6 .taken) characters tt
 
 returns-10 : tie.Need-returns-10
 returns-10 c = alike (c .before .if1 .left) (c .if2 .taken) characters tt
 
 returns-11 : tie.Need-returns-11
-returns-11 c = let m = c .before .before .before .before .before .before in alike (past (c .if6 .left) (m .match .rest .1)) (m .before .fits .b .fits) characters tt
+returns-11 c =
+    let m = c .before .before .before .before .before .before in
+    alike (past (c .if6 .left) (m .match .rest .1)) (m .before .fits .b .fits) characters tt
 
 pub begun-spec : {M : Type 1} → statement M
 begun-spec =
