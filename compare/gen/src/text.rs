@@ -88,31 +88,20 @@ pub fn odd(rng: &mut Rng) -> Vec<u8> {
     }
 }
 
-/// A lead byte and followers, each just within or just outside its range. Few of the sequences that only
-/// the generous rule takes are let through, since a case that holds one is outside the domain.
-fn character(rng: &mut Rng) -> Vec<u8> {
-    loop {
-        let mut bytes =
-            vec![rng.pick(&[0x7F, 0x80, 0xBF, 0xC1, 0xC2, 0xDF, 0xE0, 0xED, 0xEF, 0xF0, 0xF4, 0xF5])];
-        for _ in 0..rng.below(4) {
-            bytes.push(rng.pick(&[0x7F, 0x80, 0x8F, 0x90, 0x9F, 0xA0, 0xBF, 0xC0]));
-        }
-        if !parts_the_rules(&bytes) || rng.percent(5) {
-            return bytes;
-        }
-    }
-}
+/// The limits of the first bytes in the table of well-formed sequences, each with a neighbour outside.
+const FIRSTS: [u8; 17] =
+    [0x7F, 0x80, 0xBF, 0xC1, 0xC2, 0xDF, 0xE0, 0xE1, 0xEC, 0xED, 0xEE, 0xEF, 0xF0, 0xF1, 0xF3, 0xF4, 0xF5];
 
-/// Whether Unicode's rule and document 01's may judge a text differently: after these lead bytes Unicode
-/// takes fewer followers.
-pub fn parts_the_rules(text: &[u8]) -> bool {
-    let parts = |pair: &[u8]| {
-        matches!(
-            (pair[0], pair[1]),
-            (0xE0, 0x80..=0x9F) | (0xED, 0xA0..=0xBF) | (0xF0, 0x80..=0x8F) | (0xF4, 0x90..=0xBF)
-        )
-    };
-    text.windows(2).any(parts)
+/// The same for the bytes behind.
+pub const OTHERS: [u8; 8] = [0x7F, 0x80, 0x8F, 0x90, 0x9F, 0xA0, 0xBF, 0xC0];
+
+/// A first byte and others, each just within or just outside its range.
+fn character(rng: &mut Rng) -> Vec<u8> {
+    let mut bytes = vec![rng.pick(&FIRSTS)];
+    for _ in 0..rng.below(4) {
+        bytes.push(rng.pick(&OTHERS));
+    }
+    bytes
 }
 
 /// Usual texts for ids, with odd ones strewn in by the given chance.

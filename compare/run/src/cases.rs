@@ -4,10 +4,12 @@ use crate::judge::{same_lines, stripped};
 use common::kinds::{id, kind, name};
 use common::listing::listing;
 use common::{input, reading_of, Question, Reading, Record, Side, BEGIN, END};
-use generate::text::id_of;
+use generate::text::{id_of, OTHERS};
+use model::utf8;
 use std::error::Error;
 use std::fs;
 use std::path::{Path, PathBuf};
+use std::str::from_utf8;
 
 type Checked = Result<(), Box<dyn Error>>;
 
@@ -150,6 +152,27 @@ pub fn small(side: &dyn Side) -> Checked {
     let p9 = side.merge(&[BEGIN, 87, 0, 1, END, 87, 0, 1, BEGIN, 87, 1, 3, END, 87, 1, 3], 8);
     expect("P9", p9.room == [BEGIN, kind::ERROR, 0, 3, END, kind::ERROR, 0, 3] && p9.count == 2)?;
     sizes(side)
+}
+
+/// The UTF-8 test on every sequence of up to three bytes, and on every first byte with three bytes at limits;
+/// how many these are.
+pub fn texts() -> Result<usize, String> {
+    let mut count = 0;
+    let mut judged = |text: &[u8]| {
+        count += 1;
+        let same = utf8::is_text(text) == from_utf8(text).is_ok();
+        same.then_some(()).ok_or_else(|| format!("only one side takes {text:02X?} for UTF-8"))
+    };
+    for length in 1..=3 {
+        for number in 0..1_u32 << (8 * length) {
+            judged(&number.to_be_bytes()[4 - length..])?;
+        }
+    }
+    for number in 0..256 * OTHERS.len().pow(3) {
+        let other = |place: u32| OTHERS[number / OTHERS.len().pow(place) % OTHERS.len()];
+        judged(&[(number / OTHERS.len().pow(3)) as u8, other(2), other(1), other(0)])?;
+    }
+    Ok(count)
 }
 
 fn small_file(file: &Small, reading: &Reading) -> Checked {

@@ -4,7 +4,7 @@
 use crate::cases::question;
 use crate::judge::stripped;
 use crate::minimise::minimise;
-use common::kinds::{id, kind};
+use common::kinds::kind;
 use common::listing::listing;
 use common::{reading_of, Question, Side, BEGIN, END};
 use model::Model;
@@ -17,15 +17,9 @@ pub fn tell() -> Told {
         ours.outcome == outcome && stripped(&ours).raw.len() != ours.raw.len()
     };
     let whole = minimise(&question("rule~ ~a~{~condition~:~}", 1_000), |q| empty(q, 0));
-    readings("An empty ERROR node is kept; the Rust drops it.", &whole, true)?;
+    readings("An empty ERROR node is kept; the Rust drops it.", &whole)?;
     let started = minimise(&question("rule~ ~a~{~condition~:~}", 4), |q| empty(q, 1));
-    readings("The same, stopped.", &started, true)?;
-    let text = Question::new(&[(id::RULE_KW, b"rule".to_vec()), (id::UNKNOWN, b"\xED\xA0\x80".to_vec())], 9);
-    readings(
-        "Found text that document 01 takes for UTF-8 and the Rust does not (outside the domain).",
-        &text,
-        false,
-    )?;
+    readings("The same, stopped.", &started)?;
     let signs = format!("rule~a~{{~condition~:~{}1~}}", "-~".repeat(1_017));
     let deep = reading_of(&Model, &question(&signs, 100_000)).unwrap();
     let rust = oracle::read(&question(&signs, 100_000));
@@ -35,15 +29,15 @@ pub fn tell() -> Told {
     merger()
 }
 
-/// Shows both readings. With `but_for_empty` they must be the same once empty ERROR nodes are taken out.
-fn readings(title: &str, question: &Question, but_for_empty: bool) -> Told {
+/// Shows both readings. They must be the same once empty ERROR nodes are taken out.
+fn readings(title: &str, question: &Question) -> Told {
     let ours = reading_of(&Model, question).unwrap();
     let rust = oracle::read(question);
     let source = question.source.escape_ascii();
     println!("{title}\n  source `{source}`, fuel {}", question.fuel);
     println!("ours:\n{}the Rust's:\n{}", listing(&ours, &ours.raw), listing(&rust, &rust.raw));
     differs(ours != rust)?;
-    if but_for_empty && stripped(&ours) != rust {
+    if stripped(&ours) != rust {
         return Err("more than empty ERROR nodes".to_string());
     }
     Ok(())

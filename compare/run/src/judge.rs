@@ -2,17 +2,16 @@
 
 use common::listing::listing;
 use common::{events_of, reading_of, strip_empty_errors, Question, Reading, Reply, Side};
-use generate::text::parts_the_rules;
-use model::Model;
+use model::{utf8, Model};
 use std::panic::{catch_unwind, AssertUnwindSafe};
+use std::str::from_utf8;
 
 /// What is worth counting about a case on which all sides agree.
 pub struct Seen {
     pub refusal: u32,
     pub outcome: u32,
     pub forms: Vec<u32>,
-    /// Whether the Rust was asked; it is not where the two judge UTF-8 differently.
-    pub compared: bool,
+    /// Whether a row has a text that only one side takes for UTF-8.
     pub outside_utf8: bool,
     pub accepted: bool,
     pub has_empty_errors: bool,
@@ -27,11 +26,8 @@ pub fn judge(question: &Question, library: Option<&dyn Side>) -> Result<Seen, St
         Err(refusal) => return Ok(refused(refusal)),
         Ok(reading) => reading,
     };
-    let outside_utf8 = !same_utf8(question);
     let stripped = stripped(&ours);
-    if !outside_utf8 {
-        same_as_rust(question, &stripped)?;
-    }
+    same_as_rust(question, &stripped)?;
     let accepted = model::peg::accepts(&question.ids);
     if ours.outcome == 0 && accepted != ours.records.is_empty() {
         return Err(format!("the PEG accepts: {accepted}; error records: {}", ours.records.len()));
@@ -40,23 +36,14 @@ pub fn judge(question: &Question, library: Option<&dyn Side>) -> Result<Seen, St
         refusal: 0,
         outcome: ours.outcome,
         forms: ours.records.iter().map(|r| r.form).collect(),
-        compared: !outside_utf8,
-        outside_utf8,
+        outside_utf8: !same_utf8(question),
         accepted,
         has_empty_errors: stripped.raw.len() != ours.raw.len(),
     })
 }
 
 fn refused(refusal: u32) -> Seen {
-    Seen {
-        refusal,
-        outcome: 0,
-        forms: vec![],
-        compared: false,
-        outside_utf8: false,
-        accepted: false,
-        has_empty_errors: false,
-    }
+    Seen { refusal, outcome: 0, forms: vec![], outside_utf8: false, accepted: false, has_empty_errors: false }
 }
 
 /// The Rust is never too deep. But too deep acts as out of fuel does, so with one begin step less than
@@ -73,9 +60,11 @@ fn same_as_rust(question: &Question, ours: &Reading) -> Result<(), String> {
     same_readings(&wanted, &rust)
 }
 
-/// The domain takes only rows that the Rust and module 2 judge alike.
+/// Document 01's domain leaves out rows that the Rust and module 2 judge differently. With the Standard's
+/// table there are none: every case is put to the Rust, and a run that finds such a row fails.
 fn same_utf8(question: &Question) -> bool {
-    !question.rows().unwrap().iter().any(|(_, text)| parts_the_rules(text))
+    let same = |text: &[u8]| utf8::is_text(text) == from_utf8(text).is_ok();
+    question.rows().unwrap().iter().all(|(_, text)| same(text))
 }
 
 /// The reading without empty ERROR nodes, as the Rust writes it.

@@ -17,7 +17,7 @@ use std::collections::HashSet;
 use std::hash::{DefaultHasher, Hash, Hasher};
 use std::path::Path;
 use std::{env, panic, process, thread};
-use tally::{report, Tally};
+use tally::{all_same_utf8, report, Tally};
 
 const USAGE: &str = "run cases FOLDER | run compare COUNT [SEED [SORT]] | run merge COUNT [SEED] | \
     run cut COUNT SEED [SORT] | run modes [COUNT SEED] | run differences | run show SORT SEED NUMBER | \
@@ -82,6 +82,7 @@ fn stored_and_small(folder: &Path) -> Result<(), String> {
         cases::small(side).map_err(|e| format!("{name}: {e}"))?;
         println!("{name}: {count} stored cases, P1 to P9 and the sizes agree");
     }
+    println!("model: the UTF-8 test agrees with the Rust's on {} sequences", cases::texts()?);
     Ok(())
 }
 
@@ -103,7 +104,7 @@ fn compare(count: u64, seed: u64, only: Option<Sort>) -> Result<(), String> {
         distinct.insert(hash(&question));
     }
     print!("{}", report(&tallies, distinct.len()));
-    Ok(())
+    all_same_utf8(&tallies)
 }
 
 /// The sorts that are wanted, by their place in `SORTS`, each as often as a round has it.

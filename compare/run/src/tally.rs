@@ -24,7 +24,7 @@ const HEAD: &str = "sort           cases  with Rust  no fuel  too deep  refused 
 impl Tally {
     pub fn add(&mut self, seen: &Seen) {
         self.cases += 1;
-        self.compared += usize::from(seen.compared);
+        self.compared += usize::from(seen.refusal == 0);
         self.out_of_fuel += usize::from(seen.outcome == 1);
         self.too_deep += usize::from(seen.outcome == 2);
         self.refused[seen.refusal as usize] += 1;
@@ -54,6 +54,14 @@ impl Tally {
             &self.forms[1..],
             &self.refused[1..]
         )
+    }
+}
+
+/// Every row has to be judged alike by both sides' UTF-8 tests, also one whose text no error shows.
+pub fn all_same_utf8(tallies: &[Tally]) -> std::result::Result<(), String> {
+    match tallies.iter().map(|t| t.outside_utf8).sum() {
+        0 => Ok(()),
+        parted => Err(format!("{parted} cases with a text that only one side takes for UTF-8")),
     }
 }
 

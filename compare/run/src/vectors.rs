@@ -106,9 +106,9 @@ fn question(sort: Sort, seed: u64, made: u64, has_texts: bool) -> Question {
     Question { event_room: ROOM, error_room: ROOM, ..Question::new(&rows, question.fuel) }
 }
 
-/// The domain: not refused, not too deep, and rows that both sides take for UTF-8.
+/// The domain: not refused and not too deep.
 fn is_within(seen: &Seen) -> bool {
-    seen.refusal == 0 && seen.outcome < 2 && seen.compared
+    seen.refusal == 0 && seen.outcome < 2
 }
 
 /// Fuel, counts of bytes and rows; outcome, rows covered, fuel left, counts of events and records; then the

@@ -54,6 +54,10 @@ module _ {lo hi b : ℕ} (from : lo ≤ b) (to : b < hi) where
       let q = both (clear lo hi (suc (c .0 .1))) (steady lo hi cs) (p .1) in
       rw (low (c .0 .0) (p .0), high (c .0 .1) (q .0), alike cs (q .1))
 
+-- a byte that is not k, and not below it, is above it
+pub past : {k b : ℕ} → k ≤ b → (b ≡ k → ⊥) → k < b
+past h n = omega arith
+
 pub all-followers : (n : ℕ) → led follower n ≡ followers n
 all-followers zero = refl
 all-followers (suc n) = refl

@@ -1,4 +1,5 @@
--- UTF-8 (document 01, module 2): "bytes 00..7F alone; C2..DF and one follower; E0..EF and two; F0..F4 and three; a follower is 80..BF."
+-- UTF-8: the Unicode Standard's table of well-formed byte sequences, as request (iii) takes it: document 01's rule (module 2) with "after E0 the next byte is
+-- A0..BF, after ED 80..9F, after F0 90..BF, after F4 80..8F".
 use Prim.Native.Nat.{ℕ}
 use mathlib.Core.List.{List, [], _∷_}
 use mathlib.Core.Bool.{Bool, true, false, cond, _&&_}
@@ -24,8 +25,13 @@ abbrev pub characters : List (Range × List Range)
 characters =
     ((0x00, 0x7F), followers 0)
     ∷ ((0xC2, 0xDF), followers 1)
-    ∷ ((0xE0, 0xEF), followers 2)
-    ∷ ((0xF0, 0xF4), followers 3)
+    ∷ ((0xE0, 0xE0), (0xA0, 0xBF) ∷ followers 1)
+    ∷ ((0xE1, 0xEC), followers 2)
+    ∷ ((0xED, 0xED), (0x80, 0x9F) ∷ followers 1)
+    ∷ ((0xEE, 0xEF), followers 2)
+    ∷ ((0xF0, 0xF0), (0x90, 0xBF) ∷ followers 2)
+    ∷ ((0xF1, 0xF3), followers 3)
+    ∷ ((0xF4, 0xF4), (0x80, 0x8F) ∷ followers 2)
     ∷ []
 
 -- what is due after a byte that begins a character; none where it begins none

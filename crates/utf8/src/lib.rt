@@ -1,7 +1,7 @@
-// The UTF-8 test of document 01, module 2.
+// The UTF-8 test of document 01, module 2, by the Unicode Standard's table (request (iii)).
 ghost use mathlib.Core.Path.{_≡_};
 ghost use Rattle.utf8.specs.Utf8.{followers, characters, begun, next, utf8};
-ghost use Rattle.utf8.specs.Due.{ranges, owed};
+ghost use Rattle.utf8.specs.Due.{led, ranges, owed};
 
 // The followers that are due: how many, and the range of the first of them. The others are 80..BF.
 struct Due {
@@ -16,14 +16,21 @@ enum Step {
     Stray,
 }
 
-fn followers(count: u8) -> Due
-    ensures { λ r. ⌜ ranges r ≡ followers count ⌝ }
+// The first of the followers has a range of its own.
+fn led(least: u8, greatest: u8, count: u8) -> Due
+    ensures { λ r. ⌜ ranges r ≡ led (least, greatest) count ⌝ }
 {
     Due {
         count,
-        least: 0x80,
-        greatest: 0xBF,
+        least,
+        greatest,
     }
+}
+
+fn followers(count: u8) -> Due
+    ensures { λ r. ⌜ ranges r ≡ followers count ⌝ }
+{
+    led(0x80, 0xBF, count)
 }
 
 // The characters: what each first byte is followed by.
@@ -33,8 +40,13 @@ fn begun(b: u8) -> Step
     match b {
         0x00..=0x7F => Step::Owed(followers(0)),
         0xC2..=0xDF => Step::Owed(followers(1)),
-        0xE0..=0xEF => Step::Owed(followers(2)),
-        0xF0..=0xF4 => Step::Owed(followers(3)),
+        0xE0 => Step::Owed(led(0xA0, 0xBF, 2)),
+        0xE1..=0xEC => Step::Owed(followers(2)),
+        0xED => Step::Owed(led(0x80, 0x9F, 2)),
+        0xEE..=0xEF => Step::Owed(followers(2)),
+        0xF0 => Step::Owed(led(0x90, 0xBF, 3)),
+        0xF1..=0xF3 => Step::Owed(followers(3)),
+        0xF4 => Step::Owed(led(0x80, 0x8F, 3)),
         _ => Step::Stray,
     }
 }
