@@ -1,5 +1,5 @@
 #!/usr/bin/env python3
-"""Writes crates/peg/specs/Cases.antt from a folder of cases: cases.py FOLDER [--check].
+"""Writes crates/definition/specs/Cases.antt from a folder of cases: cases.py FOLDER [--check].
 
 A case is NAME.yar (the source), NAME.rows (its rows, and the fuel) and NAME.raw (the listing, not merged, of a copy of the Rust that
 keeps empty ERROR nodes). With --check nothing is written; the tool only says whether the file is what the folder gives.
@@ -7,7 +7,7 @@ keeps empty ERROR nodes). With --check nothing is written; the tool only says wh
 import sys
 from pathlib import Path
 
-OUT = Path(__file__).resolve().parent.parent / "crates" / "peg" / "specs" / "Cases.antt"
+OUT = Path(__file__).resolve().parent.parent / "crates" / "definition" / "specs" / "Cases.antt"
 SORTS = {"B": 1, "T": 2, "E": 3}
 HEAD = """-- Answers to a dozen files, events and error records whole, of a copy of the Rust that keeps empty ERROR nodes (decision 1). But for these nodes they are
 -- the Rust's own, which is run (compare/, `run cases`). tools/cases.py writes this file from the listings in compare/cases.
@@ -15,9 +15,9 @@ use Prim.Native.Nat.{ℕ}
 use mathlib.Core.List.{List, [], _∷_}
 use mathlib.Core.Bool.{Bool, true, _&&_}
 use Rattle.kinds.specs.Kinds as k
-use Rattle.peg.specs.Run.{base}
-use Rattle.peg.specs.Answer.{After, after, filled}
-use Rattle.peg.specs.Table.{same, Case, desk, agrees}
+use Rattle.definition.specs.Run.{base}
+use Rattle.definition.specs.Answer.{After, after, filled}
+use Rattle.definition.specs.Table.{same, Case, desk, agrees}
 
 -- a case, and its events
 abbrev pub Outside : Type 0

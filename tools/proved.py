@@ -2,8 +2,8 @@
 """proved.py: every name in backquotes that docs/PROVED.md gives for a sentence is declared in a file that the same row names.
 
 A table's first column is the sentence; names are looked up in the others. The files of a name are those that its row and its column's heading name, else
-those that the section names before the table: proofs/X and specs/X are crate peg's where no crate stands before them, and a crate alone stands for all its files. `P.x` is the
-x of crate peg's specs/Run. A column of law files names files of the folder in its heading.
+those that the section names before the table: proofs/X and specs/X are crate definition's or crate theorems' where no crate stands before them, and a
+crate alone stands for all its files. `P.x` is the x of crate definition's specs/Run. A column of law files names files of the folder in its heading.
 """
 import re
 import sys
@@ -20,8 +20,9 @@ def files(text):
     found = []
     for crate, part in PATH.findall(text):
         if part:
-            stem = ROOT / "crates" / (crate or "peg") / part
-            found += [p for p in (stem, stem.with_name(stem.name + ".antt"), stem.with_name(stem.name + ".rt")) if p.is_file()] or [stem]
+            stems = [ROOT / "crates" / c / part for c in ([crate] if crate else ["definition", "theorems"])]
+            named = [s.with_name(s.name + ending) for s in stems for ending in ("", ".antt", ".rt")]
+            found += [p for p in named if p.is_file()] or stems[:1]
         elif crate:
             folder = ROOT / "crates" / crate
             found += sorted(folder.rglob("*.antt")) + sorted(folder.rglob("*.rt"))

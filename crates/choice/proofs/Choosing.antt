@@ -11,10 +11,10 @@ use lib.Dec.{T, ltb, leb, eqb}
 use lib.ListN.{length, getD, take, drop, set, length-append}
 use lib.Seq.{paste, take-paste, length-paste, length-take-le, take-add, drop-at}
 use Rattle.kinds.specs.Kinds as k
-use Rattle.peg.specs.Run as P
-use Rattle.peg.specs.Run.{Event, Choice, wanted, unwanted}
-use Rattle.peg.specs.Buffer.{four}
-use Rattle.peg.specs.Render.{Source, Rec, starts-at, ends-at, id-at, text-at, record-of, records, flat-records, form-of, names-of, said, held, used}
+use Rattle.definition.specs.Run as P
+use Rattle.definition.specs.Run.{Event, Choice, wanted, unwanted}
+use Rattle.definition.specs.Buffer.{four}
+use Rattle.definition.specs.Render.{Source, Rec, starts-at, ends-at, id-at, text-at, record-of, records, flat-records, form-of, names-of, said, held, used}
 use Rattle.notes.specs.Whole.{Whole, beside, resting}
 use Rattle.notes.specs.Bits.{ifb}
 use Rattle.notes.specs.Change.{withEr, withFull, withWants}

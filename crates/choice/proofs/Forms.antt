@@ -8,8 +8,8 @@ use borrow.Author.Tests.{lt-ltb, le-ltb, eq-eqb, ne-eqb}
 use lib.ListN.{length, getD}
 use Rattle.kinds.specs.Kinds as k
 use Rattle.utf8.specs.Utf8.{utf8}
-use Rattle.peg.specs.Run.{wanted, unwanted}
-use Rattle.peg.specs.Render.{form-found, form-slash, form-unknown, form-wanted, form-unwanted, form-of, names-of}
+use Rattle.definition.specs.Run.{wanted, unwanted}
+use Rattle.definition.specs.Render.{form-found, form-slash, form-unknown, form-wanted, form-unwanted, form-of, names-of}
 use Rattle.notes.specs.Means.{limits}
 use Rattle.choice.specs.Choice.{choiceOf}
 

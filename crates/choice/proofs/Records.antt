@@ -7,7 +7,7 @@ use native.Mathlib.Nat.{add-zero, add-suc}
 use native.Mathlib.Decide.{decLt}
 use lib.ListN.{length, getD, List·getD-eq-default}
 use Rattle.kinds.specs.Kinds as k
-use Rattle.peg.specs.Render.{Source, starts-at, ends-at, id-at}
+use Rattle.definition.specs.Render.{Source, starts-at, ends-at, id-at}
 use Rattle.notes.specs.Means.{Rows}
 use Rattle.notes.proofs.Lists.{getD-any}
 

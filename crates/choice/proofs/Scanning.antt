@@ -10,9 +10,9 @@ use borrow.Author.Tests.{ne-eqb, eq-eqb, eqb-true, eqb-false}
 use lib.Dec.{eqb}
 use lib.ListN.{length, getD, drop, length-drop}
 use lib.Seq.{drop-append-seam, getD-drop, drop-drop}
-use Rattle.peg.specs.Run as P
-use Rattle.peg.specs.Run.{Choice}
-use Rattle.peg.specs.Render.{Source, starts-at, ends-at, record-of, flat-records}
+use Rattle.definition.specs.Run as P
+use Rattle.definition.specs.Run.{Choice}
+use Rattle.definition.specs.Render.{Source, starts-at, ends-at, record-of, flat-records}
 use Rattle.notes.specs.Means.{limits, recorded, Rows, Apart}
 use Rattle.choice.specs.Choice.{scan}
 use Rattle.choice.proofs.Records.{own}

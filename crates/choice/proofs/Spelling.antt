@@ -17,7 +17,7 @@ use Rattle.kinds.specs.declared.answer.Name.{Name}
 use Rattle.kinds.specs.declared.answer.Name.the-variants as n
 use Rattle.kinds.proofs.Tables.{both, both-left, both-right, all, all-sound}
 use Rattle.kinds.proofs.Order.{set-none}
-use Rattle.peg.specs.Run as P
+use Rattle.definition.specs.Run as P
 use Rattle.notes.specs.Bits.{ifb}
 use Rattle.notes.specs.Means.{namesOf, spelledOn, spelled}
 use Rattle.notes.specs.Did.{Below, Coded}

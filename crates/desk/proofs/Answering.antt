@@ -10,9 +10,9 @@ use borrow.Author.Tests.{lt-ltb, le-ltb}
 use lib.Dec.{ltb}
 use lib.ListN.{length, getD, take, replicate}
 use lib.Seq.{length-take-le}
-use Rattle.peg.specs.Run as P
-use Rattle.peg.specs.Render.{Source, Reading, rendered, used, moments, exceeds, over, flat, flat-records}
-use Rattle.peg.specs.Answer.{Desk, After, Answer, refused, given, first-of, grounds, refusal, exceeded, answer, as-lent, refusing, blank, left-by, after, source-of}
+use Rattle.definition.specs.Run as P
+use Rattle.definition.specs.Render.{Source, Reading, rendered, used, moments, exceeds, over, flat, flat-records}
+use Rattle.definition.specs.Answer.{Desk, After, Answer, refused, given, first-of, grounds, refusal, exceeded, answer, as-lent, refusing, blank, left-by, after, source-of}
 use Rattle.notes.specs.Means.{limits}
 use Rattle.notes.proofs.Rooms.{exceeds-events}
 use Rattle.notes.proofs.Rooms as rooms

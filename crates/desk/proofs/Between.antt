@@ -10,13 +10,13 @@ use borrow.Author.Tests.{eq-eqb, ne-eqb, eqb-true, leb-true, leb-false}
 use lib.Dec.{T, eqb, leb}
 use lib.ListN.{length, getD, drop, drop-of-length-le, length-append, length-drop}
 use lib.Seq.{drop-cons}
-use Rattle.peg.specs.Run as P
-use Rattle.peg.specs.Run.{Mode, ok, failed, stopped}
-use Rattle.peg.specs.Render.{Source, records}
-use Rattle.peg.proofs.Order.{Running}
-use Rattle.peg.proofs.File.{items-end, items-step}
-use Rattle.peg.proofs.Takes.{item-takes}
-use Rattle.peg.proofs.Suffix.{chain}
+use Rattle.definition.specs.Run as P
+use Rattle.definition.specs.Run.{Mode, ok, failed, stopped}
+use Rattle.definition.specs.Render.{Source, records}
+use Rattle.definition.proofs.Order.{Running}
+use Rattle.definition.proofs.File.{items-end, items-step}
+use Rattle.definition.proofs.Takes.{item-takes}
+use Rattle.definition.proofs.Suffix.{chain}
 use Rattle.notes.specs.Whole.{Whole}
 use Rattle.notes.specs.Bits.{ifb, bitAt, Forgot, Cached}
 use Rattle.notes.specs.Means.{limits, Bufs, bufs, Past, Means, Stands, Rows, modeOf, recorded, overOf}

@@ -8,18 +8,18 @@ use native.Mathlib.Omega.{arith}
 use lib.Dec.{leb}
 use lib.ListN.{length, take, replicate, length-append}
 use Rattle.kinds.specs.Kinds as kinds
-use Rattle.peg.specs.Prog.{RULE-DECL}
-use Rattle.peg.specs.Ford.{Res, Ford, rules, star, nt, strip, Accepts}
-use Rattle.peg.specs.Run as P
-use Rattle.peg.specs.Run.{Limits}
-use Rattle.peg.specs.Render.{Reading, inside, flat, flat-records}
-use Rattle.peg.specs.Answer.{Desk, After, Answer, given, refusal, exceeded, answer, source-of, words, refusing, blank, filled, left-by, after}
-use Rattle.peg.specs.Remaining.{Running, standing, remaining, Continued}
-use Rattle.peg.proofs.Answered.{number-of, given-is, answered}
-use Rattle.peg.specs.Merge.{quads, marks, finished, merged, merger}
-use Rattle.peg.specs.Merge as M
-use Rattle.peg.proofs.Joined.{Orderly, flat-length, never-9-or-10, read-in-order}
-use Rattle.peg.proofs.Demands as peg
+use Rattle.definition.specs.Prog.{RULE-DECL}
+use Rattle.definition.specs.Ford.{Res, Ford, rules, star, nt, strip, Accepts}
+use Rattle.definition.specs.Run as P
+use Rattle.definition.specs.Run.{Limits}
+use Rattle.definition.specs.Render.{Reading, inside, flat, flat-records}
+use Rattle.definition.specs.Answer.{Desk, After, Answer, given, refusal, exceeded, answer, source-of, words, refusing, blank, filled, left-by, after}
+use Rattle.definition.specs.Remaining.{Running, standing, remaining, Continued}
+use Rattle.theorems.proofs.Answered.{number-of, given-is, answered}
+use Rattle.definition.specs.Merge.{quads, marks, finished, merged, merger}
+use Rattle.definition.specs.Merge as M
+use Rattle.theorems.proofs.Joined.{Orderly, flat-length, never-9-or-10, read-in-order}
+use Rattle.theorems.proofs.Demands as theorems
 use Rattle.notes.specs.Means.{limits}
 use Rattle.desk.specs.declared.read.Reading as D
 use Rattle.desk.specs.declared.read.Reading.the-variants.{Refused, Answered}
@@ -71,16 +71,16 @@ number (Refused n) = n
 number (Answered o c e k f) = 0
 
 pub read-number : (d : Desk) (r : D.Reading) (ev er sc : List ℕ) → Promised d r ev er sc → number r ≡ number-of limits d
-read-number d (Refused n) ev er sc p = ap (λ (a : After). a .number) p ∙ peg.demand-1-number limits d
-read-number d (Answered o c e k f) ev er sc p = ap (λ (a : After). a .number) p ∙ peg.demand-1-number limits d
+read-number d (Refused n) ev er sc p = ap (λ (a : After). a .number) p ∙ theorems.demand-1-number limits d
+read-number d (Answered o c e k f) ev er sc p = ap (λ (a : After). a .number) p ∙ theorems.demand-1-number limits d
 
 -- "with results and buffers as it says"
 pub read-lent : (d : Desk) (r : D.Reading) (n : ℕ) (ev er sc : List ℕ) → refusal d ≡ suc n → Promised d r ev er sc → afterOf r ev er sc ≡ refusing (suc n) (d .events) (d .errors) (d .scratch)
-read-lent d r n ev er sc h p = p ∙ peg.demand-1-lent limits d n h
+read-lent d r n ev er sc h p = p ∙ theorems.demand-1-lent limits d n h
 
 pub read-blank : (d : Desk) (r : D.Reading) (n : ℕ) (ev er sc : List ℕ) → refusal d ≡ 0 → exceeded limits d (P.read limits (d .ids) (d .fuel)) ≡ suc n → Promised d r ev er sc →
     afterOf r ev er sc ≡ refusing (suc n) (blank (d .events)) (blank (d .errors)) (blank (d .scratch))
-read-blank d r n ev er sc h i p = p ∙ peg.demand-1-blank limits d n h i
+read-blank d r n ev er sc h i p = p ∙ theorems.demand-1-blank limits d n h i
 
 take-whole : (a b : List ℕ) → take (length a) (a ++ b) ≡ a
 take-whole [] b = refl
@@ -123,14 +123,14 @@ module _ (d : Desk) {o c e k f : ℕ} {ev er sc : List ℕ} (p : Promised d (Ans
   -- DEMAND 2: "If the reader was not stopped, the error list is empty exactly when the PEG accepts every item."
   pub read-accepts : o ≡ 0 → (k ≡ 0) ↔ Accepts (d .ids)
   read-accepts z =
-      let i = peg.demand-2 limits d zero-number (sym (ap (λ (a : After). a .outcome) p) ∙ z) in
+      let i = theorems.demand-2 limits d zero-number (sym (ap (λ (a : After). a .outcome) p) ∙ z) in
       let q : k ≡ (after limits d) .error-count = ap (λ (a : After). a .error-count) p in
       ((λ h. i .0 (sym q ∙ h)), λ h. q ∙ i .1 h)
 
   -- and as one parsing expression of Ford's
   pub read-accepts-ford : o ≡ 0 → (k ≡ 0) ↔ ((n : ℕ) × Ford rules (star (nt RULE-DECL)) (strip (d .ids)) n (Res.yes []))
   read-accepts-ford z =
-      let i = peg.demand-2-ford limits d zero-number (sym (ap (λ (a : After). a .outcome) p) ∙ z) in
+      let i = theorems.demand-2-ford limits d zero-number (sym (ap (λ (a : After). a .outcome) p) ∙ z) in
       let q : k ≡ (after limits d) .error-count = ap (λ (a : After). a .error-count) p in
       ((λ h. i .0 (sym q ∙ h)), λ h. q ∙ i .1 h)
 
@@ -139,11 +139,11 @@ module _ (d : Desk) {o c e k f : ℕ} {ev er sc : List ℕ} (p : Promised d (Ans
   pub read-continues : (n : ℕ) (scratch events errors : List ℕ) → let s : P.State = standing limits d n in let d′ : Desk = remaining d s scratch events errors in
       Running (s .mode) → words (length (d′ .ids)) ≤ length scratch → length (d .events) ≤ length events → length (d .errors) ≤ length errors →
       (R′ : Reading) × (answer limits d′ ≡ given R′) × Continued limits d s (read-given .0) R′
-  read-continues n scratch events errors = peg.demand-3 limits d n scratch events errors (read-given .0) (read-given .1)
+  read-continues n scratch events errors = theorems.demand-3 limits d n scratch events errors (read-given .0) (read-given .1)
 
   -- "fuel left is fuel given less the definition's `begin` steps, or 0 if they are more"
   pub read-fuel : f ≡ d .fuel - P.begin-steps limits (d .ids) (d .fuel)
-  read-fuel = ap (λ (a : After). a .left) left ∙ peg.fuel-left-is limits d (read-given .0) (read-given .1)
+  read-fuel = ap (λ (a : After). a .left) left ∙ theorems.fuel-left-is limits d (read-given .0) (read-given .1)
 
 refuelled : After → ℕ → After
 refuelled a f = record { number = a .number; outcome = a .outcome; covered = a .covered; event-count = a .event-count; error-count = a .error-count; left = f; events = a .events; errors = a .errors; scratch = a .scratch }
@@ -168,29 +168,29 @@ module _ (L : Limits) (d : Desk) {c e k f : ℕ} {ev er sc : List ℕ} (p : Left
   spent = d .fuel - f
 
   steps-are : P.begin-steps L (d .ids) (d .fuel) ≡ spent
-  steps-are = omega (arith, peg.fuel-used L d (was-given .0) (was-given .1) done, ap (λ (a : After). a .left) same-after)
+  steps-are = omega (arith, theorems.fuel-used L d (was-given .0) (was-given .1) done, ap (λ (a : After). a .left) same-after)
 
   pub fuel-kept : f ≤ d .fuel
-  fuel-kept = omega (arith, peg.fuel-used L d (was-given .0) (was-given .1) done, ap (λ (a : After). a .left) same-after)
+  fuel-kept = omega (arith, theorems.fuel-used L d (was-given .0) (was-given .1) done, ap (λ (a : After). a .left) same-after)
 
   -- on any fuel that is not less than was spent: the same result but for the fuel left, and the same buffers; it is never refused
   pub read-enough-fuel : (g : ℕ) (r′ : D.Reading) (ev′ er′ sc′ : List ℕ)
       → spent ≤ g
-      → Left L (peg.fuelled d g) r′ ev′ er′ sc′
+      → Left L (theorems.fuelled d g) r′ ev′ er′ sc′
       → (r′ ≡ Answered 0 c e k (g - spent)) × (ev′ ≡ ev) × (er′ ≡ er) × (sc′ ≡ sc)
   unfolding refuelled
   read-enough-fuel g r′ ev′ er′ sc′ l q =
       let n : P.begin-steps L (d .ids) (d .fuel) ≤ g = omega (arith, l, steps-are) in
-      let w = ap (left-by (peg.fuelled d g)) (peg.more-fuel-same L d (was-given .0) (was-given .1) done g n) in
-      let z : afterOf (Answered 0 c e k (g - spent)) ev er sc ≡ after L (peg.fuelled d g) =
+      let w = ap (left-by (theorems.fuelled d g)) (theorems.more-fuel-same L d (was-given .0) (was-given .1) done g n) in
+      let z : afterOf (Answered 0 c e k (g - spent)) ev er sc ≡ after L (theorems.fuelled d g) =
       ap (λ (a : After). refuelled a (g - spent)) same-after ∙ ap (λ (i : ℕ). refuelled (left-by d (given (was-given .0))) (g - i)) (sym steps-are) ∙ sym w in
-      one-outcome L (peg.fuelled d g) r′ (Answered 0 c e k (g - spent)) ev′ er′ sc′ ev er sc q z
+      one-outcome L (theorems.fuelled d g) r′ (Answered 0 c e k (g - spent)) ev′ er′ sc′ ev er sc q z
 
   -- "if a file ends with outcome 0 on fuel f, then on any larger fuel its events and error records are the same and the fuel left is larger by just the
   -- difference"
   pub read-more-fuel : (g : ℕ) (r′ : D.Reading) (ev′ er′ sc′ : List ℕ)
       → d .fuel ≤ g
-      → Left L (peg.fuelled d g) r′ ev′ er′ sc′
+      → Left L (theorems.fuelled d g) r′ ev′ er′ sc′
       → (r′ ≡ Answered 0 c e k (f + (g - d .fuel))) × (ev′ ≡ ev) × (er′ ≡ er) × (sc′ ≡ sc)
   read-more-fuel g r′ ev′ er′ sc′ l q =
       let z = read-enough-fuel g r′ ev′ er′ sc′ (omega (arith, l)) q in
@@ -200,36 +200,36 @@ module _ (L : Limits) (d : Desk) {c e k f : ℕ} {ev er sc : List ℕ} (p : Left
   -- "fuel too small by any amount ends with outcome 1 and never 0", in any rooms in which it is answered
   pub read-less-fuel : (g : ℕ) (lsc lev ler : List ℕ) {o′ c′ e′ k′ f′ : ℕ} {ev′ er′ sc′ : List ℕ}
       → g < spent
-      → Left L (peg.relent d g lsc lev ler) (Answered o′ c′ e′ k′ f′) ev′ er′ sc′
+      → Left L (theorems.relent d g lsc lev ler) (Answered o′ c′ e′ k′ f′) ev′ er′ sc′
       → o′ ≡ 1
   read-less-fuel g lsc lev ler l q =
-      let d′ : Desk = peg.relent d g lsc lev ler in
+      let d′ : Desk = theorems.relent d g lsc lev ler in
       let z = answered L d′ (sym (ap (λ (a : After). a .number) q)) in
       ap (λ (a : After). a .outcome) (q ∙ ap (left-by d′) (z .1))
-      ∙ peg.less-fuel-stops L d (was-given .0) (was-given .1) done g lsc lev ler (omega (arith, l, steps-are)) (z .0) (z .1)
+      ∙ theorems.less-fuel-stops L d (was-given .0) (was-given .1) done g lsc lev ler (omega (arith, l, steps-are)) (z .0) (z .1)
 
   -- "the fuel a file uses when it finishes is the least that finishes it"
   pub read-least-fuel : (g : ℕ) (lsc lev ler : List ℕ) {c′ e′ k′ f′ : ℕ} {ev′ er′ sc′ : List ℕ}
-      → Left L (peg.relent d g lsc lev ler) (Answered 0 c′ e′ k′ f′) ev′ er′ sc′
+      → Left L (theorems.relent d g lsc lev ler) (Answered 0 c′ e′ k′ f′) ev′ er′ sc′
       → spent ≤ g
   read-least-fuel g lsc lev ler q =
-      let d′ : Desk = peg.relent d g lsc lev ler in
+      let d′ : Desk = theorems.relent d g lsc lev ler in
       let z = answered L d′ (sym (ap (λ (a : After). a .number) q)) in
-      let i = peg.least-fuel L d (was-given .0) (was-given .1) done g lsc lev ler (z .0) (z .1) (sym (ap (λ (a : After). a .outcome) (q ∙ ap (left-by d′) (z .1)))) in
+      let i = theorems.least-fuel L d (was-given .0) (was-given .1) done g lsc lev ler (z .0) (z .1) (sym (ap (λ (a : After). a .outcome) (q ∙ ap (left-by d′) (z .1)))) in
       omega (arith, i, steps-are)
 
   -- the lists of two finished readings in other rooms: the same numbers, each list with zeros behind it
   pub read-same-lists : (g : ℕ) (lsc lev ler : List ℕ) {o′ c′ e′ k′ f′ : ℕ} {ev′ er′ sc′ : List ℕ}
       → spent ≤ g
-      → Left L (peg.relent d g lsc lev ler) (Answered o′ c′ e′ k′ f′) ev′ er′ sc′
+      → Left L (theorems.relent d g lsc lev ler) (Answered o′ c′ e′ k′ f′) ev′ er′ sc′
       → (Answered o′ c′ e′ k′ f′ ≡ Answered 0 c e k (g - spent))
       × ((events errors : List ℕ) × (ev ≡ filled events (d .events)) × (ev′ ≡ filled events lev) × (er ≡ filled errors (d .errors)) × (er′ ≡ filled errors ler))
   unfolding answered-of with-left
   read-same-lists g lsc lev ler {o′} {c′} {e′} {k′} {f′} {ev′} {er′} {sc′} l q =
-      let d′ : Desk = peg.relent d g lsc lev ler in
+      let d′ : Desk = theorems.relent d g lsc lev ler in
       let z = answered L d′ (sym (ap (λ (a : After). a .number) q)) in
       let R : Reading = was-given .0 in
-      let i = peg.more-fuel-lists L d R (was-given .1) done g lsc lev ler (omega (arith, l, steps-are)) (z .0) (z .1) in
+      let i = theorems.more-fuel-lists L d R (was-given .1) done g lsc lev ler (omega (arith, l, steps-are)) (z .0) (z .1) in
       let w = q ∙ ap (left-by d′) (z .1 ∙ ap given i) in
       let y : Answered o′ c′ e′ k′ f′ ≡ Answered (R .outcome) (R .covered) (length (R .events)) (length (R .errors)) (g - P.begin-steps L (d .ids) (d .fuel)) = ap (answered-of 0) w in
       let x : Answered 0 c e k f ≡ Answered (R .outcome) (R .covered) (length (R .events)) (length (R .errors)) (R .left) = ap (answered-of 0) same-after in (

@@ -12,11 +12,11 @@ use lib.Dec.{eqb, ltb}
 use lib.ListN.{length, getD, take, drop, set, replicate, length-append, length-drop}
 use lib.Seq.{take-append-add, take-append-le, length-take-le}
 use Rattle.kinds.specs.Kinds as k
-use Rattle.peg.specs.Run as P
-use Rattle.peg.specs.Run.{Mode, ok, failed, stopped}
-use Rattle.peg.specs.Buffer.{four, buffer}
-use Rattle.peg.specs.Render.{Source, Quad, Rec, inside, rendered, outcome-of, said, held, records, used, moments, exceeds, over, flat, flat-records}
-use Rattle.peg.proofs.Buffer.{buffer-length, buffer-read}
+use Rattle.definition.specs.Run as P
+use Rattle.definition.specs.Run.{Mode, ok, failed, stopped}
+use Rattle.definition.specs.Buffer.{four, buffer}
+use Rattle.definition.specs.Render.{Source, Quad, Rec, inside, rendered, outcome-of, said, held, records, used, moments, exceeds, over, flat, flat-records}
+use Rattle.definition.proofs.Buffer.{buffer-length, buffer-read}
 use Rattle.notes.specs.Whole.{Whole}
 use Rattle.notes.specs.Bits.{ifb, bitAt}
 use Rattle.notes.specs.Change.{withEv, withFull}

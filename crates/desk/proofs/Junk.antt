@@ -7,12 +7,12 @@ use native.Mathlib.Omega.{arith}
 use lib.ListN.{length, getD, take, replicate, length-replicate, length-drop}
 use lib.Seq.{take-take}
 use Rattle.kinds.specs.Kinds as k
-use Rattle.peg.specs.Run as P
-use Rattle.peg.specs.Run.{opened}
-use Rattle.peg.specs.Buffer.{four, buffer}
-use Rattle.peg.specs.Open.{Open}
-use Rattle.peg.specs.Render.{Source, starts-at}
-use Rattle.peg.proofs.Buffer.{buffer-opened, adding}
+use Rattle.definition.specs.Run as P
+use Rattle.definition.specs.Run.{opened}
+use Rattle.definition.specs.Buffer.{four, buffer}
+use Rattle.definition.specs.Open.{Open}
+use Rattle.definition.specs.Render.{Source, starts-at}
+use Rattle.definition.proofs.Buffer.{buffer-opened, adding}
 use Rattle.notes.specs.Whole.{Whole}
 use Rattle.notes.specs.Means.{bufs, Past, Lines, overOf}
 use Rattle.notes.specs.Did.{Ok, Wf, Did, Events, Put, Shuts, shutA}

@@ -5,9 +5,9 @@ use mathlib.Core.List.{List, []}
 use mathlib.Core.Bool.{false}
 use native.Mathlib.Omega.{arith}
 use lib.ListN.{length}
-use Rattle.peg.specs.Run as P
-use Rattle.peg.specs.Render.{Source, used}
-use Rattle.peg.proofs.Buffer.{buffer-none}
+use Rattle.definition.specs.Run as P
+use Rattle.definition.specs.Render.{Source, used}
+use Rattle.definition.proofs.Buffer.{buffer-none}
 use Rattle.notes.specs.Bits.{bitAt}
 use Rattle.notes.specs.Means.{limits, Bufs, bufs, Means, recorded, overOf}
 use Rattle.notes.proofs.Rooms.{exceeds-none}

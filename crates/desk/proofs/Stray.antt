@@ -7,9 +7,9 @@ use native.Mathlib.Omega.{arith}
 use borrow.Author.Tests.{ltb-true, ltb-false}
 use lib.Dec.{ltb}
 use lib.ListN.{length, getD, length-drop}
-use Rattle.peg.specs.Run as P
-use Rattle.peg.specs.Run.{Choice, bad, stray}
-use Rattle.peg.specs.Render.{Source, Rec, flat-records, used, held}
+use Rattle.definition.specs.Run as P
+use Rattle.definition.specs.Run.{Choice, bad, stray}
+use Rattle.definition.specs.Render.{Source, Rec, flat-records, used, held}
 use Rattle.notes.specs.Whole.{Whole}
 use Rattle.notes.specs.Bits.{ifb}
 use Rattle.choice.specs.Choice as C

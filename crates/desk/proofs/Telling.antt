@@ -10,11 +10,11 @@ use borrow.Author.Tests.{ltb-true, ltb-false}
 use lib.Dec.{ltb}
 use lib.ListN.{length, take, drop, length-append}
 use lib.Seq.{length-take-le, take-add, drop-at}
-use Rattle.peg.specs.Run as P
-use Rattle.peg.specs.Run.{Event, opened, leaf, closed, bad, Choice}
-use Rattle.peg.specs.Buffer.{four, buffer}
-use Rattle.peg.specs.Render.{Source, Rec, record-of, records, flat-records, bads, said, used, starts-at, ends-at}
-use Rattle.peg.proofs.Buffer.{buffer-bad, buffer-length}
+use Rattle.definition.specs.Run as P
+use Rattle.definition.specs.Run.{Event, opened, leaf, closed, bad, Choice}
+use Rattle.definition.specs.Buffer.{four, buffer}
+use Rattle.definition.specs.Render.{Source, Rec, record-of, records, flat-records, bads, said, used, starts-at, ends-at}
+use Rattle.definition.proofs.Buffer.{buffer-bad, buffer-length}
 use Rattle.notes.specs.Whole.{Whole}
 use Rattle.notes.specs.Bits.{ifb}
 use Rattle.notes.specs.Means.{limits, bufs, Past, recorded, Chosen, Means, Stands, overOf}

@@ -11,7 +11,7 @@ use borrow.Author.Tests.{le-ltb, lt-ltb, ltb-true}
 use lib.Dec.{ltb}
 use lib.ListN.{length, getD, take, drop, length-append, length-drop}
 use lib.Seq.{take-take, getD-drop, drop-drop, drop-append-seam}
-use Rattle.peg.specs.Buffer.{four}
+use Rattle.definition.specs.Buffer.{four}
 use Rattle.notes.specs.Whole.{Whole}
 use Rattle.notes.specs.Bits.{ifb}
 use Rattle.notes.specs.Change.{withEv, withFull}

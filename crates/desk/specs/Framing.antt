@@ -3,9 +3,9 @@ use Prim.Native.Nat.{ℕ, _+_, _-_, _*_, _/_, _≤_}
 use mathlib.Core.Path.{_≡_}
 use mathlib.Core.List.{List, _++_}
 use lib.ListN.{length, take, replicate}
-use Rattle.peg.specs.Run as P
-use Rattle.peg.specs.Render.{Source, Reading, rendered, outcome-of, moments, over, flat, flat-records}
-use Rattle.peg.specs.Answer.{After, refusing}
+use Rattle.definition.specs.Run as P
+use Rattle.definition.specs.Render.{Source, Reading, rendered, outcome-of, moments, over, flat, flat-records}
+use Rattle.definition.specs.Answer.{After, refusing}
 use Rattle.notes.specs.Means.{limits, modeOf}
 use Rattle.desk.specs.declared.items.Desk.{Desk}
 use Rattle.desk.specs.Items.{Tally}

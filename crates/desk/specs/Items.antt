@@ -6,9 +6,9 @@ use mathlib.Core.Bool.{Bool, true, false}
 use lib.Dec.{eqb, leb, ltb}
 use lib.ListN.{length, take, set, replicate}
 use Rattle.kinds.specs.Kinds as k
-use Rattle.peg.specs.Run as P
-use Rattle.peg.specs.Buffer.{four}
-use Rattle.peg.specs.Render.{Source, Rec, records}
+use Rattle.definition.specs.Run as P
+use Rattle.definition.specs.Buffer.{four}
+use Rattle.definition.specs.Render.{Source, Rec, records}
 use Rattle.notes.specs.Whole.{Whole}
 use Rattle.notes.specs.Bits.{ifb}
 use Rattle.notes.specs.Change.{withEv, withFull}

@@ -13,7 +13,7 @@ use steps::state::State;
 ghost use mathlib.Core.Path.{_≡_};
 ghost use Prim.Native.Nat.{_+_, _*_, _≤_};
 ghost use lib.ListN.{length, replicate};
-ghost use Rattle.peg.specs.Answer.{refusing, after};
+ghost use Rattle.definition.specs.Answer.{refusing, after};
 ghost use Rattle.refusals.specs.Judge.{desk};
 ghost use Rattle.notes.specs.Means.{limits, source, Rows};
 ghost use Rattle.desk.specs.Items as Items;

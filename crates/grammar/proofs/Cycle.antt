@@ -12,11 +12,11 @@ use lib.Dec.{eqb, T}
 use lib.ListN.{length}
 use Rattle.kinds.specs.Kinds as k
 use Rattle.kinds.specs.Sets.{idsOf}
-use Rattle.peg.specs.Prog.{Production, Prog, eat, unless, ifnext, opt, many, then, _⨟_, _/_, last, recover, node, memo, EXPR, TERM}
-use Rattle.peg.specs.Grammar.{grammar, kind}
-use Rattle.peg.specs.Run as P
-use Rattle.peg.specs.Run.{Mode, ok, failed, stopped, Stop, spent, deep}
-use Rattle.peg.specs.Render.{Source}
+use Rattle.definition.specs.Prog.{Production, Prog, eat, unless, ifnext, opt, many, then, _⨟_, _/_, last, recover, node, memo, EXPR, TERM}
+use Rattle.definition.specs.Grammar.{grammar, kind}
+use Rattle.definition.specs.Run as P
+use Rattle.definition.specs.Run.{Mode, ok, failed, stopped, Stop, spent, deep}
+use Rattle.definition.specs.Render.{Source}
 use Rattle.notes.specs.Whole.{Whole}
 use Rattle.notes.specs.Bits.{ifb, bitAt, Kept}
 use Rattle.notes.specs.Change.{withMode, withFar, markOf, gone, undoneTo}

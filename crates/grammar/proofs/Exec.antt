@@ -11,12 +11,12 @@ use native.Mathlib.Decide.{ℕ-discrete}
 use borrow.Author.Tests.{eq-eqb, ne-eqb}
 use lib.Dec.{eqb, T}
 use lib.ListN.{length, take, drop}
-use Rattle.peg.specs.Prog.{Production, Prog, eat, unless, ifnext, opt, many, then, _⨟_, _/_, last, recover, node, memo}
-use Rattle.peg.specs.Grammar.{grammar, kind}
-use Rattle.peg.specs.Run as P
-use Rattle.peg.specs.Run.{Mode, ok, failed, stopped}
-use Rattle.peg.specs.Render.{Source}
-use Rattle.peg.proofs.Buffer.{exec-adds, none-added}
+use Rattle.definition.specs.Prog.{Production, Prog, eat, unless, ifnext, opt, many, then, _⨟_, _/_, last, recover, node, memo}
+use Rattle.definition.specs.Grammar.{grammar, kind}
+use Rattle.definition.specs.Run as P
+use Rattle.definition.specs.Run.{Mode, ok, failed, stopped}
+use Rattle.definition.specs.Render.{Source}
+use Rattle.definition.proofs.Buffer.{exec-adds, none-added}
 use Rattle.notes.specs.Whole.{Whole}
 use Rattle.notes.specs.Bits.{ifb}
 use Rattle.notes.specs.Change.{withMode, markOf, gone, undoneTo}

@@ -6,10 +6,10 @@ use mathlib.Core.Bool.{Bool, true, false}
 use mathlib.Core.Logic.{_⊎_, inl, inr}
 use native.Mathlib.Omega.{arith}
 use lib.ListN.{length}
-use Rattle.peg.specs.Prog.{Production}
-use Rattle.peg.specs.Grammar.{kind}
-use Rattle.peg.specs.Run as P
-use Rattle.peg.specs.Render.{Source}
+use Rattle.definition.specs.Prog.{Production}
+use Rattle.definition.specs.Grammar.{kind}
+use Rattle.definition.specs.Run as P
+use Rattle.definition.specs.Render.{Source}
 use Rattle.notes.specs.Whole.{Whole}
 use Rattle.notes.specs.Bits.{ifb, bitAt, Kept}
 use Rattle.notes.specs.Change.{withMode, withFar}

@@ -14,12 +14,12 @@ use Rattle.kinds.specs.Kinds as k
 use Rattle.kinds.specs.Sets.{setOf, pick}
 use Rattle.kinds.specs.Answers.{isSome}
 use Rattle.kinds.proofs.Tables.{both, both-left, both-right, all, all-sound}
-use Rattle.peg.specs.Prog.{Prog}
-use Rattle.peg.specs.Prog as G
-use Rattle.peg.specs.Grammar.{grammar, kind, rule-decl}
-use Rattle.peg.specs.Run as P
-use Rattle.peg.specs.Render.{Source}
-use Rattle.peg.proofs.Every.{productions}
+use Rattle.definition.specs.Prog.{Prog}
+use Rattle.definition.specs.Prog as G
+use Rattle.definition.specs.Grammar.{grammar, kind, rule-decl}
+use Rattle.definition.specs.Run as P
+use Rattle.definition.specs.Render.{Source}
+use Rattle.definition.proofs.Every.{productions}
 use Rattle.notes.specs.Whole.{Whole}
 use Rattle.notes.specs.Change.{markOf, gone, withMode}
 use Rattle.notes.specs.Means.{limits, Bufs, bufs, namesOf}

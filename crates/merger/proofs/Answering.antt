@@ -8,8 +8,8 @@ use lib.ListN.{length, take, replicate}
 use borrow.Rule.Slice.PartMut.{midOf, putMid}
 use borrow.Author.Tests.{le-leb, lt-leb}
 use native.Mathlib.Omega.{arith}
-use Rattle.peg.specs.Render.{flat}
-use Rattle.peg.specs.Merge.{well-formed, paired, finished, merged, refusing, returned, merging}
+use Rattle.definition.specs.Render.{flat}
+use Rattle.definition.specs.Merge.{well-formed, paired, finished, merged, refusing, returned, merging}
 use Rattle.merger.specs.Count.{sized, counted}
 use Rattle.merger.specs.Events.{rest}
 use Rattle.merger.specs.Pen.{Writable}

@@ -6,8 +6,8 @@ use lib.Dec.{eqb}
 use borrow.Author.Tests.{eqb-true}
 use native.Mathlib.Omega.{arith}
 use Rattle.kinds.specs.Kinds as k
-use Rattle.peg.specs.Render.{Quad}
-use Rattle.peg.specs.Merge.{error-of}
+use Rattle.definition.specs.Render.{Quad}
+use Rattle.definition.specs.Merge.{error-of}
 
 pub never : {A : Type 0} → false ≡ true → A
 never h = let z : _≡_ {A = ℕ} 0 1 = cc in absurd (omega arith)

@@ -7,7 +7,7 @@ use lib.ListN.{length}
 use native.Mathlib.Nat.{add-zero, zero-add}
 use native.Mathlib.Numerals.{add-one}
 use native.Mathlib.Omega.{arith}
-use Rattle.peg.specs.Merge.{Mark, opens, joins, closes, keeps, Span, paired, reach, merge}
+use Rattle.definition.specs.Merge.{Mark, opens, joins, closes, keeps, Span, paired, reach, merge}
 use Rattle.merger.proofs.Bools.{never}
 use Rattle.merger.specs.Count.{sized, counted, inside, tallied}
 use Rattle.merger.specs.declared.judge.Size.{Size}

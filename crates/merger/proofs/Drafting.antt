@@ -7,8 +7,8 @@ use mathlib.Core.Bool.{true}
 use lib.ListN.{length, take, drop, length-append}
 use lib.Seq.{take-at}
 use native.Mathlib.Omega.{arith}
-use Rattle.peg.specs.Render.{Quad, flat}
-use Rattle.peg.specs.Merge.{Mark, opens, joins, closes, keeps, Span, widened, paired, reach, merge, error-event}
+use Rattle.definition.specs.Render.{Quad, flat}
+use Rattle.definition.specs.Merge.{Mark, opens, joins, closes, keeps, Span, widened, paired, reach, merge, error-event}
 use Rattle.merger.specs.Events.{quad-at, put-at}
 use Rattle.merger.specs.Pen.{Page, page, pen-at, link, around, span-of, begun, joined, turn, Roomy, Inside, Able}
 use Rattle.merger.proofs.Lists.{amid, put-amid, quad-amid, length-put}

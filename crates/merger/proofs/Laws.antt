@@ -1,6 +1,6 @@
 -- Laws of the merger: the promise leaves one outcome; what is no ERROR begin and no ERROR end stays, in its order; every ERROR end has its begin's
 -- span; a list with no two neighbouring ERROR nodes, whose ERROR ends have their begins' spans, is its own finished list. That neighbours in their order
--- are joined from the first one's start to the last one's end, and that a reader's are in their order, is proved of the definition (peg, proofs/Joined).
+-- are joined from the first one's start to the last one's end, and that a reader's are in their order, is proved of the definition (theorems, proofs/Joined).
 use Prim.Native.Nat.{ℕ, zero, suc, _%_}
 use mathlib.Core.Path.{_≡_, refl, ap, ap₂, sym, _∙_}
 use mathlib.Core.List.{List, [], _∷_}
@@ -9,8 +9,8 @@ use lib.Dec.{eqb}
 use lib.ListN.{length}
 use borrow.Author.Tests.{eqb-true, eq-eqb}
 use native.Mathlib.Omega.{arith}
-use Rattle.peg.specs.Render.{Quad, flat}
-use Rattle.peg.specs.Merge.{quads, error-of, Span, Mark, opens, joins, closes, keeps, ended, marked, marks, paired, reach, error-event, merge, finished, Returned, merging}
+use Rattle.definition.specs.Render.{Quad, flat}
+use Rattle.definition.specs.Merge.{quads, error-of, Span, Mark, opens, joins, closes, keeps, ended, marked, marks, paired, reach, error-event, merge, finished, Returned, merging}
 use Rattle.merger.specs.Answer.{returning}
 use Rattle.merger.specs.declared.Merged.{Merged}
 use Rattle.merger.specs.declared.Merged.the-variants.{Malformed, Unpaired, Full, Events}

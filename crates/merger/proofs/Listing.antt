@@ -7,7 +7,7 @@ use lib.Dec.{leb}
 use lib.ListN.{length, getD, drop}
 use borrow.Author.Tests.{eq-eqb, ne-eqb, le-leb, lt-leb}
 use native.Mathlib.Omega.{arith}
-use Rattle.peg.specs.Merge.{quads, sorts, well-formed}
+use Rattle.definition.specs.Merge.{quads, sorts, well-formed}
 use Rattle.merger.proofs.Lists.{quads-at, quads-end}
 
 abbrev pub sorts-from : List ℕ → ℕ → Bool

@@ -7,8 +7,8 @@ use lib.Seq.{drop-length, drop-cons, set-append-seam, getD-append-seam, getD-app
 use borrow.Rule.Slice.PartMut.{midOf, putMid, mid-len, post-is}
 use native.Mathlib.Nat.{zero-add, suc-add, le-refl}
 use native.Mathlib.Omega.{arith}
-use Rattle.peg.specs.Render.{Quad, flat}
-use Rattle.peg.specs.Merge.{quads}
+use Rattle.definition.specs.Render.{Quad, flat}
+use Rattle.definition.specs.Merge.{quads}
 use Rattle.merger.specs.Events.{quad-at, put-at}
 
 drop-one : (l : List ℕ) (i j : ℕ) → i < length l → j ≡ suc i → drop i l ≡ getD l i 0 ∷ drop j l

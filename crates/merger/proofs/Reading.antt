@@ -8,8 +8,8 @@ use lib.ListN.{length, getD, drop}
 use borrow.Author.Tests.{eq-eqb, ne-eqb}
 use native.Mathlib.Omega.{arith}
 use Rattle.kinds.specs.Kinds as k
-use Rattle.peg.specs.Render.{Quad}
-use Rattle.peg.specs.Merge.{quads, Mark, opens, joins, closes, keeps, ended, marked, marks, error-of}
+use Rattle.definition.specs.Render.{Quad}
+use Rattle.definition.specs.Merge.{quads, Mark, opens, joins, closes, keeps, ended, marked, marks, error-of}
 use Rattle.merger.specs.Events.{quad-at, rest}
 use Rattle.merger.proofs.Bools.{sort-of}
 use Rattle.merger.proofs.Lists.{quads-at, quads-end}

@@ -2,8 +2,8 @@
 use Prim.Native.Nat.{ℕ, _+_, _-_, min, max}
 use mathlib.Core.Path.{_≡_, ap, ap₂, _∙_}
 use mathlib.Core.List.{List}
-use Rattle.peg.specs.Render.{Quad}
-use Rattle.peg.specs.Merge.{joins, closes, Span, error-event}
+use Rattle.definition.specs.Render.{Quad}
+use Rattle.definition.specs.Merge.{joins, closes, Span, error-event}
 use Rattle.merger.specs.Events.{put-at}
 use Rattle.merger.specs.Pen.{Page, page, pen-at, around, span-of, begun, joined, turn}
 use Rattle.merger.specs.declared.pen.Pen.{Pen}

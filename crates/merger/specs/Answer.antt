@@ -1,7 +1,7 @@
 -- Document 01's number and values for each case of the answer.
 use Prim.Native.Nat.{ℕ}
 use mathlib.Core.List.{List}
-use Rattle.peg.specs.Merge.{Returned}
+use Rattle.definition.specs.Merge.{Returned}
 use Rattle.merger.specs.declared.Merged.{Merged}
 use Rattle.merger.specs.declared.Merged.the-variants.{Malformed, Unpaired, Full, Events}
 

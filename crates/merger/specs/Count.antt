@@ -3,7 +3,7 @@ use Prim.Native.Nat.{ℕ, zero, suc, _+_, _-_}
 use mathlib.Core.List.{List, []}
 use mathlib.Core.Bool.{Bool, true, false}
 use lib.ListN.{length}
-use Rattle.peg.specs.Merge.{Mark, opens, joins, closes, keeps, paired, merge}
+use Rattle.definition.specs.Merge.{Mark, opens, joins, closes, keeps, paired, merge}
 use Rattle.merger.specs.declared.judge.Size.{Size}
 use Rattle.merger.specs.declared.judge.Size.the-variants as size
 use Rattle.merger.specs.declared.judge.Tally.{Tally}

@@ -3,8 +3,8 @@ use Prim.Native.Nat.{ℕ, _+_, _≤_}
 use mathlib.Core.Path.{_≡_}
 use mathlib.Core.List.{List, _∷_}
 use lib.ListN.{length, getD, drop, set}
-use Rattle.peg.specs.Render.{Quad}
-use Rattle.peg.specs.Merge as D
+use Rattle.definition.specs.Render.{Quad}
+use Rattle.definition.specs.Merge as D
 use Rattle.merger.specs.declared.marks.Event.{Event}
 use Rattle.merger.specs.declared.marks.Step.{Step}
 use Rattle.merger.specs.declared.marks.Mark.{Mark}

@@ -4,8 +4,8 @@ use mathlib.Core.Path.{_≡_}
 use mathlib.Core.List.{List}
 use mathlib.Core.Bool.{true}
 use lib.ListN.{length}
-use Rattle.peg.specs.Render.{Quad}
-use Rattle.peg.specs.Merge.{Mark, opens, joins, closes, keeps, Span, widened, error-event, paired, finished}
+use Rattle.definition.specs.Render.{Quad}
+use Rattle.definition.specs.Merge.{Mark, opens, joins, closes, keeps, Span, widened, error-event, paired, finished}
 use Rattle.merger.specs.Events.{quad-at, put-at, rest}
 use Rattle.merger.specs.declared.pen.Pen.{Pen}
 

@@ -4,7 +4,7 @@ use crate::marks::mark_at;
 use kinds::kind::ERROR;
 ghost use mathlib.Core.Path.{_≡_};
 ghost use Prim.Native.Nat.{_<_, _^_};
-ghost use Rattle.peg.specs.Merge as D;
+ghost use Rattle.definition.specs.Merge as D;
 ghost use Rattle.merger.specs.Events.{markOf};
 ghost use Rattle.merger.specs.Count.{tallied, counted};
 

@@ -9,7 +9,7 @@ use crate::judge::well_formed;
 use crate::pen::write;
 use cells::clear;
 ghost use mathlib.Core.Path.{_≡_};
-ghost use Rattle.peg.specs.Merge.{merging};
+ghost use Rattle.definition.specs.Merge.{merging};
 ghost use Rattle.merger.specs.Answer.{returning};
 
 pub enum Merged {

@@ -4,7 +4,7 @@ ghost use mathlib.Core.Path.{_≡_};
 ghost use mathlib.Core.Bool.{true};
 ghost use Prim.Native.Nat.{_+_, _≤_};
 ghost use lib.ListN.{length};
-ghost use Rattle.peg.specs.Merge.{error-of};
+ghost use Rattle.definition.specs.Merge.{error-of};
 ghost use Rattle.merger.specs.Events.{quadOf, quad-at, put-at, Reads};
 
 pub struct Event {

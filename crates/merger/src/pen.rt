@@ -10,8 +10,8 @@ use kinds::kind::ERROR;
 ghost use mathlib.Core.Path.{_≡_};
 ghost use Prim.Native.Nat.{_*_, min, max};
 ghost use lib.ListN.{length, take};
-ghost use Rattle.peg.specs.Render.{flat};
-ghost use Rattle.peg.specs.Merge as D;
+ghost use Rattle.definition.specs.Render.{flat};
+ghost use Rattle.definition.specs.Merge as D;
 ghost use Rattle.merger.specs.Events.{markOf, quadOf};
 ghost use Rattle.merger.specs.Pen.{page, turn, Able, Writable};
 

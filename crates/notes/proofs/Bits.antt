@@ -13,7 +13,7 @@ use lib.ListN.{length, getD, set}
 use lib.Seq.{getD-set-same, getD-set-other}
 use Rattle.kinds.specs.Kinds as k
 use Rattle.kinds.proofs.Tables.{all, all-sound}
-use Rattle.peg.specs.Run as P
+use Rattle.definition.specs.Run as P
 use Rattle.notes.specs.Bits.{ifb, bitAt, Kept, Forgot, Cached}
 
 -- a power of two as the code has it, at a word's width

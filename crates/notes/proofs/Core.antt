@@ -10,10 +10,10 @@ use borrow.Author.Tests.{le-ltb, lt-ltb, ltb-true, ltb-false}
 use lib.Dec.{ltb}
 use lib.ListN.{length, take, drop, replicate}
 use lib.Seq.{take-take}
-use Rattle.peg.specs.Run as P
-use Rattle.peg.specs.Run.{Event, opened, leaf, closed, bad}
-use Rattle.peg.specs.Buffer.{four, buffer}
-use Rattle.peg.specs.Render.{Source, Rec, records, said, held, used, exceeds, over}
+use Rattle.definition.specs.Run as P
+use Rattle.definition.specs.Run.{Event, opened, leaf, closed, bad}
+use Rattle.definition.specs.Buffer.{four, buffer}
+use Rattle.definition.specs.Render.{Source, Rec, records, said, held, used, exceeds, over}
 use Rattle.notes.specs.Whole.{Whole, beside}
 use Rattle.notes.specs.Bits.{ifb}
 use Rattle.notes.specs.Change.{withPos, withEv, withFull, standing}

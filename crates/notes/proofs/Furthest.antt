@@ -10,8 +10,8 @@ use native.Mathlib.Omega.{arith}
 use borrow.Author.Tests.{le-ltb, lt-ltb, ne-eqb, eq-eqb}
 use lib.Dec.{eqb, ltb}
 use lib.ListN.{length, take, drop, length-drop}
-use Rattle.peg.specs.Run as P
-use Rattle.peg.specs.Render.{Source}
+use Rattle.definition.specs.Run as P
+use Rattle.definition.specs.Render.{Source}
 use Rattle.notes.specs.Whole.{Whole}
 use Rattle.notes.specs.Bits.{ifb}
 use Rattle.notes.specs.Change.{withWants, withCodes}

@@ -7,7 +7,7 @@ use native.Mathlib.Omega.{arith}
 use native.Mathlib.Numerals.{towards-suc, add-one, sub-one}
 use lib.ListN.{length, getD, take, drop, set, length-set, length-append, length-drop}
 use lib.Seq.{take-at, sets, sets-eq, length-take-le, take-set-le, take-append-le, take-set-lt}
-use Rattle.peg.specs.Buffer.{four, patch}
+use Rattle.definition.specs.Buffer.{four, patch}
 
 pub getD-any : (l : List ℕ) (i d d′ : ℕ) → i < length l → getD l i d ≡ getD l i d′
 getD-any [] i d d′ h = absurd (omega arith)

@@ -12,7 +12,7 @@ use lib.Dec.{eqb}
 use lib.ListN.{length, getD, take, set, length-set, length-append}
 use lib.Seq.{length-take-le, take-suc-set}
 use Rattle.kinds.specs.Sets.{setOf, idsOf}
-use Rattle.peg.specs.Run as P
+use Rattle.definition.specs.Run as P
 use Rattle.notes.specs.Whole.{Whole}
 use Rattle.notes.specs.Bits.{ifb, bitAt}
 use Rattle.notes.specs.Change.{withCodes}

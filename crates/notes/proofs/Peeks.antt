@@ -9,7 +9,7 @@ use native.Mathlib.Numerals.{add-one}
 use lib.ListN.{length, getD, drop, drop-of-length-le, length-drop}
 use lib.Seq.{drop-cons}
 use Rattle.kinds.specs.Sets.{trivial}
-use Rattle.peg.specs.Run as P
+use Rattle.definition.specs.Run as P
 use Rattle.notes.specs.Did.{Peeked}
 
 -- one row of trivia is passed over, and no other row

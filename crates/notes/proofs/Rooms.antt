@@ -9,11 +9,11 @@ use borrow.Author.Tests.{le-ltb, lt-ltb, ltb-true, ltb-false}
 use lib.Dec.{ltb}
 use lib.ListN.{length, take, length-append}
 use lib.Seq.{length-take-le}
-use Rattle.peg.specs.Run as P
-use Rattle.peg.specs.Run.{Event, opened, leaf, closed, bad, Choice, Limits}
-use Rattle.peg.specs.Buffer.{buffer}
-use Rattle.peg.specs.Render.{Source, Rec, record-of, records, flat-records, said, held, used, exceeds}
-use Rattle.peg.proofs.Buffer.{buffer-length}
+use Rattle.definition.specs.Run as P
+use Rattle.definition.specs.Run.{Event, opened, leaf, closed, bad, Choice, Limits}
+use Rattle.definition.specs.Buffer.{buffer}
+use Rattle.definition.specs.Render.{Source, Rec, record-of, records, flat-records, said, held, used, exceeds}
+use Rattle.definition.proofs.Buffer.{buffer-length}
 use Rattle.notes.specs.Whole.{Whole}
 use Rattle.notes.specs.Means.{limits, Bufs, Past, recorded, Means, Stands, overOf}
 use Rattle.notes.specs.Did.{Wf}

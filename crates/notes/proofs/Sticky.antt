@@ -5,14 +5,14 @@ use mathlib.Core.Bool.{Bool}
 use mathlib.Core.List.{List, [], _∷_}
 use mathlib.Core.Option.{none}
 use lib.ListN.{length}
-use Rattle.peg.specs.Prog.{Production, Prog}
-use Rattle.peg.specs.Run as P
-use Rattle.peg.specs.Run.{leaf, closed, Mode, ok, failed, stopped}
-use Rattle.peg.specs.Render.{Source}
-use Rattle.peg.proofs.Induct.{Kept, exec-kept, run-kept}
-use Rattle.peg.proofs.Order.{Order, ordered, begin-up, finish-up}
+use Rattle.definition.specs.Prog.{Production, Prog}
+use Rattle.definition.specs.Run as P
+use Rattle.definition.specs.Run.{leaf, closed, Mode, ok, failed, stopped}
+use Rattle.definition.specs.Render.{Source}
+use Rattle.definition.proofs.Induct.{Kept, exec-kept, run-kept}
+use Rattle.definition.proofs.Order.{Order, ordered, begin-up, finish-up}
 use Rattle.kinds.specs.Kinds as k
-use Rattle.peg.proofs.Gap.{gap, gap-out}
+use Rattle.definition.proofs.Gap.{gap, gap-out}
 use Rattle.notes.specs.Means.{Past, overOf}
 use Rattle.notes.proofs.Core.{Sticky, sticky-mark}
 

@@ -6,7 +6,7 @@ use mathlib.Core.Bool.{Bool, true, false}
 use lib.Dec.{eqb}
 use lib.ListN.{getD}
 use Rattle.kinds.specs.Kinds as k
-use Rattle.peg.specs.Run as P
+use Rattle.definition.specs.Run as P
 
 abbrev pub ifb : {A : Type 0} → Bool → A → A → A
 ifb true a b = a

@@ -5,9 +5,9 @@ use mathlib.Core.List.{List, [], _∷_, _++_}
 use mathlib.Core.Bool.{Bool, true, false}
 use lib.Dec.{eqb, ltb}
 use lib.ListN.{length, getD, take, drop}
-use Rattle.peg.specs.Run as P
-use Rattle.peg.specs.Open.{Open}
-use Rattle.peg.specs.Render.{Source}
+use Rattle.definition.specs.Run as P
+use Rattle.definition.specs.Open.{Open}
+use Rattle.definition.specs.Render.{Source}
 use Rattle.notes.specs.Whole.{Whole, beside, resting}
 use Rattle.notes.specs.Change.{withEv, withFull, withCodes}
 use Rattle.notes.specs.Bits.{ifb, bitAt}

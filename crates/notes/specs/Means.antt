@@ -6,10 +6,10 @@ use mathlib.Core.Bool.{Bool, true, false}
 use mathlib.Core.Option.{Option, none, some}
 use lib.Dec.{ltb}
 use lib.ListN.{length, getD, take, drop}
-use Rattle.peg.specs.Run as P
-use Rattle.peg.specs.Run.{Event, Choice, Mode, ok, failed, stopped, Stop, spent, deep, Limits}
-use Rattle.peg.specs.Buffer.{buffer}
-use Rattle.peg.specs.Render.{Source, Rec, record-of, records, flat-records, over, used}
+use Rattle.definition.specs.Run as P
+use Rattle.definition.specs.Run.{Event, Choice, Mode, ok, failed, stopped, Stop, spent, deep, Limits}
+use Rattle.definition.specs.Buffer.{buffer}
+use Rattle.definition.specs.Render.{Source, Rec, record-of, records, flat-records, over, used}
 use Rattle.kinds.specs.Sets.{setOf, idsOf}
 use Rattle.notes.specs.Whole.{Whole}
 use Rattle.notes.specs.Bits.{ifb, Cached}

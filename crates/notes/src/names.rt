@@ -2,8 +2,8 @@
 ghost use mathlib.Core.Path.{_≡_};
 ghost use Prim.Native.Nat.{_≤_, _<_};
 ghost use lib.ListN.{length};
-ghost use Rattle.peg.specs.Render.{Source};
-ghost use Rattle.peg.specs.Run as P;
+ghost use Rattle.definition.specs.Render.{Source};
+ghost use Rattle.definition.specs.Run as P;
 ghost use Rattle.notes.specs.Whole.{Whole, beside};
 ghost use Rattle.notes.specs.Means.{namesIn, namesOf};
 ghost use Rattle.notes.specs.Did.{Ok, Plain, Coded, Enters, Peeked};

@@ -9,9 +9,9 @@ use lib.Dec.{T, eqb, ltb, eqb→eq, ltb→lt}
 use lib.ListN.{length, getD, take}
 use borrow.Author.Tests.{ltb-true, not-false}
 use Rattle.kinds.specs.Sets.{isId}
-use Rattle.peg.specs.Answer.{Desk, any, no-id, tile, refusal}
-use Rattle.peg.proofs.Every.{and-left, and-right}
-use Rattle.peg.proofs.Cut.{rows-of}
+use Rattle.definition.specs.Answer.{Desk, any, no-id, tile, refusal}
+use Rattle.definition.proofs.Every.{and-left, and-right}
+use Rattle.definition.proofs.Cut.{rows-of}
 use Rattle.notes.specs.Means.{source, Rows}
 
 neither : (a b : Bool) → elim a [ true ↦ true | false ↦ b ] ≡ false → (a ≡ false) × (b ≡ false)

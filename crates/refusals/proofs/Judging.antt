@@ -9,7 +9,7 @@ use lib.Dec.{eqb, ltb}
 use lib.ListN.{length, getD, drop, drop-of-length-le}
 use lib.Seq.{drop-cons}
 use borrow.Author.Tests.{lt-ltb, le-ltb, eq-eqb, ne-eqb}
-use Rattle.peg.specs.Answer.{any, tile, first-of}
+use Rattle.definition.specs.Answer.{any, tile, first-of}
 
 -- A LOOK THROUGH A LIST
 

@@ -5,7 +5,7 @@ ghost use mathlib.Core.Path.{_≡_};
 ghost use mathlib.Core.List.{List};
 ghost use Prim.Native.Nat.{ℕ};
 ghost use lib.ListN.{length};
-ghost use Rattle.peg.specs.Answer.{any, no-id, elsewhere, tile, refusal};
+ghost use Rattle.definition.specs.Answer.{any, no-id, elsewhere, tile, refusal};
 ghost use Rattle.refusals.specs.Judge.{desk};
 
 // Whether a row has an id that is none.

@@ -8,7 +8,7 @@ use native.Mathlib.Nat.{max-le}
 use lib.Dec.{eqb, ltb}
 use lib.ListN.{length, take, drop, length-map}
 use borrow.Author.Tests.{eq-eqb, lt-ltb, le-ltb, ltb-false}
-use Rattle.peg.specs.Answer.{Desk, no-id, elsewhere, tile, words, grounds, first-of, refusal, any}
+use Rattle.definition.specs.Answer.{Desk, no-id, elsewhere, tile, words, grounds, first-of, refusal, any}
 use Rattle.cutter.specs.Rows.{After, cutting, put, refused, cut}
 use Rattle.cutter.specs.Tiles.{Tiles, Ids}
 use Rattle.cutter.proofs.Tiling.{tiles}

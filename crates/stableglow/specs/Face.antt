@@ -1,8 +1,8 @@
 -- What the exports return and leave behind, in numbers.
 use Prim.Native.Nat.{ℕ, _%_, _^_}
 use mathlib.Core.List.{List, [], _∷_}
-use Rattle.peg.specs.Answer.{After}
-use Rattle.peg.specs.Merge.{Returned}
+use Rattle.definition.specs.Answer.{After}
+use Rattle.definition.specs.Merge.{Returned}
 use Rattle.cutter.specs.Rows as c
 
 -- the refusal's number, the count's cell and the room; the cell has 32 bits, and a list whose count needs more takes 64 GiB

@@ -12,9 +12,9 @@ use lib.Seq.{drop-cons}
 use mathlib.Core.Option.{Option, none, some}
 use Rattle.kinds.specs.Sets.{idsOf, pick}
 use Rattle.kinds.specs.Answers.{isSome}
-use Rattle.peg.specs.Run as P
-use Rattle.peg.specs.Run.{Mode, ok, failed, stopped, Next, end, other, hit}
-use Rattle.peg.specs.Render.{Source}
+use Rattle.definition.specs.Run as P
+use Rattle.definition.specs.Run.{Mode, ok, failed, stopped, Next, end, other, hit}
+use Rattle.definition.specs.Render.{Source}
 use Rattle.notes.specs.Whole.{Whole}
 use Rattle.notes.specs.Bits.{ifb}
 use Rattle.notes.specs.Means.{Bufs, bufs, Past, Means, Stands, modeOf}

@@ -8,10 +8,10 @@ use native.Mathlib.Omega.{arith}
 use lib.ListN.{length, getD, take, drop}
 use lib.Seq.{take-take}
 use Rattle.kinds.specs.Sets.{setOf, pick}
-use Rattle.peg.specs.Run as P
-use Rattle.peg.specs.Run.{Mode, ok, failed, stopped, Next, end, other, hit}
-use Rattle.peg.specs.Buffer.{four}
-use Rattle.peg.specs.Render.{Source}
+use Rattle.definition.specs.Run as P
+use Rattle.definition.specs.Run.{Mode, ok, failed, stopped, Next, end, other, hit}
+use Rattle.definition.specs.Buffer.{four}
+use Rattle.definition.specs.Render.{Source}
 use Rattle.notes.specs.Whole.{Whole}
 use Rattle.notes.specs.Change.{withPos, withMode, markOf, gone}
 use Rattle.notes.specs.Means.{Bufs, bufs, Past, source, Means, Stands, Lines, modeOf}

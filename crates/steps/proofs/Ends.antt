@@ -11,11 +11,11 @@ use lib.Dec.{eqb}
 use lib.ListN.{length, take, drop, replicate, length-replicate}
 use Rattle.kinds.specs.Kinds as k
 use Rattle.kinds.specs.Sets.{idsOf}
-use Rattle.peg.specs.Run as P
-use Rattle.peg.specs.Run.{Mode, ok, failed, stopped, Stop, spent, deep, Next, end, other, hit, Choice}
-use Rattle.peg.specs.Open.{Adds, Open}
-use Rattle.peg.specs.Render.{Source, Rec, said, held, records, flat-records}
-use Rattle.peg.proofs.Buffer.{adding}
+use Rattle.definition.specs.Run as P
+use Rattle.definition.specs.Run.{Mode, ok, failed, stopped, Stop, spent, deep, Next, end, other, hit, Choice}
+use Rattle.definition.specs.Open.{Adds, Open}
+use Rattle.definition.specs.Render.{Source, Rec, said, held, records, flat-records}
+use Rattle.definition.proofs.Buffer.{adding}
 use Rattle.notes.specs.Whole.{Whole}
 use Rattle.notes.specs.Bits.{ifb}
 use Rattle.notes.specs.Change.{withMode}

@@ -6,9 +6,9 @@ use mathlib.Core.Bool.{Bool, true, false}
 use native.Mathlib.Nat.{le-refl}
 use native.Mathlib.Omega.{arith}
 use lib.ListN.{length, length-drop}
-use Rattle.peg.specs.Run as P
-use Rattle.peg.specs.Run.{Mode, ok, failed, stopped}
-use Rattle.peg.specs.Render.{Source}
+use Rattle.definition.specs.Run as P
+use Rattle.definition.specs.Run.{Mode, ok, failed, stopped}
+use Rattle.definition.specs.Render.{Source}
 use Rattle.notes.specs.Whole.{Whole}
 use Rattle.notes.specs.Bits.{bitAt, Kept}
 use Rattle.notes.specs.Change.{withMode, withFar}

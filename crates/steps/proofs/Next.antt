@@ -9,8 +9,8 @@ use lib.ListN.{length, getD, drop, drop-of-length-le}
 use lib.Seq.{drop-cons}
 use Rattle.kinds.specs.Sets.{pick}
 use Rattle.kinds.specs.Answers.{isSome}
-use Rattle.peg.specs.Run as P
-use Rattle.peg.specs.Run.{Mode, ok, failed, stopped, Next, end, other, hit}
+use Rattle.definition.specs.Run as P
+use Rattle.definition.specs.Run.{Mode, ok, failed, stopped, Next, end, other, hit}
 use Rattle.notes.specs.Means.{modeOf}
 use Rattle.notes.specs.Did.{Peeked}
 

@@ -11,12 +11,12 @@ use borrow.Author.Tests.{ne-eqb, eq-eqb}
 use lib.Dec.{eqb}
 use lib.ListN.{length, getD, take, drop, set, length-set, length-drop}
 use lib.Seq.{take-take, take-set-lt, take-set-le}
-use Rattle.peg.specs.Run as P
-use Rattle.peg.specs.Run.{Event, opened, leaf, closed, bad, Mode, ok, failed, stopped, Stop, spent, deep}
-use Rattle.peg.specs.Render.{Source, starts-at, ends-at, span-end}
-use Rattle.peg.specs.Buffer.{four, patch, buffer}
-use Rattle.peg.specs.Open.{Open}
-use Rattle.peg.proofs.Buffer.{buffer-opened, buffer-shut}
+use Rattle.definition.specs.Run as P
+use Rattle.definition.specs.Run.{Event, opened, leaf, closed, bad, Mode, ok, failed, stopped, Stop, spent, deep}
+use Rattle.definition.specs.Render.{Source, starts-at, ends-at, span-end}
+use Rattle.definition.specs.Buffer.{four, patch, buffer}
+use Rattle.definition.specs.Open.{Open}
+use Rattle.definition.proofs.Buffer.{buffer-opened, buffer-shut}
 use Rattle.notes.specs.Whole.{Whole}
 use Rattle.notes.specs.Change.{withMode, withFuel}
 use Rattle.notes.specs.Means.{Bufs, bufs, Past, Means, Stands, Lines, modeOf, overOf}

@@ -10,11 +10,11 @@ use native.Mathlib.Numerals.{add-one, sub-one}
 use native.Mathlib.Decide.{ℕ-discrete}
 use lib.ListN.{length, take, drop, length-drop}
 use lib.Seq.{take-take}
-use Rattle.peg.specs.Run as P
-use Rattle.peg.specs.Run.{Mode, ok, failed, stopped, Stop, spent, deep}
-use Rattle.peg.specs.Open.{Adds, Open}
-use Rattle.peg.specs.Render.{Source}
-use Rattle.peg.proofs.Buffer.{begun-open}
+use Rattle.definition.specs.Run as P
+use Rattle.definition.specs.Run.{Mode, ok, failed, stopped, Stop, spent, deep}
+use Rattle.definition.specs.Open.{Adds, Open}
+use Rattle.definition.specs.Render.{Source}
+use Rattle.definition.proofs.Buffer.{begun-open}
 use Rattle.notes.specs.Whole.{Whole}
 use Rattle.notes.specs.Change.{withMode, markOf, gone}
 use Rattle.notes.specs.Means.{Bufs, bufs, Past, Means, Stands, modeOf, overOf}

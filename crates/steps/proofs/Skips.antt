@@ -7,10 +7,10 @@ use native.Mathlib.Nat.{le-refl}
 use native.Mathlib.Omega.{arith}
 use lib.ListN.{length, getD, drop, drop-of-length-le}
 use lib.Seq.{drop-cons}
-use Rattle.peg.specs.Run as P
-use Rattle.peg.specs.Run.{Event, leaf, Next, end, other, hit}
-use Rattle.peg.specs.Buffer.{four}
-use Rattle.peg.specs.Render.{Source, used}
+use Rattle.definition.specs.Run as P
+use Rattle.definition.specs.Run.{Event, leaf, Next, end, other, hit}
+use Rattle.definition.specs.Buffer.{four}
+use Rattle.definition.specs.Render.{Source, used}
 use Rattle.notes.specs.Whole.{Whole}
 use Rattle.notes.specs.Change.{withPos}
 use Rattle.notes.specs.Means.{limits, Bufs, bufs, Past, Stands, overOf}

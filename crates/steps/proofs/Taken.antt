@@ -10,12 +10,12 @@ use lib.Dec.{eqb}
 use lib.ListN.{length, getD, take, drop, set, length-set, length-append, length-drop, drop-of-length-le, replicate}
 use lib.Seq.{take-take, drop-cons, length-take-le}
 use Rattle.kinds.specs.Sets.{trivial}
-use Rattle.peg.specs.Run as P
-use Rattle.peg.specs.Run.{Event, opened, leaf, closed, bad, Mode, ok, failed, stopped, Stop, spent, deep}
-use Rattle.peg.specs.Render.{Source, starts-at, ends-at, span-end, said, held, used}
-use Rattle.peg.specs.Buffer.{four, buffer}
-use Rattle.peg.proofs.Buffer.{buffer-leaf, buffer-opened}
-use Rattle.peg.proofs.Gap.{gap, gap-out}
+use Rattle.definition.specs.Run as P
+use Rattle.definition.specs.Run.{Event, opened, leaf, closed, bad, Mode, ok, failed, stopped, Stop, spent, deep}
+use Rattle.definition.specs.Render.{Source, starts-at, ends-at, span-end, said, held, used}
+use Rattle.definition.specs.Buffer.{four, buffer}
+use Rattle.definition.proofs.Buffer.{buffer-leaf, buffer-opened}
+use Rattle.definition.proofs.Gap.{gap, gap-out}
 use Rattle.notes.specs.Whole.{Whole}
 use Rattle.notes.specs.Change.{withPos}
 use Rattle.notes.specs.Means.{limits, Bufs, bufs, Past, source, Means, Stands, Lines, modeOf, overOf}

@@ -5,7 +5,7 @@ use mathlib.Core.List.{List, []}
 use mathlib.Core.Bool.{Bool}
 use lib.ListN.{length, getD, drop}
 use Rattle.kinds.specs.Answers.{words}
-use Rattle.peg.specs.Run as P
+use Rattle.definition.specs.Run as P
 use Rattle.notes.specs.Whole.{Whole}
 use Rattle.notes.specs.Means.{source, bufs, Lines, Rows}
 use Rattle.notes.specs.Did.{Ok, Wf, Events, Began, Shuts, Both, shutA}

@@ -4,7 +4,7 @@ use mathlib.Core.List.{List}
 use Prim.Native.Nat.{ℕ}
 use native.Mathlib.Omega.{arith}
 use lib.Seq.{length-take-le}
-use Rattle.peg.specs.Render.{names-of}
+use Rattle.definition.specs.Render.{names-of}
 use Rattle.notes.specs.Whole.{beside}
 use Rattle.notes.specs.Means.{namesIn}
 use Rattle.choice.specs.Choice.{choiceOf}

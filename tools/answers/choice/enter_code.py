@@ -1,7 +1,7 @@
 WHERE = "Names/enter_code"
 USES = """use mathlib.Core.Path.{ap}
 use lib.ListN.{take}
-use Rattle.peg.specs.Run as P
+use Rattle.definition.specs.Run as P
 use Rattle.choice.proofs.Spelling.{spells-as, code-set, code-word}
 """
 NS = "(take ({args} .self .count) ({args} .self .names))"

@@ -4,7 +4,7 @@ use Prim.Native.Nat.{ℕ}
 use native.Mathlib.Omega.{arith}
 use mathlib.Core.Path.{refl, sym, ap, _∙_}
 use lib.ListN.{replicate}
-use Rattle.peg.specs.Answer.{refusing}
+use Rattle.definition.specs.Answer.{refusing}
 use Rattle.refusals.specs.Judge.{desk}
 use Rattle.refusals.proofs.Admitted.{judged-rows}
 use Rattle.desk.proofs.Answering.{refused-so, too-small, room-so, answer-so}

@@ -1,6 +1,6 @@
 WHERE = "read/spoilt"
 USES = """-- A room was exceeded: everything is zero.
 use mathlib.Core.Path.{ap}
-use Rattle.peg.specs.Answer.{refusing}
+use Rattle.definition.specs.Answer.{refusing}
 """
 ANS = {"returns": "λ i. refusing ({args} .number) ({clear} .ensures i) ({clear2} .ensures i) ({wipe} .ensures i)"}

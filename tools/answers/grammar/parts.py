@@ -5,7 +5,7 @@ use native.Mathlib.Omega.{arith}
 use mathlib.Core.Path.{_≡_, refl, sym, ap, _∙_}
 use mathlib.Core.Bool.{true}
 use Prim.Native.Nat.{_+_, _*_, _-_}
-use Rattle.peg.specs.Prog as G
+use Rattle.definition.specs.Prog as G
 use Rattle.notes.specs.Change.{withMode}
 use Rattle.notes.specs.Means.{source}
 use Rattle.notes.proofs.Lists.{not-yes, not-no}

@@ -4,7 +4,7 @@ use mathlib.Core.Path.{subst, sym, _∙_}
 use mathlib.Core.List.{[]}
 use borrow.Author.Tests.{eq-eqb, ne-eqb}
 use lib.ListN.{getD}
-use Rattle.peg.specs.Run as P
+use Rattle.definition.specs.Run as P
 use Rattle.notes.specs.Whole.{Whole, beside}
 use Rattle.notes.specs.Means.{namesIn, namesOf}
 use Rattle.notes.specs.Did.{Enters}

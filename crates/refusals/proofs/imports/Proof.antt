@@ -2,7 +2,7 @@
 use Prim.Native.Nat.{_-_, _≤_}
 use mathlib.Core.Path.{refl, sym, _∙_}
 use lib.ListN.{length}
-use Rattle.peg.specs.Answer.{elsewhere}
+use Rattle.definition.specs.Answer.{elsewhere}
 use Rattle.refusals.proofs.Judging.{Sought, sought-here, sought-on, sought-none}
 use borrow.Author.Needs.{needs}
 use Rattle.refusals.proofs.imports.Statement.{statement}

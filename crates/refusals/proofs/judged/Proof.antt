@@ -5,7 +5,7 @@ use mathlib.Core.Bool.{Bool, true, false, not}
 use native.Mathlib.Omega.{arith}
 use lib.ListN.{length}
 use borrow.Author.Tests.{lt-ltb, le-ltb}
-use Rattle.peg.specs.Answer.{grounds, words}
+use Rattle.definition.specs.Answer.{grounds, words}
 use Rattle.refusals.specs.Judge.{desk}
 use Rattle.refusals.proofs.Judging.{first-is, large-source, large-list, not-large, uneven-starts, uneven-ends, even}
 use borrow.Author.Needs.{needs}

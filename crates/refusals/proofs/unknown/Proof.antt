@@ -3,7 +3,7 @@ use Prim.Native.Nat.{_-_, _≤_}
 use mathlib.Core.Path.{refl, sym, ap, _∙_}
 use mathlib.Core.Bool.{Bool, not}
 use lib.ListN.{length}
-use Rattle.peg.specs.Answer.{no-id}
+use Rattle.definition.specs.Answer.{no-id}
 use Rattle.refusals.proofs.Judging.{Sought, sought-here, sought-on, sought-none}
 use borrow.Author.Needs.{needs}
 use Rattle.refusals.proofs.unknown.Statement.{statement}

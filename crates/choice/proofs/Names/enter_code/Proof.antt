@@ -1,6 +1,6 @@
 use mathlib.Core.Path.{ap}
 use lib.ListN.{take}
-use Rattle.peg.specs.Run as P
+use Rattle.definition.specs.Run as P
 use Rattle.choice.proofs.Spelling.{spells-as, code-set, code-word}
 use borrow.Author.Needs.{needs}
 use Rattle.choice.proofs.Names.enter_code.Statement.{statement}

@@ -1,6 +1,6 @@
 -- A room was exceeded: everything is zero.
 use mathlib.Core.Path.{ap}
-use Rattle.peg.specs.Answer.{refusing}
+use Rattle.definition.specs.Answer.{refusing}
 use borrow.Author.Needs.{needs}
 use Rattle.desk.proofs.read.spoilt.Statement.{statement}
 use Rattle.desk.proofs.read.spoilt.Tie as tie

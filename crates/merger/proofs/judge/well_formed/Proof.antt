@@ -3,7 +3,7 @@ use Prim.Native.Nat.{_≤_, _-_, _%_}
 use mathlib.Core.Path.{_≡_, sym, _∙_}
 use lib.ListN.{length}
 use native.Mathlib.Omega.{arith}
-use Rattle.peg.specs.Merge as D
+use Rattle.definition.specs.Merge as D
 use Rattle.merger.proofs.Listing.{sorts-from, sort-fits, sort-low, sort-high, sorts-end, fours, no-fours}
 use Rattle.merger.proofs.judge.well_formed.Statement.{statement}
 use Rattle.merger.proofs.judge.well_formed.Tie as tie

@@ -1,7 +1,7 @@
 -- `mark_at` reads the first of the marks from a place on.
 use mathlib.Core.Path.{ap, sym, _∙_}
 use borrow.Author.Needs.{needs}
-use Rattle.peg.specs.Merge.{error-of}
+use Rattle.definition.specs.Merge.{error-of}
 use Rattle.merger.specs.Events.{quadOf}
 use Rattle.merger.proofs.Reading.{opens-at, keeps-at}
 use Rattle.merger.proofs.marks.mark_at.Statement.{statement}

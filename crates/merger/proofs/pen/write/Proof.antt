@@ -4,7 +4,7 @@ use mathlib.Core.Path.{_≡_, refl, _∙_}
 use lib.ListN.{length}
 use native.Mathlib.Omega.{arith}
 use borrow.Author.Needs.{needs}
-use Rattle.peg.specs.Merge.{finished}
+use Rattle.definition.specs.Merge.{finished}
 use Rattle.merger.specs.Events.{quadOf, rest}
 use Rattle.merger.specs.Pen.{page}
 use Rattle.merger.proofs.Reading.{other-at, rest-end}

@@ -3,7 +3,7 @@ use mathlib.Core.List.{List}
 use mathlib.Core.Path.{refl, subst}
 use Prim.Native.Nat.{ℕ}
 use Rattle.kinds.specs.Sets.{setOf}
-use Rattle.peg.specs.Run as P
+use Rattle.definition.specs.Run as P
 use Rattle.notes.specs.Means.{source}
 use Rattle.notes.specs.Did.{Plain}
 use Rattle.notes.proofs.Naming.{set-names}

@@ -2,7 +2,7 @@ use mathlib.Core.Path.{sym, _∙_, refl}
 use mathlib.Core.List.{[]}
 use Rattle.kinds.specs.Sets.{setOf}
 use Rattle.kinds.proofs.Words.{lent-right}
-use Rattle.peg.specs.Run as P
+use Rattle.definition.specs.Run as P
 use Rattle.steps.specs.Steps.{whole}
 use Rattle.steps.proofs.Next.{next-end}
 use Rattle.steps.proofs.Branch.{ahead-not, ahead-is, ahead-row}

@@ -2,7 +2,7 @@ use native.Mathlib.Omega.{arith}
 use Prim.Native.Nat.{_-_}
 use mathlib.Core.Path.{refl, sym, _∙_}
 use lib.ListN.{length}
-use Rattle.peg.specs.Run as P
+use Rattle.definition.specs.Run as P
 use Rattle.notes.proofs.Lists.{not-yes, not-no}
 use Rattle.steps.proofs.Taken.{Skipping, skipping, skips, trivia-on, trivia-over, trivia-out, trivia-idle}
 use borrow.Author.Needs.{needs}

@@ -1,0 +1,314 @@
+-- Every item that does not stop the reader takes at least one row.
+use Prim.Native.Nat.{ℕ, zero, suc, _+_, _≤_, _<_}
+use mathlib.Core.Path.{_≡_, refl, ap, ap₂, sym, _∙_, subst}
+use mathlib.Core.Logic.{_⊎_, inl, inr}
+use mathlib.Core.List.{List, [], _∷_, _++_}
+use mathlib.Core.Bool.{Bool, true, false}
+use mathlib.Core.Option.{Option, none, some}
+use lib.Dec.{T, eqb, eqb→eq}
+use lib.ListN.{length, length-append}
+use native.Mathlib.Omega.{arith}
+use Rattle.kinds.specs.Kinds as kinds
+use Rattle.kinds.specs.Sets.{idOf, pick, trivial}
+use Rattle.definition.specs.Prog.{Production, RULE-DECL, RULE-MODS, Prog, node, opt, last, _⨟_}
+use Rattle.definition.specs.Grammar.{grammar, kind, rule-decl, one}
+use Rattle.definition.specs.Run.{State, Reader, Limits, Mode, ok, failed, stopped, Next, end, other, hit, sought, next, skip, past, trivia, turn, put, back, or-else, alts, opts, fails, eats, eat-row, begin, finish, charge, seek, exec, run, rule-keywords, read-rule, stray-item, item-at, flush, again, item}
+use Rattle.definition.specs.Ford.{strip}
+use Rattle.definition.proofs.Gap.{gap}
+use Rattle.definition.proofs.Every.{never}
+use Rattle.definition.proofs.Induct.{exec-kept}
+use Rattle.definition.proofs.Order.{Running, ordered, finish-up}
+use Rattle.definition.proofs.Grows.{End, Grown, grown, grows, gap-end, seek-end, sought-hit, running-before, run-zero}
+use Rattle.definition.proofs.Shrink.{size, strip-gap, strip-end, run-ok, not-failed, not-stopped, eat-row-small, charge-rest}
+use Rattle.definition.proofs.Agree.{not-ok, not-stop, nil-cons}
+use Rattle.definition.proofs.Only.{for-rest}
+use Rattle.definition.proofs.File.{after-item, again-running, sought-end}
+
+pub end-length : {A : Type 0} (a b : List A) → End a b → length a ≤ length b
+end-length a b e = omega (arith, length-append (e .0) a, ap length (e .1))
+
+-- fewer rows that are no trivia: fewer rows
+pub fewer : (a b : List ℕ) → End a b → length (strip a) < length (strip b) → length a < length b
+fewer a b e h = go (e .0) (e .1)
+  where
+    go : (x : List ℕ) → x ++ a ≡ b → length a < length b
+    go [] z = absurd (omega (arith, ap (λ (l : List ℕ). length (strip l)) z))
+    go (y ∷ x) z = omega (arith, length-append x a, ap length z)
+
+-- a state by its mode and rows
+pub as-is : (s : State) (m : Mode) (r : List ℕ) → s .mode ≡ m → s .rest ≡ r → s ≡ turn m (put r (s .out) s)
+as-is s m r a b = ap₂ (λ (m : Mode) (r : List ℕ). turn m (put r (s .out) s)) a b
+
+pub charge-mode : (d f : ℕ) (t : State) → Running ((charge d f t) .mode) → (charge d f t) .mode ≡ t .mode
+charge-mode d zero t r = go (t .mode) t r
+  where
+    go : (m : Mode) (t : State) → Running ((charge d zero (turn m t)) .mode) → (charge d zero (turn m t)) .mode ≡ m
+    go ok t r = absurd r
+    go failed t r = absurd r
+    go (stopped w) t r = absurd r
+charge-mode zero (suc f) t r = go (t .mode) t r
+  where
+    go : (m : Mode) (t : State) → Running ((charge zero (suc f) (turn m t)) .mode) → (charge zero (suc f) (turn m t)) .mode ≡ m
+    go ok t r = absurd r
+    go failed t r = absurd r
+    go (stopped w) t r = absurd r
+charge-mode (suc d) (suc f) t r = refl
+
+finish-failed : (o : Bool) (a n : ℕ) (t : State) → (finish o a n t) .mode ≡ failed → t .mode ≡ failed
+finish-failed o a n t = go o (t .mode) t
+  where
+    go : (o : Bool) (m : Mode) (t : State) → (finish o a n (turn m t)) .mode ≡ failed → m ≡ failed
+    go o ok t e = e
+    go o failed t e = refl
+    go true (stopped w) t e = not-stop w e
+    go false (stopped w) t e = not-stop w e
+
+opts-never : (f : Reader) (s : State) → (opts f (turn ok s)) .mode ≡ failed → ⊥
+opts-never f s = go ((f (trivia (turn ok s))) .mode) (f (trivia (turn ok s)))
+  where
+    go : (m : Mode) (t : State) → (or-else (λ u. u) (turn ok s) (turn m t)) .mode ≡ failed → ⊥
+    go ok t e = not-ok e
+    go failed t e = not-ok e
+    go (stopped w) t e = not-stop w e
+
+-- an alternative whose first part does not fail
+alts-never : (f g : Reader) (s : State) → ((f (trivia (turn ok s))) .mode ≡ failed → ⊥) → (alts f g (turn ok s)) .mode ≡ failed → ⊥
+alts-never f g s h = go ((f (trivia (turn ok s))) .mode) (f (trivia (turn ok s))) h
+  where
+    go : (m : Mode) (t : State) → (m ≡ failed → ⊥) → (or-else g (turn ok s) (turn m t)) .mode ≡ failed → ⊥
+    go ok t h e = not-ok e
+    go failed t h e = h refl
+    go (stopped w) t h e = not-stop w e
+
+-- `private` or `global` in front: the modifiers do not fail
+mods-private : (d : ℕ) (call : Bool → Production → Reader) (is : List ℕ) (s : State) → (exec d call (grammar RULE-MODS) true (turn ok (put (kinds.PRIVATE-KW ∷ is) (s .out) s))) .mode ≡ failed → ⊥
+unfolding grammar idOf
+mods-private d call is s =
+    let w : State = put (kinds.PRIVATE-KW ∷ is) (s .out) s in
+    let g : Reader = exec d call (last (one kinds.GLOBAL-KW ⨟ opt (one kinds.PRIVATE-KW))) true in
+    alts-never (exec d call (one kinds.PRIVATE-KW ⨟ opt (one kinds.GLOBAL-KW)) true) g w (opts-never (exec d call (one kinds.GLOBAL-KW) true) (exec d call (one kinds.PRIVATE-KW) true (trivia (turn ok w))))
+
+mods-global : (d : ℕ) (call : Bool → Production → Reader) (is : List ℕ) (s : State) → (exec d call (grammar RULE-MODS) true (turn ok (put (kinds.GLOBAL-KW ∷ is) (s .out) s))) .mode ≡ failed → ⊥
+unfolding grammar idOf
+mods-global d call is s =
+    let w : State = turn ok (put (kinds.GLOBAL-KW ∷ is) (s .out) s) in
+    let v : State = back w (exec d call (one kinds.PRIVATE-KW ⨟ opt (one kinds.GLOBAL-KW)) true (trivia w)) in
+    alts-never (exec d call (one kinds.GLOBAL-KW ⨟ opt (one kinds.PRIVATE-KW)) true) fails v (opts-never (exec d call (one kinds.PRIVATE-KW) true) (exec d call (one kinds.GLOBAL-KW) true (trivia (turn ok v))))
+
+keyword : (i : ℕ) (a : ℕ) → pick rule-keywords i ≡ some a → (i ≡ kinds.GLOBAL-KW) ⊎ (i ≡ kinds.PRIVATE-KW) ⊎ (i ≡ kinds.RULE-KW)
+unfolding idOf
+keyword i a = go (eqb i kinds.GLOBAL-KW) (eqb i kinds.PRIVATE-KW) (eqb i kinds.RULE-KW) (eqb→eq i kinds.GLOBAL-KW) (eqb→eq i kinds.PRIVATE-KW) (eqb→eq i kinds.RULE-KW)
+  where
+    go : (x y z : Bool) → (T x → i ≡ kinds.GLOBAL-KW) → (T y → i ≡ kinds.PRIVATE-KW) → (T z → i ≡ kinds.RULE-KW) → _≡_ {A = Option ℕ} (elim x [ true ↦ some kinds.GLOBAL-KW | false ↦ elim y [ true ↦ some kinds.PRIVATE-KW | false ↦ elim z [ true ↦ some kinds.RULE-KW | false ↦ none ] ] ]) (some a) → (i ≡ kinds.GLOBAL-KW) ⊎ (i ≡ kinds.PRIVATE-KW) ⊎ (i ≡ kinds.RULE-KW)
+    go true y z p q r e = inl (p tt)
+    go false true z p q r e = inr (inl (q tt))
+    go false false true p q r e = inr (inr (r tt))
+    go false false false p q r e = never cc
+
+-- the rule's first rows
+module _ (d : ℕ) (call : Bool → Production → Reader) (cg : (o : Bool) (a : Production) (s : State) → Grown s (call o a s)) (ck : (o : Bool) (a : Production) (s : State) → (call o a s) .mode ≡ ok → size (call o a s) < size s) where
+  abbrev first-two : State → State
+  first-two s = eats (kinds.RULE-KW ∷ []) (kinds.RULE-KW ∷ []) (opts (call true RULE-MODS) s)
+
+  opts-end : (s : State) → Running ((opts (call true RULE-MODS) (turn ok s)) .mode) → let u : State = opts (call true RULE-MODS) (turn ok s) in (u .mode ≡ ok) × ((size u < size s) ⊎ ((u .rest ≡ s .rest) × ((call true RULE-MODS (trivia (turn ok s))) .mode ≡ failed)))
+  opts-end s = go ((call true RULE-MODS (trivia (turn ok s))) .mode) (call true RULE-MODS (trivia (turn ok s))) (λ e. omega (arith, ck true RULE-MODS (trivia (turn ok s)) e, ap length (strip-gap ok (s .rest))))
+    where
+      go : (m : Mode) (t : State) → (m ≡ ok → size t < size s) → let u : State = or-else (λ x. x) (turn ok s) (turn m t) in Running (u .mode) → (u .mode ≡ ok) × ((size u < size s) ⊎ ((u .rest ≡ s .rest) × (m ≡ failed)))
+      go ok t h r = (refl, inl (h refl))
+      go failed t h r = (refl, inr (refl, refl))
+      go (stopped w) t h r = absurd r
+
+  eats-end : (u : State) → u .mode ≡ ok → let v : State = eats (kinds.RULE-KW ∷ []) (kinds.RULE-KW ∷ []) u in (size v < size u) ⊎ ((v .rest ≡ u .rest) × (next (kinds.RULE-KW ∷ []) (u .rest) ≡ other)) ⊎ ((v .rest ≡ u .rest) × (next (kinds.RULE-KW ∷ []) (u .rest) ≡ end))
+  eats-end u e = subst (λ (x : State). let v : State = eats (kinds.RULE-KW ∷ []) (kinds.RULE-KW ∷ []) x in (size v < size x) ⊎ ((v .rest ≡ x .rest) × (next (kinds.RULE-KW ∷ []) (x .rest) ≡ other)) ⊎ ((v .rest ≡ x .rest) × (next (kinds.RULE-KW ∷ []) (x .rest) ≡ end))) (sym (as-is u ok (u .rest) e refl)) (go (next (kinds.RULE-KW ∷ []) (u .rest)) refl)
+    where
+      S : List ℕ
+      S = kinds.RULE-KW ∷ []
+
+      go : (x : Next) → next (kinds.RULE-KW ∷ []) (u .rest) ≡ x → let v : State = eat-row (kinds.RULE-KW ∷ []) x (turn ok u) in (size v < size u) ⊎ ((v .rest ≡ u .rest) × (x ≡ other)) ⊎ ((v .rest ≡ u .rest) × (x ≡ end))
+      go end h = inr (inr (refl, refl))
+      go other h = inr (inl (refl, refl))
+      go (hit a is) h = inl (eat-row-small (kinds.RULE-KW ∷ []) (kinds.RULE-KW ∷ []) (turn ok u) (hit a is) h refl)
+
+begin-ok : (d : ℕ) (s : State) → s .mode ≡ ok → Running ((begin d s) .mode) → (begin d s) .mode ≡ ok
+begin-ok d s e r = charge-mode d (s .fuel) (trivia s) r ∙ e
+
+pub gap-ok : (m : Mode) (r : List ℕ) → m ≡ ok → gap m r ≡ skip r
+gap-ok ok r e = refl
+gap-ok failed r e = not-failed e
+gap-ok (stopped w) r e = not-stopped w e
+
+begin-rows : (d : ℕ) (s : State) (i : ℕ) (is : List ℕ) → skip (i ∷ is) ≡ i ∷ is → s .mode ≡ ok → s .rest ≡ i ∷ is → (begin d s) .rest ≡ i ∷ is
+begin-rows d s i is k e h = charge-rest d (s .fuel) (trivia s) ∙ gap-ok (s .mode) (s .rest) e ∙ ap skip h ∙ k
+
+pub exec-grows : (d : ℕ) (p : Prog) (o : Bool) (s : State) → Grown s (exec d (run d) p o s)
+exec-grows d p o s = exec-kept (ordered Grown grown) d (run d) (grows d) p o s
+
+-- a production that starts at a row that is no trivia: its grammar is run there
+starting : (d : ℕ) (o : Bool) (a : Production) (s : State) (i : ℕ) (is : List ℕ) → skip (i ∷ is) ≡ i ∷ is → s .mode ≡ ok → s .rest ≡ i ∷ is → Running ((run (suc d) o a s) .mode) → let t : State = begin (suc d) s in (t .mode ≡ ok) × (t .rest ≡ i ∷ is)
+starting d o a s i is k e h r =
+    let t : State = begin (suc d) s in
+    let f : Reader = exec d (run d) (grammar a) o in
+    let x = running-before (f t) (finish o (kind a) (length (t .rest)) (f t)) (finish-up Grown grown o (kind a) (length (t .rest)) (f t)) r in
+    (begin-ok (suc d) s e (running-before t (f t) (exec-grows d (grammar a) o t) x), begin-rows (suc d) s i is k e h)
+
+-- the modifiers do not fail at `private` or `global`
+abbrev Mods : ℕ → Type 0
+Mods i = (d : ℕ) (is : List ℕ) (s : State) → s .mode ≡ ok → s .rest ≡ i ∷ is → (run d true RULE-MODS s) .mode ≡ failed → ⊥
+
+mods-at : (i : ℕ) → ((is : List ℕ) → skip (i ∷ is) ≡ i ∷ is) → ((d : ℕ) (call : Bool → Production → Reader) (is : List ℕ) (s : State) → (exec d call (grammar RULE-MODS) true (turn ok (put (i ∷ is) (s .out) s))) .mode ≡ failed → ⊥) → Mods i
+mods-at i k m zero is s e h b = run-zero true RULE-MODS s (subst Running (sym b) tt)
+mods-at i k m (suc d) is s e h b =
+    let t : State = begin (suc d) s in
+    let f : Reader = exec d (run d) (grammar RULE-MODS) true in
+    let x = starting d true RULE-MODS s i is (k is) e h (subst Running (sym b) tt) in
+    m d (run d) is t (ap (λ (y : State). (f y) .mode) (sym (as-is t ok (i ∷ is) (x .0) (x .1))) ∙ finish-failed true (kind RULE-MODS) (length (t .rest)) (f t) b)
+
+past-private : Mods kinds.PRIVATE-KW
+past-private = mods-at kinds.PRIVATE-KW (λ is. refl) mods-private
+
+past-global : Mods kinds.GLOBAL-KW
+past-global = mods-at kinds.GLOBAL-KW (λ is. refl) mods-global
+
+run-takes : (d : ℕ) (s : State) (i : ℕ) (is : List ℕ) → skip (i ∷ is) ≡ i ∷ is → (Mods i ⊎ (next (kinds.RULE-KW ∷ []) (i ∷ is) ≡ other → ⊥)) → s .mode ≡ ok → s .rest ≡ i ∷ is → Running ((run d false RULE-DECL s) .mode) → size (run d false RULE-DECL s) < size s
+unfolding grammar idOf for-rest
+run-takes zero s i is k m e h r = absurd (run-zero false RULE-DECL s r)
+run-takes (suc d) s i is k m e h r = by-two (eats-end d (run d) (grows d) (λ o b x z. run-ok d o b x z .1) u (ou .0)) (ou .1)
+  where
+    t : State
+    t = begin (suc d) s
+
+    u : State
+    u = opts (run d true RULE-MODS) (begin (suc d) s)
+
+    v : State
+    v = first-two d (run d) (grows d) (λ o b x z. run-ok d o b x z .1) (begin (suc d) s)
+
+    w : State
+    w = run (suc d) false RULE-DECL s
+
+    x : ((begin (suc d) s) .mode ≡ ok) × ((begin (suc d) s) .rest ≡ i ∷ is)
+    x = starting d false RULE-DECL s i is k e h r
+
+    vg : Grown v w
+    vg = let f : State = exec d (run d) (grammar RULE-DECL) false t in grown .trans v f w (exec-grows d (for-rest (for-rest (grammar RULE-DECL))) false v) (finish-up Grown grown false (kind RULE-DECL) (length (t .rest)) f)
+
+    ug : Grown u v
+    ug = exec-grows d (one kinds.RULE-KW) false u
+
+    tu : Grown t u
+    tu = exec-grows d (opt (node RULE-MODS)) false t
+
+    ou : (u .mode ≡ ok) × ((size u < size t) ⊎ ((u .rest ≡ t .rest) × ((run d true RULE-MODS (trivia (turn ok t))) .mode ≡ failed)))
+    ou = subst (λ (y : State). Running ((opts (run d true RULE-MODS) y) .mode) → ((opts (run d true RULE-MODS) y) .mode ≡ ok) × ((size (opts (run d true RULE-MODS) y) < size t) ⊎ (((opts (run d true RULE-MODS) y) .rest ≡ t .rest) × ((run d true RULE-MODS (trivia (turn ok t))) .mode ≡ failed)))) (sym (as-is t ok (t .rest) (x .0) refl)) (opts-end d (run d) (grows d) (λ o b x z. run-ok d o b x z .1) t) (running-before u w (grown .trans u v w ug vg) r)
+
+    ws : size w ≤ size v
+    ws = strip-end (w .rest) (v .rest) (vg .rows)
+
+    ts : size t ≡ size s
+    ts = ap length (ap strip (x .1 ∙ sym h))
+
+    us : size u ≤ size t
+    us = strip-end (u .rest) (t .rest) (tu .rows)
+
+    by-other : next (kinds.RULE-KW ∷ []) (u .rest) ≡ other → v .rest ≡ u .rest → (size u < size t) ⊎ ((u .rest ≡ t .rest) × ((run d true RULE-MODS (trivia (turn ok t))) .mode ≡ failed)) → size w < size s
+    by-other n q (inl z) = omega (arith, ws, ts, us, ap (λ (l : List ℕ). length (strip l)) q)
+    by-other n q (inr z) = absurd (go m)
+      where
+        go : Mods i ⊎ (next (kinds.RULE-KW ∷ []) (i ∷ is) ≡ other → ⊥) → ⊥
+        go (inl a) = a d is (trivia (turn ok t)) refl (ap skip (x .1) ∙ k) (z .1)
+        go (inr a) = a (ap (next (kinds.RULE-KW ∷ [])) (sym (z .0 ∙ x .1)) ∙ n)
+
+    by-end : next (kinds.RULE-KW ∷ []) (u .rest) ≡ end → v .rest ≡ u .rest → (size u < size t) ⊎ ((u .rest ≡ t .rest) × ((run d true RULE-MODS (trivia (turn ok t))) .mode ≡ failed)) → size w < size s
+    by-end n q (inl z) = omega (arith, ws, ts, us, ap (λ (l : List ℕ). length (strip l)) q)
+    by-end n q (inr z) = nil-cons (sym (ap skip (z .0 ∙ x .1) ∙ k) ∙ sought-end (kinds.RULE-KW ∷ []) (skip (u .rest)) n)
+
+    by-two : (size v < size u) ⊎ ((v .rest ≡ u .rest) × (next (kinds.RULE-KW ∷ []) (u .rest) ≡ other)) ⊎ ((v .rest ≡ u .rest) × (next (kinds.RULE-KW ∷ []) (u .rest) ≡ end)) → (size u < size t) ⊎ ((u .rest ≡ t .rest) × ((run d true RULE-MODS (trivia (turn ok t))) .mode ≡ failed)) → size w < size s
+    by-two (inl z) p = omega (arith, ws, ts, us)
+    by-two (inr (inl z)) p = by-other (z .1) (z .0) p
+    by-two (inr (inr z)) p = by-end (z .1) (z .0) p
+
+pub skip-skip : (r : List ℕ) → skip (skip r) ≡ skip r
+skip-skip [] = refl
+skip-skip (i ∷ is) = go (trivial i) refl (skip-skip is)
+  where
+    go : (b : Bool) → trivial i ≡ b → skip (skip is) ≡ skip is → skip (elim b as (λ _. List ℕ) [ true ↦ skip is | false ↦ i ∷ is ]) ≡ elim b as (λ _. List ℕ) [ true ↦ skip is | false ↦ i ∷ is ]
+    go true e h = h
+    go false e h = ap (λ (c : Bool). elim c as (λ _. List ℕ) [ true ↦ skip is | false ↦ i ∷ is ]) e
+
+pick-of : (S : List ℕ) (i a : ℕ) (is js : List ℕ) → sought S (i ∷ js) ≡ hit a is → pick S i ≡ some a
+pick-of S i a is js = go (pick S i)
+  where
+    go : (x : Option ℕ) → _≡_ {A = Next} (elim x [ none ↦ other | some b ↦ hit b js ]) (hit a is) → x ≡ some a
+    go none e = never cc
+    go (some b) e = cc
+
+-- a rule keyword is next: reading the rule takes a row
+pub rule-takes : (L : Limits) (s : State) (a : ℕ) (is : List ℕ) → s .mode ≡ ok → sought rule-keywords (s .rest) ≡ hit a is → Running ((read-rule L s) .mode) → size (read-rule L s) < size s
+unfolding read-rule idOf for-rest
+rule-takes L s a is e h r =
+    let q = sought-hit rule-keywords (s .rest) a is h in
+    go (q .0) (q .1) (keyword (q .0) a (pick-of rule-keywords (q .0) a is is (ap (sought rule-keywords) (sym (q .1)) ∙ h)))
+  where
+    u : State
+    u = run (L .depth) false RULE-DECL s
+
+    K : List ℕ
+    K = kinds.GLOBAL-KW ∷ kinds.PRIVATE-KW ∷ kinds.RULE-KW ∷ kinds.IMPORT-KW ∷ kinds.INCLUDE-KW ∷ []
+
+    ug : Grown u (read-rule L s)
+    ug = exec-grows (L .depth) (for-rest rule-decl) false u
+
+    ru : Running ((run (L .depth) false RULE-DECL s) .mode)
+    ru = running-before u (read-rule L s) (exec-grows (L .depth) (for-rest rule-decl) false (run (L .depth) false RULE-DECL s)) r
+
+    down : size (run (L .depth) false RULE-DECL s) < size s → size (read-rule L s) < size s
+    down z = omega (arith, z, strip-end ((read-rule L s) .rest) ((run (L .depth) false RULE-DECL s) .rest) ((exec-grows (L .depth) (for-rest rule-decl) false (run (L .depth) false RULE-DECL s)) .rows))
+
+    at-rule : (x : ℕ) → x ≡ kinds.RULE-KW → next (kinds.RULE-KW ∷ []) (x ∷ is) ≡ other → ⊥
+    at-rule x z n = let y : hit kinds.RULE-KW is ≡ other = ap (λ (j : ℕ). next (kinds.RULE-KW ∷ []) (j ∷ is)) (sym z) ∙ n in never cc
+
+    still : (i j : ℕ) → i ≡ j → skip (j ∷ is) ≡ j ∷ is → skip (i ∷ is) ≡ i ∷ is
+    still i j z k = subst (λ (x : ℕ). skip (x ∷ is) ≡ x ∷ is) (sym z) k
+
+    go : (i : ℕ) → s .rest ≡ i ∷ is → (i ≡ kinds.GLOBAL-KW) ⊎ (i ≡ kinds.PRIVATE-KW) ⊎ (i ≡ kinds.RULE-KW) → size (read-rule L s) < size s
+    go i z (inl y) = down (run-takes (L .depth) s i is (still i kinds.GLOBAL-KW y refl) (inl (subst Mods (sym y) past-global)) e z ru)
+    go i z (inr (inl y)) = down (run-takes (L .depth) s i is (still i kinds.PRIVATE-KW y refl) (inl (subst Mods (sym y) past-private)) e z ru)
+    go i z (inr (inr y)) = down (run-takes (L .depth) s i is (still i kinds.RULE-KW y refl) (inr (at-rule i y)) e z ru)
+
+pub rule-rows : (L : Limits) (s : State) → End ((read-rule L s) .rest) (s .rest)
+unfolding read-rule
+rule-rows L s = (exec-grows (L .depth) rule-decl false s) .rows
+
+-- a stray item takes its first row
+pub stray-takes : (s : State) → skip (s .rest) ≡ s .rest → sought rule-keywords (s .rest) ≡ other → length ((stray-item s) .rest) < length (s .rest)
+stray-takes s = go (s .rest)
+  where
+    go : (r : List ℕ) → skip r ≡ r → sought rule-keywords r ≡ other → length (seek rule-keywords r) < length r
+    go [] k e = never cc
+    go (i ∷ is) k e = at (past (next rule-keywords (i ∷ is))) (ap past (ap (sought rule-keywords) k ∙ e))
+      where
+        at : (b : Bool) → b ≡ false → length {A = ℕ} (elim b as (λ _. List ℕ) [ true ↦ i ∷ is | false ↦ seek rule-keywords is ]) < suc (length is)
+        at true z = never cc
+        at false z = omega (arith, end-length (seek rule-keywords is) is (seek-end rule-keywords is))
+
+-- THE THEOREM: every item that does not stop the reader takes at least one row
+pub item-takes : (L : Limits) (s : State) (i : ℕ) (is : List ℕ) → s .mode ≡ ok → s .rest ≡ i ∷ is → Running ((item L s) .mode) → length ((item L s) .rest) < length (s .rest)
+item-takes L s i is e h r = go (sought rule-keywords ((trivia s) .rest)) refl r
+  where
+    t : State
+    t = trivia s
+
+    ts : length ((trivia s) .rest) ≤ length (s .rest)
+    ts = end-length ((trivia s) .rest) (s .rest) (gap-end (s .mode) (s .rest))
+
+    go : (x : Next) → sought rule-keywords ((trivia s) .rest) ≡ x → let v : State = again (flush (item-at L x (trivia s))) in Running (v .mode) → length (v .rest) < length (s .rest)
+    go end n r = let z = after-item (trivia s) (again-running (trivia s) r) in omega (arith, ap length (z .1), ap length (sought-end rule-keywords ((trivia s) .rest) n), ap length h)
+    go other n r =
+        let u : State = stray-item (trivia s) in
+        let z = after-item u (again-running u r) in
+        omega (arith, ts, ap length (z .1), stray-takes (trivia s) (ap skip (gap-ok (s .mode) (s .rest) e) ∙ skip-skip (s .rest) ∙ sym (gap-ok (s .mode) (s .rest) e)) n)
+    go (hit a js) n r =
+        let u : State = read-rule L (trivia s) in
+        let z = after-item u (again-running u r) in
+        let k = rule-takes L (trivia s) a js e n (again-running u r) in
+        omega (arith, ts, ap length (z .1), fewer (u .rest) ((trivia s) .rest) (rule-rows L (trivia s)) k)

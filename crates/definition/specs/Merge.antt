@@ -1,0 +1,125 @@
+-- The merger (document 01, module 8): "The merger removes each ERROR end directly followed by an ERROR begin. The surviving begin carries the
+-- least start and greatest end of the begins joined; every ERROR end is written with its begin's span."
+use Prim.Native.Nat.{ℕ, zero, suc, _*_, _-_, _%_, min, max}
+use mathlib.Core.List.{List, [], _∷_, _++_}
+use mathlib.Core.Bool.{Bool, true, false, _&&_}
+use lib.Dec.{eqb, leb}
+use lib.ListN.{length, replicate}
+use Rattle.kinds.specs.Kinds as k
+use Rattle.definition.specs.Render.{Quad, flat}
+
+-- the events, four numbers each; what is left over is none
+abbrev pub quads : List ℕ → List Quad
+quads [] = []
+quads (a ∷ []) = []
+quads (a ∷ b ∷ []) = []
+quads (a ∷ b ∷ c ∷ []) = []
+quads (a ∷ b ∷ c ∷ d ∷ l) = (a, b, c, d) ∷ quads l
+
+-- refusal 9: "event numbers not a multiple of 4, or a sort outside 1..4"
+abbrev pub sorts : List Quad → Bool
+sorts [] = true
+sorts (e ∷ es) = leb 1 (e .0) && leb (e .0) 4 && sorts es
+
+abbrev pub well-formed : List ℕ → Bool
+well-formed l = eqb (length l % 4) 0 && sorts (quads l)
+
+-- an ERROR begin is of sort 1, an ERROR end of sort 3
+abbrev pub error-of : ℕ → Quad → Bool
+error-of s e = eqb (e .0) s && eqb (e .1) k.ERROR
+
+abbrev pub Span : Type 0
+Span = ℕ × ℕ
+
+-- what the events are to the merger: an ERROR begin opens a node, an ERROR end directly followed by an ERROR begin joins the two nodes, any other
+-- ERROR end closes one, and every other event is kept
+pub data Mark : Type 0 where
+  opens : Span → Mark
+  joins : Span → Mark
+  closes : Mark
+  keeps : Quad → Mark
+
+-- an ERROR end, with what follows it
+abbrev pub ended : List Mark → List Mark
+ended [] = closes ∷ []
+ended (opens z ∷ ms) = joins z ∷ ms
+ended (joins z ∷ ms) = closes ∷ joins z ∷ ms
+ended (closes ∷ ms) = closes ∷ closes ∷ ms
+ended (keeps e ∷ ms) = closes ∷ keeps e ∷ ms
+
+-- e is an ERROR begin, or an ERROR end, or neither
+abbrev pub marked : Bool → Bool → Quad → List Mark → List Mark
+marked true t e ms = opens (e .2, e .3) ∷ ms
+marked false true e ms = ended ms
+marked false false e ms = keeps e ∷ ms
+
+abbrev pub marks : List Quad → List Mark
+marks [] = []
+marks (e ∷ es) = marked (error-of 1 e) (error-of 3 e) e (marks es)
+
+-- refusal 10: "an ERROR end with none open, or an ERROR begin never closed"; h are open
+abbrev pub paired : List Mark → ℕ → Bool
+paired [] zero = true
+paired [] (suc h) = false
+paired (opens z ∷ ms) h = paired ms (suc h)
+paired (joins z ∷ ms) zero = false
+paired (joins z ∷ ms) (suc h) = paired ms (suc h)
+paired (closes ∷ ms) zero = false
+paired (closes ∷ ms) (suc h) = paired ms h
+paired (keeps e ∷ ms) h = paired ms h
+
+abbrev pub widened : Span → Span → Span
+widened z y = (min (z .0) (y .0), max (z .1) (y .1))
+
+-- "the least start and greatest end of the begins joined": of a node that is open, z so far, with h open inside it
+abbrev pub reach : List Mark → ℕ → Span → Span
+reach [] h z = z
+reach (opens y ∷ ms) h z = reach ms (suc h) z
+reach (joins y ∷ ms) zero z = reach ms zero (widened z y)
+reach (joins y ∷ ms) (suc h) z = reach ms (suc h) z
+reach (closes ∷ ms) zero z = z
+reach (closes ∷ ms) (suc h) z = reach ms h z
+reach (keeps e ∷ ms) h z = reach ms h z
+
+abbrev pub error-event : ℕ → Span → Quad
+error-event s z = (s, k.ERROR, z .0, z .1)
+
+-- the finished list; st has the spans of the nodes that are open. An end with none open is refused, and its clause is never met
+abbrev pub merge : List Mark → List Span → List Quad
+merge [] st = []
+merge (opens y ∷ ms) st = error-event 1 (reach ms 0 y) ∷ merge ms (reach ms 0 y ∷ st)
+merge (joins y ∷ ms) st = merge ms st
+merge (closes ∷ ms) [] = merge ms []
+merge (closes ∷ ms) (z ∷ st) = error-event 3 z ∷ merge ms st
+merge (keeps e ∷ ms) st = e ∷ merge ms st
+
+abbrev pub finished : List ℕ → List Quad
+finished l = merge (marks (quads l)) []
+
+pub data Merged : Type 0 where
+  unmerged : ℕ → Merged
+  merged : List Quad → Merged
+
+-- n where t does not hold
+abbrev pub refusing : ℕ → Bool → Merged → Merged
+refusing n true m = m
+refusing n false m = unmerged n
+
+-- "The merger checks 9, 10, then 7 for its finished list"; room is the length of what is lent
+abbrev pub merger : List ℕ → ℕ → Merged
+merger l room = refusing 9 (well-formed l) (refusing 10 (paired (marks (quads l)) 0) (refusing 7 (leb (4 * length (finished l)) room) (merged (finished l))))
+
+-- THE PUBLIC ANSWER: "A refusal returns its number and zeros" and leaves all as lent; "the merger: its count of events", and "cells past the
+-- finished lists [..] are zero". The number is 0 where nothing is refused.
+pub record Returned : Type 0 where
+  pub number : ℕ
+  pub count : ℕ
+  pub room : List ℕ
+
+abbrev pub returned : List ℕ → Merged → Returned
+returned room (unmerged n) = record { number = n; count = 0; room = room }
+returned room (merged es) = record { number = 0; count = length es; room = flat es ++ replicate (length room - 4 * length es) 0 }
+
+-- of the event numbers and the room, as lent
+abbrev pub merging : List ℕ → List ℕ → Returned
+merging events room = returned room (merger events (length room))

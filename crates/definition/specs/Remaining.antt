@@ -1,0 +1,119 @@
+-- Demand 3's words: "Whenever the reader, not stopped, stands between two items with fuel f left, what it writes up to the closing SOURCE_FILE
+-- event is what demand 2 gives inside SOURCE_FILE for the remaining rows as a file of their own with fuel f, places and record numbers shifted."
+use Prim.Native.Nat.{ℕ, suc, _+_, _-_}
+use mathlib.Core.Path.{_≡_}
+use mathlib.Core.List.{List, [], _∷_, _++_, map}
+use mathlib.Core.Bool.{true, false}
+use mathlib.Core.Option.{none}
+use lib.Dec.{eqb}
+use lib.ListN.{length, getD, drop}
+use Rattle.kinds.specs.Kinds as k
+use Rattle.kinds.specs.Sets.{kindOf, pick, trivial}
+use Rattle.definition.specs.Run.{State, Limits, Mode, ok, failed, stopped, rule-keywords, start, items}
+use Rattle.definition.specs.Render.{Source, starts-at, ends-at, span-end, Reading, Quad, Rec, inside, records}
+use Rattle.definition.specs.Answer.{Desk, source-of}
+
+-- "not stopped"
+abbrev pub Running : Mode → Type 0
+Running ok = Unit
+Running failed = Unit
+Running (stopped w) = ⊥
+
+-- where the reader stands after n items; behind the last it stays
+abbrev pub standing : Limits → Desk → ℕ → State
+standing L d n = items L n (start (d .ids) (d .fuel))
+
+-- how many rows are before it, and where the next of them begins
+abbrev pub rows-before : Desk → State → ℕ
+rows-before d s = length (d .ids) - length (s .rest)
+
+abbrev pub place : Desk → State → ℕ
+place d s = getD (0 ∷ d .ends) (rows-before d s) 0
+
+-- what it has written inside SOURCE_FILE, and the error records
+abbrev pub written : Desk → State → List Quad
+written d s = inside (source-of d) (s .out)
+
+abbrev pub recorded : Limits → Desk → State → List Rec
+recorded L d s = records L (source-of d) (s .out) []
+
+-- places counted from p on
+abbrev pub back-by : ℕ → List ℕ → List ℕ
+back-by p l = map (λ i. i - p) l
+
+-- "the remaining rows as a file of their own with fuel f", lent what one likes
+abbrev pub remaining : Desk → State → List ℕ → List ℕ → List ℕ → Desk
+remaining d s scratch events errors =
+    record {
+      bytes = drop (place d s) (d .bytes);
+      ids = drop (rows-before d s) (d .ids);
+      starts = back-by (place d s) (drop (rows-before d s) (d .starts));
+      ends = back-by (place d s) (drop (rows-before d s) (d .ends));
+      fuel = s .fuel;
+      scratch = scratch;
+      events = events;
+      errors = errors;
+    }
+
+-- "places and record numbers shifted": by p places and c records
+abbrev pub shift : ℕ → ℕ → Quad → Quad
+shift p c q = (q .0, elim (eqb (q .0) 4) as (λ _. ℕ) [ true ↦ q .1 + c | false ↦ q .1 ], p + q .2, p + q .3)
+
+abbrev pub shifts : ℕ → ℕ → List Quad → List Quad
+shifts p c [] = []
+shifts p c (q ∷ l) = shift p c q ∷ shifts p c l
+
+abbrev pub shift-records : ℕ → List Rec → List Rec
+shift-records p [] = []
+shift-records p (q ∷ l) = (p + q .0, p + q .1, q .2, q .3) ∷ shift-records p l
+
+-- a list "inside SOURCE_FILE", z the source's length
+abbrev pub in-file : ℕ → List Quad → List Quad
+in-file z l = (1, k.SOURCE-FILE, 0, z) ∷ l ++ ((3, k.SOURCE-FILE, 0, z) ∷ [])
+
+-- r is the desk's reading, r′ that of the remaining rows where the reader stands at s
+pub record Continued (L : Limits) (d : Desk) (s : State) (r r′ : Reading) : Type 0 where
+  pub outcome : r .outcome ≡ r′ .outcome
+  pub covered : r .covered ≡ rows-before d s + r′ .covered
+  pub left : r .left ≡ r′ .left
+  pub inner : List Quad
+  pub alone : r′ .events ≡ in-file (length (d .bytes) - place d s) inner
+  pub events : r .events ≡ in-file (length (d .bytes)) (written d s ++ shifts (place d s) (length (recorded L d s)) inner)
+  pub errors : r .errors ≡ recorded L d s ++ shift-records (place d s) (r′ .errors)
+
+-- "none of those keywords in it"
+abbrev pub Keyless : List ℕ → Type 0
+Keyless [] = Unit
+Keyless (i ∷ is) = (pick rule-keywords i ≡ none) × Keyless is
+
+-- not empty, and its last row is no trivia
+abbrev pub Solid : List ℕ → Type 0
+Solid [] = ⊥
+Solid (i ∷ []) = trivial i ≡ false
+Solid (i ∷ j ∷ js) = Solid (j ∷ js)
+
+-- the events of the rows j, before the rows r
+abbrev pub tokens : Source → List ℕ → List ℕ → List Quad
+tokens x [] r = []
+tokens x (i ∷ j) r = let n = suc (length (j ++ r)) in (2, kindOf i, starts-at x n, ends-at x n) ∷ tokens x j r
+
+-- "one error, one ERROR node": the run j before the rows r, c records before it
+abbrev pub junk-error : Source → List ℕ → List ℕ → Rec
+junk-error x j r = let n = length (j ++ r) in (starts-at x n, ends-at x n, 10, [])
+
+abbrev pub junk-events : Source → ℕ → List ℕ → List ℕ → List Quad
+junk-events x c j r =
+    let n = length (j ++ r) in
+    let a = starts-at x n in
+    let z = span-end x n (length r) in
+    (4, c, a, ends-at x n) ∷ (1, k.ERROR, a, z) ∷ tokens x j r ++ ((3, k.ERROR, a, z) ∷ [])
+
+-- v is where the reader stands behind the run: not stopped, with the fuel that it had
+pub record Junk (L : Limits) (d : Desk) (s v : State) (j r : List ℕ) : Type 0 where
+  pub going : Running (v .mode)
+  pub stands : v .rest ≡ r
+  pub fuel : v .fuel ≡ s .fuel
+  pub gap : List ℕ
+  pub front : s .rest ≡ gap ++ (j ++ r)
+  pub errors : recorded L d v ≡ recorded L d s ++ (junk-error (source-of d) j r ∷ [])
+  pub events : written d v ≡ written d s ++ (tokens (source-of d) gap (j ++ r) ++ junk-events (source-of d) (length (recorded L d s)) j r)

@@ -1,0 +1,14 @@
+pub mod Fuel
+pub mod Trail
+pub mod Answered
+pub mod Rooms
+pub mod Drafts
+pub mod Stands
+pub mod Junk
+pub mod Joined
+pub mod Matched
+pub mod Least
+pub mod Bound
+pub mod Stops
+pub mod Remaining
+pub mod Demands

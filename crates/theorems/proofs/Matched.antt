@@ -1,0 +1,283 @@
+-- An unexpected row is one that was matched inside `not`, so it is a row of the file and has text: form 5 ("Unexpected: 5 empty") cannot occur.
+use Prim.Native.Nat.{ℕ, zero, suc, _+_, _-_, _≤_, _<_, min}
+use mathlib.Core.Path.{_≡_, refl, ap, sym, _∙_, subst}
+use mathlib.Core.List.{List, [], _∷_, _++_}
+use mathlib.Core.Bool.{Bool, true, false, _&&_}
+use mathlib.Core.Option.{Option, none, some}
+use lib.Dec.{eqb, ltb, T, eqb→eq, ltb→lt}
+use lib.ListN.{length, getD, take, drop, length-take, length-drop}
+use native.Mathlib.Omega.{arith}
+use Rattle.kinds.specs.Kinds as kinds
+use Rattle.kinds.specs.Sets.{kindOf, trivial}
+use Rattle.utf8.specs.Utf8.{utf8}
+use Rattle.definition.specs.Grammar.{rule-decl}
+use Rattle.definition.specs.Run.{State, Reader, Limits, Event, opened, leaf, closed, bad, Choice, wanted, unwanted, stray, Mode, ok, failed, stopped, Next, end, other, hit, next, sought, skip, past, trivia-out, trivia, seek, seek-out, skip-to, turn, put, begin, finish, nodes, furthest, pending, add, decide, choose, errors, run, rule-keywords, read-rule, stray-item, item-at, flush, again, item, items, start, read}
+use Rattle.definition.specs.Render.{Source, starts-at, ends-at, id-at, text-at, form-found, form-slash, form-unknown, form-wanted, form-unwanted, form-of, Rec, record-of, records, Reading}
+use Rattle.definition.specs.Answer.{Desk, tile, answer, given, source-of}
+use Rattle.definition.proofs.Every.{and-left, and-right, never}
+use Rattle.definition.proofs.Gap.{gap-out}
+use Rattle.definition.proofs.Induct.{exec-kept, run-kept}
+use Rattle.definition.proofs.Order.{Steps, stepped}
+use Rattle.definition.proofs.Grows.{sought-hit}
+use Rattle.definition.proofs.Tidy.{Ins, charge-same, read-tidy}
+use Rattle.definition.proofs.Cut.{Rows, rows-of}
+use Rattle.theorems.proofs.Answered.{given-is}
+
+-- what is unexpected is a row, not the source's end
+abbrev Row : ℕ → Choice → Type 0
+Row n (wanted ns) = Unit
+Row n unwanted = 1 ≤ n
+Row n stray = Unit
+
+abbrev Unwanted : Option ℕ → Type 0
+Unwanted none = Unit
+Unwanted (some u) = 1 ≤ u
+
+abbrev Chosen : List (ℕ × Choice) → Type 0
+Chosen [] = Unit
+Chosen (e ∷ es) = Row (e .0) (e .1) × Chosen es
+
+abbrev Written : List Event → Type 0
+Written [] = Unit
+Written (opened n ∷ es) = Written es
+Written (leaf a n ∷ es) = Written es
+Written (closed a n m ∷ es) = Written es
+Written (bad n c ∷ es) = Row n c × Written es
+
+record Rowed (s : State) : Type 0 where
+  pub unwants : Unwanted (s .unwant)
+  pub chose : Chosen (s .chosen)
+  pub wrote : Written (s .out)
+
+abbrev Keeps : State → State → Type 0
+Keeps s t = Rowed s → Rowed t
+
+alike : (s t : State) → t .unwant ≡ s .unwant → t .chosen ≡ s .chosen → (Written (s .out) → Written (t .out)) → Keeps s t
+alike s t a b w i = record { unwants = subst Unwanted (sym a) (i .unwants); chose = subst Chosen (sym b) (i .chose); wrote = w (i .wrote) }
+
+furthest-row : (r : ℕ) (u : Option ℕ) → 1 ≤ r → Unwanted u → Unwanted (furthest r u)
+furthest-row r none l h = l
+furthest-row r (some u) l h = go (ltb r u)
+  where
+    go : (a : Bool) → Unwanted (elim a as (λ _. Option ℕ) [ true ↦ some r | false ↦ some u ])
+    go true = l
+    go false = h
+
+chosen-append : (a : List (ℕ × Choice)) (r : ℕ) (c : Choice) → Chosen a → Row r c → Chosen (a ++ ((r, c) ∷ []))
+chosen-append [] r c h l = (l, tt)
+chosen-append (e ∷ a) r c h l = (h .0, chosen-append a r c (h .1) l)
+
+add-row : (r : ℕ) (c : Choice) (es : List (ℕ × Choice)) → Row r c → Chosen es → Chosen (add r c es)
+add-row r c es l h = go (pending r es)
+  where
+    go : (b : Bool) → Chosen (elim b as (λ _. List (ℕ × Choice)) [ true ↦ es | false ↦ es ++ ((r, c) ∷ []) ])
+    go true = h
+    go false = chosen-append es r c h l
+
+decide-row : (w : Option (ℕ × List ℕ)) (u : Option ℕ) (es : List (ℕ × Choice)) → Unwanted u → Chosen es → Chosen (decide w u es)
+decide-row none none es b c = c
+decide-row none (some u) es b c = add-row u unwanted es b c
+decide-row (some w) none es b c = add-row (w .0) (wanted (w .1)) es tt c
+decide-row (some w) (some u) es b c = go (ltb u (w .0))
+  where
+    go : (x : Bool) → Chosen (elim x as (λ _. List (ℕ × Choice)) [ true ↦ add u unwanted es | false ↦ add (w .0) (wanted (w .1)) es ])
+    go true = add-row u unwanted es b c
+    go false = add-row (w .0) (wanted (w .1)) es tt c
+
+choose-keeps : (s : State) → Keeps s (choose s)
+choose-keeps s i = record { unwants = tt; chose = decide-row (s .want) (s .unwant) (s .chosen) (i .unwants) (i .chose); wrote = i .wrote }
+
+trivia-writes : (r : List ℕ) (o : List Event) → Written o → Written (trivia-out r o)
+trivia-writes [] o h = h
+trivia-writes (i ∷ is) o h = go (trivial i) (trivia-writes is (leaf i (suc (length is)) ∷ o) h)
+  where
+    go : (b : Bool) → Written (trivia-out is (leaf i (suc (length is)) ∷ o)) → Written (elim b as (λ _. List Event) [ true ↦ trivia-out is (leaf i (suc (length is)) ∷ o) | false ↦ o ])
+    go true g = g
+    go false g = h
+
+gap-writes : (m : Mode) (r : List ℕ) (o : List Event) → Written o → Written (gap-out m r o)
+gap-writes ok r o h = trivia-writes r o h
+gap-writes failed r o h = h
+gap-writes (stopped w) r o h = h
+
+seek-writes : (S r : List ℕ) (o : List Event) → Written o → Written (seek-out S r o)
+seek-writes S [] o h = h
+seek-writes S (i ∷ is) o h = go (past (next S (i ∷ is))) (seek-writes S is (leaf (kindOf i) (suc (length is)) ∷ o) h)
+  where
+    go : (b : Bool) → Written (seek-out S is (leaf (kindOf i) (suc (length is)) ∷ o)) → Written (elim b as (λ _. List Event) [ true ↦ o | false ↦ seek-out S is (leaf (kindOf i) (suc (length is)) ∷ o) ])
+    go true g = h
+    go false g = g
+
+unexpected-row : (S : List ℕ) (s : State) (a : ℕ) (is : List ℕ) → next S (s .rest) ≡ hit a is → 1 ≤ length (skip (s .rest))
+unexpected-row S s a is h = let q = sought-hit S (skip (s .rest)) a is h in omega (arith, ap length (q .1))
+
+begin-keeps : (d : ℕ) (s : State) → Keeps s (begin d s)
+begin-keeps d s =
+    let c = charge-same 0 d (s .fuel) (trivia s) in
+    alike s (begin d s) (c .1) (c .2) (λ h. subst Written (sym (c .3)) (gap-writes (s .mode) (s .rest) (s .out) h))
+
+finish-keeps : (o : Bool) (a n : ℕ) (s : State) → Keeps s (finish o a n s)
+finish-keeps o a n s = go o (s .mode) s
+  where
+    go : (o : Bool) (m : Mode) (s : State) → Keeps (turn m s) (finish o a n (turn m s))
+    go o ok s i = record { unwants = i .unwants; chose = i .chose; wrote = i .wrote }
+    go true failed s i = record { unwants = i .unwants; chose = i .chose; wrote = i .wrote }
+    go true (stopped w) s i = record { unwants = i .unwants; chose = i .chose; wrote = i .wrote }
+    go false failed s i = let j = choose-keeps (turn failed s) i in record { unwants = tt; chose = j .chose; wrote = i .wrote }
+    go false (stopped w) s i = let j = choose-keeps (turn (stopped w) s) i in record { unwants = tt; chose = j .chose; wrote = i .wrote }
+
+keeping : Steps Keeps
+keeping = record {
+  same = λ s i. i;
+  trans = λ s t u p q i. q (p i);
+  at-turn = λ m s r. alike s (turn m s) refl refl (λ h. h);
+  at-expected = λ ns s. alike s _ refl refl (λ h. h);
+  at-unexpected = λ S s a is h i. record { unwants = furthest-row (length (skip (s .rest))) (s .unwant) (unexpected-row S s a is h) (i .unwants); chose = i .chose; wrote = i .wrote };
+  at-choose = choose-keeps;
+  at-keep = λ r a s. alike s _ refl refl (λ h. h);
+  at-trivia = λ s. alike s (trivia s) refl refl (gap-writes (s .mode) (s .rest) (s .out));
+  at-take = λ S s a is m e. alike s _ refl refl (gap-writes (s .mode) (s .rest) (s .out));
+  at-skip = λ S s. alike s (skip-to S s) refl refl (seek-writes S (s .rest) (s .out));
+  at-back = λ s t p i. let j = p i in record { unwants = j .unwants; chose = j .chose; wrote = i .wrote };
+  at-node = λ d o a f F s i. finish-keeps o a (length ((begin d s) .rest)) (f (begin d s)) (F (begin d s) (begin-keeps d s i));
+}
+
+rule-keeps : (L : Limits) (s : State) → Keeps s (read-rule L s)
+unfolding read-rule
+rule-keeps L s = exec-kept (stepped Keeps keeping) (L .depth) (run (L .depth)) (run-kept (stepped Keeps keeping) (L .depth)) rule-decl false s
+
+stray-keeps : (s : State) → Keeps s (stray-item s)
+stray-keeps s = alike s (stray-item s) refl refl (λ h. seek-writes rule-keywords (s .rest) (opened (length (s .rest)) ∷ bad (length (s .rest)) stray ∷ s .out) (tt, h))
+
+errors-write : (c : List (ℕ × Choice)) (o : List Event) → Chosen c → Written o → Written (errors c o)
+errors-write [] o h g = g
+errors-write (e ∷ c) o h g = errors-write c (bad (e .0) (e .1) ∷ o) (h .1) (h .0, g)
+
+flush-keeps : (u : State) → Keeps u (again (flush u))
+flush-keeps u = go (u .mode) u
+  where
+    go : (m : Mode) (u : State) → Keeps (turn m u) (again (flush (turn m u)))
+    go ok u i = record { unwants = tt; chose = tt; wrote = errors-write (u .chosen) (u .out) (i .chose) (i .wrote) }
+    go failed u i = record { unwants = tt; chose = tt; wrote = errors-write (u .chosen) (u .out) (i .chose) (i .wrote) }
+    go (stopped w) u i = record { unwants = tt; chose = tt; wrote = errors-write (u .chosen) (u .out) (i .chose) (i .wrote) }
+
+item-keeps : (L : Limits) (s : State) → Keeps s (item L s)
+item-keeps L s i = let x : Next = sought rule-keywords ((trivia s) .rest) in flush-keeps (item-at L x (trivia s)) (at x (trivia s) (keeping .at-trivia s i))
+  where
+    at : (x : Next) (t : State) → Keeps t (item-at L x t)
+    at end t i = i
+    at other t i = stray-keeps t i
+    at (hit a is) t i = rule-keeps L t i
+
+items-keep : (L : Limits) (n : ℕ) (s : State) → Keeps s (items L n s)
+items-keep L zero s = λ i. i
+items-keep L (suc n) s = go (s .rest) (s .mode) s (items-keep L n)
+  where
+    go : (r : List ℕ) (o : Mode) (s : State) → ((u : State) → Keeps u (items L n u)) → let t : State = turn o (put r (s .out) s) in Keeps t (items L (suc n) t)
+    go [] o s H i = i
+    go (j ∷ js) failed s H i = i
+    go (j ∷ js) (stopped w) s H i = i
+    go (j ∷ js) ok s H i = let t : State = turn ok (put (j ∷ js) (s .out) s) in H (item L t) (item-keeps L t i)
+
+read-rowed : (L : Limits) (r : List ℕ) (f : ℕ) → Written ((read L r f) .out)
+read-rowed L r f = items-keep L (length r) (start r f) (record { unwants = tt; chose = tt; wrote = tt }) .wrote
+
+-- a row's text
+
+tile-rises : (q z : ℕ) (ss es : List ℕ) → T (tile q z ss es) → (i : ℕ) → i < length es → getD (q ∷ es) i z < getD es i z
+tile-rises q z ss [] t i l = absurd (omega (arith, l))
+tile-rises q z [] (e ∷ es) t i l = absurd t
+tile-rises q z (s ∷ ss) (e ∷ es) t zero l =
+    let u = and-left (eqb s q && ltb s e) (tile e z ss es) t in
+    omega (arith, eqb→eq s q (and-left (eqb s q) (ltb s e) u), ltb→lt s e (and-right (eqb s q) (ltb s e) u))
+tile-rises q z (s ∷ ss) (e ∷ es) t (suc i) l = tile-rises e z ss es (and-right (eqb s q && ltb s e) (tile e z ss es) t) i (omega (arith, l))
+
+tile-within : (q z : ℕ) (ss es : List ℕ) → T (tile q z ss es) → (i : ℕ) → i < length es → getD es i z ≤ z
+tile-within q z ss [] t i l = absurd (omega (arith, l))
+tile-within q z [] (e ∷ es) t i l = absurd t
+tile-within q z (s ∷ ss) (e ∷ []) t zero l = last e z ss (and-right (eqb s q && ltb s e) (tile e z ss []) t)
+  where
+    last : (e z : ℕ) (ss : List ℕ) → T (tile e z ss []) → e ≤ z
+    last e z [] t = omega (arith, eqb→eq e z t)
+    last e z (s ∷ ss) t = absurd t
+tile-within q z (s ∷ ss) (e ∷ f ∷ es) t zero l =
+    let u = and-right (eqb s q && ltb s e) (tile e z ss (f ∷ es)) t in
+    omega (arith, tile-rises e z ss (f ∷ es) u zero (omega arith), tile-within e z ss (f ∷ es) u zero (omega arith))
+tile-within q z (s ∷ ss) (e ∷ es) t (suc i) l = tile-within e z ss es (and-right (eqb s q && ltb s e) (tile e z ss es) t) i (omega (arith, l))
+
+text-there : (d : Desk) → Rows d → (n : ℕ) → 1 ≤ n → n ≤ length (d .ids) → text-at (source-of d) n ≡ [] → ⊥
+text-there d r n l h e =
+    let i : ℕ = length (d .ids) - n in
+    let z : ℕ = length (d .bytes) in
+    let k : i < length (d .ends) = omega (arith, l, h, r .ends-level) in
+    let a = tile-rises 0 z (d .starts) (d .ends) (r .tiled) i k in
+    let b = tile-within 0 z (d .starts) (d .ends) (r .tiled) i k in
+    let from : ℕ = getD (0 ∷ d .ends) i z in
+    let size : ℕ = getD (d .ends) i z - from in
+    omega (arith, a, b, ap length e, length-take size (drop from (d .bytes)), length-drop from (d .bytes))
+
+-- forms
+
+found-no-5 : (L : Limits) (t : List ℕ) → form-found L t ≡ 5 → ⊥
+found-no-5 L [] e = omega (arith, e)
+found-no-5 L (b ∷ bs) e = go (ltb (L .quote) (suc (length bs))) e
+  where
+    go : (x : Bool) → _≡_ {A = ℕ} (elim x as (λ _. ℕ) [ true ↦ 2 | false ↦ 1 ]) 5 → ⊥
+    go true e = omega (arith, e)
+    go false e = omega (arith, e)
+
+slash-no-5 : (t : List ℕ) → form-slash t ≡ 5 → ⊥
+slash-no-5 [] e = omega (arith, e)
+slash-no-5 (b ∷ bs) e = go (eqb b 42) e
+  where
+    go : (x : Bool) → _≡_ {A = ℕ} (elim x as (λ _. ℕ) [ true ↦ 6 | false ↦ 8 ]) 5 → ⊥
+    go true e = omega (arith, e)
+    go false e = omega (arith, e)
+
+unknown-no-5 : (L : Limits) (t : List ℕ) → form-unknown L t ≡ 5 → ⊥
+unknown-no-5 L [] e = found-no-5 L [] e
+unknown-no-5 L (b ∷ bs) e = go (eqb b 47) (eqb b 34) e
+  where
+    go : (x y : Bool) → _≡_ {A = ℕ} (elim x as (λ _. ℕ) [ true ↦ form-slash bs | false ↦ elim y as (λ _. ℕ) [ true ↦ 7 | false ↦ form-found L (b ∷ bs) ] ]) 5 → ⊥
+    go true y e = slash-no-5 bs e
+    go false true e = omega (arith, e)
+    go false false e = found-no-5 L (b ∷ bs) e
+
+form-no-5 : (L : Limits) (i : ℕ) (t : List ℕ) (c : Choice) → (c ≡ unwanted → t ≡ [] → ⊥) → form-of L i t c ≡ 5 → ⊥
+form-no-5 L i t stray h e = omega (arith, e)
+form-no-5 L i t (wanted ns) h e = go (utf8 t) (eqb i kinds.UNKNOWN) e
+  where
+    go : (x y : Bool) → _≡_ {A = ℕ} (elim x as (λ _. ℕ) [ true ↦ elim y as (λ _. ℕ) [ true ↦ form-unknown L t | false ↦ form-found L t ] | false ↦ 9 ]) 5 → ⊥
+    go true true e = unknown-no-5 L t e
+    go true false e = found-no-5 L t e
+    go false y e = omega (arith, e)
+form-no-5 L i t unwanted h e = go t (utf8 t) (h refl) e
+  where
+    go : (t : List ℕ) (x : Bool) → (t ≡ [] → ⊥) → _≡_ {A = ℕ} (elim x as (λ _. ℕ) [ true ↦ form-unwanted t | false ↦ 9 ]) 5 → ⊥
+    go t false h e = omega (arith, e)
+    go [] true h e = h refl
+    go (b ∷ bs) true h e = omega (arith, e)
+
+abbrev pub No-5 : List Rec → Type 0
+No-5 [] = Unit
+No-5 (r ∷ rs) = (r .2 ≡ 5 → ⊥) × No-5 rs
+
+records-no-5 : (L : Limits) (d : Desk) → Rows d → (o : List Event) (l : List Rec) → Written o → Ins (length (d .ids)) o → No-5 l → No-5 (records L (source-of d) o l)
+records-no-5 L d r [] l w i h = h
+records-no-5 L d r (opened n ∷ o) l w i h = records-no-5 L d r o l w (i .1) h
+records-no-5 L d r (leaf a n ∷ o) l w i h = records-no-5 L d r o l w (i .1) h
+records-no-5 L d r (closed a n m ∷ o) l w i h = records-no-5 L d r o l w (i .1) h
+records-no-5 L d r (bad n c ∷ o) l w i h =
+    let x : Source = source-of d in
+    records-no-5 L d r o (record-of L x n c ∷ l) (w .1) (i .1) (form-no-5 L (id-at x n) (text-at x n) c (row c (w .0)), h)
+  where
+    row : (c : Choice) → Row n c → c ≡ unwanted → text-at (source-of d) n ≡ [] → ⊥
+    row unwanted k e z = text-there d r n k (i .0) z
+    row (wanted ns) k e z = never cc
+    row stray k e z = never cc
+
+-- THE THEOREM: no error record has form 5
+pub form-5-never : (L : Limits) (d : Desk) (R : Reading) → answer L d ≡ given R → No-5 (R .errors)
+form-5-never L d R e =
+    let g = given-is L d R e in
+    subst No-5 (sym (ap (λ (r : Reading). r .errors) (g .whole))) (records-no-5 L d (rows-of d (g .unrefused) .0) ((read L (d .ids) (d .fuel)) .out) [] (read-rowed L (d .ids) (d .fuel)) (read-tidy L (d .ids) (d .fuel) .0) tt)
