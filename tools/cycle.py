@@ -8,7 +8,7 @@ import runpy
 import shutil
 import sys
 
-from prove import ROOT, dev, path, places, printed
+from prove import ROOT, dev, path, places, printed, sealed
 
 
 def lines_of(crate, folder):
@@ -43,7 +43,8 @@ def need_text(block, answers, records, callees, out):
 
 def main():
     crate, name = sys.argv[1:3]
-    given = runpy.run_path(str(ROOT / "tools/answers" / crate / f"{name}.py"))
+    answers = ROOT / "tools" / "answers" / crate / f"{name}.py"
+    given = runpy.run_path(str(answers))
     text, where, proof = lines_of(crate, ROOT / "target" / "generated")
     members = re.findall(r"^use \S+\.Lts-(\S+) as (\S+)-lts$", text, flags=re.M)
     records = {m: places((where / f"Lts-{rust}.antt").read_text()) for rust, m in members}
@@ -61,7 +62,7 @@ def main():
         text = re.sub(re.escape(f"{m}-lts.spec") + r"\s*\((?:[^()]|\([^()]*\))*?\)\s*\(" + re.escape(m) + r"-at t\)", f"{m}-lts.spec ({m}-cs t) ({m}-at t)", text, flags=re.S)
     text = re.sub(r"-- src/.*\n", "", text)
     proof.parent.mkdir(parents=True, exist_ok=True)
-    proof.write_text(given["USES"] + text.rstrip() + "\n")
+    proof.write_text(sealed(answers, given["USES"] + text.rstrip() + "\n"))
     print(proof.relative_to(ROOT), text.count("\n"), "lines")
 
 
