@@ -216,9 +216,9 @@ impl Names {
 }
 
 // The names that the codes stand for. They are spelled only here, where an error is chosen.
-fn spelled(notes: &[usize; 67]) -> Names
+fn spelled(notes: &[usize; 68]) -> Names
     requires { ⌜ Coded (now notes) ⌝ }
-    ensures { λ r. ⌜ Spells (m.spelled (take (getD (now (notes .entry)) 2 0) (drop 9 (now (notes .entry))))) r ⌝ }
+    ensures { λ r. ⌜ Spells (m.spelled (take (getD (now (notes .entry)) 2 0) (drop 10 (now (notes .entry))))) r ⌝ }
 {
     let mut l = Names {
         count: 0,
@@ -240,7 +240,7 @@ pub fn record(
     count: usize,
     names: [u8; 96],
     errors: &mut [u32],
-    notes: &mut [usize; 67],
+    notes: &mut [usize; 68],
 ) -> u8
     requires { ⌜ (getD (now notes) 4 0 ≤ getD (now notes) 5 0) × (getD (now notes) 5 0 ≤ length (now errors)) × (count ≤ 85) × (length names ≡ 96) × Coded (now notes) ⌝ }
     ensures { λ r. ⌜ ((s : Whole) → s .full ≡ 0 → Noted (start ∷ end ∷ form ∷ count ∷ take count names) (beside (now (notes .entry)) s) (withFull r (beside (now (notes .exit)) s)) (now (errors .entry)) (now (errors .exit))) ⌝ }
@@ -266,7 +266,7 @@ fn choose_at(
     ids: &[u32],
     ends: &[u32],
     errors: &mut [u32],
-    notes: &mut [usize; 67],
+    notes: &mut [usize; 68],
 ) -> u8
     requires { ⌜ Rows (source (now src) (now ids) (now ends)) × Sound (length (now ids)) (now notes) × (getD (now notes) 5 0 ≤ length (now errors)) × (getD (now notes) 7 0 ≤ at) × (at ≤ length (now ids)) ⌝ }
     ensures { λ r. ⌜ ((s : Whole) → s .full ≡ 0 → Ok (length (now (ids .entry))) (beside (now (notes .entry)) s) → Chose (P.add (length (now (ids .entry)) - at) (choiceOf expected (namesIn (beside (now (notes .entry)) s)))) (source (now (src .entry)) (now (ids .entry)) (now (ends .entry))) (beside (now (notes .entry)) s) (withFull r (beside (now (notes .exit)) s)) (now (errors .entry)) (now (errors .exit))) ⌝ }
@@ -296,7 +296,7 @@ pub fn choose(
     ids: &[u32],
     ends: &[u32],
     errors: &mut [u32],
-    notes: &mut [usize; 67],
+    notes: &mut [usize; 68],
 ) -> u8
     requires { ⌜ Rows (source (now src) (now ids) (now ends)) × Sound (length (now ids)) (now notes) × (getD (now notes) 5 0 ≤ length (now errors)) ⌝ }
     ensures { λ r. ⌜ ((s : Whole) → s .full ≡ full → Ok (length (now (ids .entry))) (beside (now (notes .entry)) s) → Errors P.choose (source (now (src .entry)) (now (ids .entry)) (now (ends .entry))) (beside (now (notes .entry)) s) (withFull r (beside (now (notes .exit)) s)) (now (errors .entry)) (now (errors .exit))) ⌝ }

@@ -66,7 +66,7 @@ pub fn tell(
     before: u32,
     errors: &[u32],
     events: &mut [u32],
-    notes: &mut [usize; 67],
+    notes: &mut [usize; 68],
 ) -> Desk
     requires { ⌜ Fits s (now events) × (getD (now notes) 6 0 ≤ getD (now notes) 4 0) × (getD (now notes) 4 0 ≤ length (now errors)) ⌝ }
     ensures { λ r. ⌜ ((x : Source) (sc : List ℕ) → Wf x (bufs (now (events .entry)) (now (errors .entry)) sc) (whole s (now (notes .entry))) → Tells x (whole s (now (notes .entry))) before (tally r (now (notes .exit))) (bufs (now (events .entry)) (now (errors .entry)) sc) (bufs (now (events .exit)) (now (errors .entry)) sc)) ⌝ }
@@ -105,7 +105,7 @@ pub fn stray(
     ends: &[u32],
     events: &mut [u32],
     errors: &mut [u32],
-    notes: &mut [usize; 67],
+    notes: &mut [usize; 68],
     sets: &[[u64; 2]; 55],
 ) -> Desk
     requires { ⌜ Ready (now ids) (now ends) s (now notes) (now events) × (getD (now notes) 5 0 ≤ length (now errors)) × (s .pos < length (now ids)) × (s .full ≡ 0) × Tabled (now sets) ⌝ }
@@ -133,7 +133,7 @@ pub fn at_hand(
     events: &mut [u32],
     errors: &mut [u32],
     scratch: &mut [u64],
-    notes: &mut [usize; 67],
+    notes: &mut [usize; 68],
     table: &[u32; 284],
     sets: &[[u64; 2]; 55],
 ) -> Desk
@@ -176,7 +176,7 @@ pub fn at_hand(
 }
 
 // What an item leaves behind is given up, but for place, fuel and outputs.
-pub fn settle(d: Desk, scratch: &mut [u64], notes: &mut [usize; 67]) -> Desk
+pub fn settle(d: Desk, scratch: &mut [u64], notes: &mut [usize; 68]) -> Desk
     requires { ⌜ (2 * getD (now notes) 8 0 ≤ 64 * length (now scratch)) × Coded (now notes) ⌝ }
     ensures { λ r. ⌜ (whole (r .state) (now (notes .exit)) ≡ settled (whole (d .state) (now (notes .entry)))) × (r .before ≡ d .before) × Forgot (getD (now (notes .entry)) 7 0) (getD (now (notes .entry)) 8 0) (now (scratch .entry)) (now (scratch .exit)) ⌝ }
 {
@@ -224,7 +224,7 @@ pub fn item(
     events: &mut [u32],
     errors: &mut [u32],
     scratch: &mut [u64],
-    notes: &mut [usize; 67],
+    notes: &mut [usize; 68],
     table: &[u32; 284],
     sets: &[[u64; 2]; 55],
 ) -> Desk
@@ -262,7 +262,7 @@ pub fn items(
     events: &mut [u32],
     errors: &mut [u32],
     scratch: &mut [u64],
-    notes: &mut [usize; 67],
+    notes: &mut [usize; 68],
     table: &[u32; 284],
     sets: &[[u64; 2]; 55],
 ) -> Desk

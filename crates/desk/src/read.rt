@@ -71,9 +71,9 @@ fn whole(
     scratch: &mut [u64],
     events: &mut [u32],
     errors: &mut [u32],
-    notes: &mut [usize; 67],
+    notes: &mut [usize; 68],
 ) -> Desk
-    requires { ⌜ Rows (source (now src) (now ids) (now ends)) × (now scratch ≡ replicate (length (now scratch)) 0) × (2 * (length (now ids) + 1) ≤ 64 * length (now scratch)) × (4 ≤ length (now events)) × (now notes ≡ replicate 67 0) ⌝ }
+    requires { ⌜ Rows (source (now src) (now ids) (now ends)) × (now scratch ≡ replicate (length (now scratch)) 0) × (2 * (length (now ids) + 1) ≤ 64 * length (now scratch)) × (4 ≤ length (now events)) × (now notes ≡ replicate 68 0) ⌝ }
     ensures { λ r. ⌜ Framed (source (now (src .entry)) (now (ids .entry)) (now (ends .entry))) fuel (length (now (events .entry))) (length (now (errors .entry))) (tally r (now (notes .exit))) (now (events .exit)) (now (errors .exit)) ⌝ }
 {
     let size = src.len() as u32;
@@ -162,7 +162,7 @@ pub fn read(
         return spoilt(7, scratch, events, errors);
     }
     wipe(scratch);
-    let mut notes = [0usize; 67];
+    let mut notes = [0usize; 68];
     let d = whole(src, ids, ends, fuel, scratch, events, errors, &mut notes);
     let s = d.state;
     if s.full != 0 {

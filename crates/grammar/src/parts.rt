@@ -144,7 +144,7 @@ fn step(
     ends: &[u32],
     events: &mut [u32],
     errors: &mut [u32],
-    notes: &mut [usize; 67],
+    notes: &mut [usize; 68],
     sets: &[[u64; 2]; 55],
 ) -> State
     requires { ⌜ Whence (now src) (now ids) (now ends) s (now notes) (now events) (now errors) × (set < 55) × Tabled (now sets) ⌝ }
@@ -181,7 +181,7 @@ fn exec(
     events: &mut [u32],
     errors: &mut [u32],
     scratch: &mut [u64],
-    notes: &mut [usize; 67],
+    notes: &mut [usize; 68],
     table: &[u32; 284],
     sets: &[[u64; 2]; 55],
 ) -> State
@@ -364,7 +364,7 @@ fn node(
     events: &mut [u32],
     errors: &mut [u32],
     scratch: &mut [u64],
-    notes: &mut [usize; 67],
+    notes: &mut [usize; 68],
     table: &[u32; 284],
     sets: &[[u64; 2]; 55],
 ) -> State
@@ -432,7 +432,7 @@ fn cached(
     events: &mut [u32],
     errors: &mut [u32],
     scratch: &mut [u64],
-    notes: &mut [usize; 67],
+    notes: &mut [usize; 68],
     table: &[u32; 284],
     sets: &[[u64; 2]; 55],
 ) -> State
@@ -483,7 +483,7 @@ fn many(
     events: &mut [u32],
     errors: &mut [u32],
     scratch: &mut [u64],
-    notes: &mut [usize; 67],
+    notes: &mut [usize; 68],
     table: &[u32; 284],
     sets: &[[u64; 2]; 55],
 ) -> State
@@ -531,7 +531,7 @@ pub fn rule_item(
     events: &mut [u32],
     errors: &mut [u32],
     scratch: &mut [u64],
-    notes: &mut [usize; 67],
+    notes: &mut [usize; 68],
     table: &[u32; 284],
     sets: &[[u64; 2]; 55],
 ) -> State

@@ -233,7 +233,7 @@ skips {s = s} r p k u f = record { of = λ bytes l w. f bytes l (k .of bytes l w
 
 -- notes for any state: what holds whatever is noted is known of these, where the code has none at hand
 abbrev pub none-noted : List ℕ
-none-noted = replicate 67 0
+none-noted = replicate 68 0
 
 pub ok-none : (n : ℕ) (s : State) → s .pos ≤ n → s .ev ≤ s .evcap → Ok n (whole s none-noted)
 ok-none n s h k = (
