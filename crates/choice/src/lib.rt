@@ -7,6 +7,7 @@ use notes::names::COUNT;
 use notes::names::ER;
 use notes::names::ERCAP;
 use notes::names::ITEM;
+use notes::names::QUOTE;
 use notes::names::UNWANT;
 use notes::names::WANT;
 use notes::rows::start_of;
@@ -17,12 +18,13 @@ ghost use lib.ListN.{length, getD, take, drop};
 ghost use lib.Seq.{paste};
 ghost use Rattle.kinds.specs.Kinds as k;
 ghost use Rattle.definition.specs.Run as P;
+ghost use Rattle.definition.specs.Run.{Limits};
 ghost use Rattle.definition.specs.Render.{form-found, form-unknown, form-of, names-of};
 ghost use Rattle.kinds.specs.Sets.{setOf, idsOf};
 ghost use Rattle.notes.specs.Whole.{Whole, beside};
 ghost use Rattle.notes.specs.Change.{withFull};
 ghost use Rattle.notes.specs.Means as m;
-ghost use Rattle.notes.specs.Means.{limits, source, Rows, namesOf, namesIn};
+ghost use Rattle.notes.specs.Means.{source, Rows, namesOf, namesIn};
 ghost use Rattle.notes.specs.Did.{Ok, Sound, Coded, Errors};
 ghost use Rattle.choice.specs.Choice.{choiceOf, scan, Noted, Chose, Spelt, Spells};
 
@@ -48,31 +50,31 @@ pub fn id_at(at: usize, ids: &[u32]) -> u32
 }
 
 // The form of what was found where something else was expected: nothing, or a text that is too long to quote or not.
-fn found(text: &[u8]) -> u32
-    ensures { λ r. ⌜ r ≡ form-found limits (now (text .entry)) ⌝ }
+fn found(text: &[u8], quote: usize) -> u32
+    ensures { λ r. ⌜ ((L : Limits) → L .quote ≡ quote → r ≡ form-found L (now (text .entry))) ⌝ }
 {
     if text.len() == 0 {
         return 3;
     }
-    if text.len() > 15 {
+    if text.len() > quote {
         return 2;
     }
     1
 }
 
 // The same of an unknown row: a comment, a text or a regular expression may have been begun and not closed.
-pub fn unclosed(text: &[u8]) -> u32
-    ensures { λ r. ⌜ r ≡ form-unknown limits (now (text .entry)) ⌝ }
+pub fn unclosed(text: &[u8], quote: usize) -> u32
+    ensures { λ r. ⌜ ((L : Limits) → L .quote ≡ quote → r ≡ form-unknown L (now (text .entry))) ⌝ }
 {
     if text.len() == 0 {
-        return found(text);
+        return found(text, quote);
     }
     let b = text[0];
     if b == b'"' {
         return 7;
     }
     if b != b'/' {
-        return found(text);
+        return found(text, quote);
     }
     if text.len() > 1 {
         if text[1] == b'*' {
@@ -84,8 +86,8 @@ pub fn unclosed(text: &[u8]) -> u32
 }
 
 // The form of an error at a row with the id and the text.
-pub fn form_of(row_id: u32, text: &[u8], expected: bool) -> u32
-    ensures { λ r. ⌜ r ≡ form-of limits «row_id» (now (text .entry)) (choiceOf expected []) ⌝ }
+pub fn form_of(row_id: u32, text: &[u8], expected: bool, quote: usize) -> u32
+    ensures { λ r. ⌜ ((L : Limits) → L .quote ≡ quote → r ≡ form-of L «row_id» (now (text .entry)) (choiceOf expected [])) ⌝ }
 {
     if !utf8::valid(text) {
         return 9;
@@ -97,9 +99,9 @@ pub fn form_of(row_id: u32, text: &[u8], expected: bool) -> u32
         return 4;
     }
     if row_id == id::UNKNOWN {
-        return unclosed(text);
+        return unclosed(text, quote);
     }
-    found(text)
+    found(text, quote)
 }
 
 // How many of the names an error has: all where its form tells them, else none.
@@ -281,7 +283,8 @@ fn choose_at(
     let a = start as usize;
     let e = end as usize;
     let row = id_at(at, ids);
-    let form = form_of(row, &src[a..e], expected);
+    let quote = notes[QUOTE];
+    let form = form_of(row, &src[a..e], expected, quote);
     let l = spelled(notes);
     let count = named(expected, form, l.count);
     let names = l.names;
