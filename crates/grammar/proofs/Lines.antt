@@ -252,7 +252,7 @@ item-stands : prog item ≡ rule-decl
 unfolding prog partOf rowOf production productions namesOf
 item-stands = refl
 
-pub is-item : (L : Limits) {depth : ℕ} {x : Source} {s r : Whole} {b b′ : Bufs} → L .depth ≡ depth → Did (reads depth false (prog item)) x s r b b′ → Did (P.read-rule L) x s r b b′
+pub is-item : (L : P.Limits) {depth : ℕ} {x : Source} {s r : Whole} {b b′ : Bufs} → L .depth ≡ depth → Did (reads depth false (prog item)) x s r b b′ → Did (P.read-rule L) x s r b b′
 unfolding P.read-rule
 is-item L {depth} {x} {s} {r} {b} {b′} e y = subst (λ (q : Prog). Did (reads (L .depth) false q) x s r b b′) item-stands (subst (λ (d : ℕ). Did (reads d false (prog item)) x s r b b′) (sym e) y)
 
