@@ -18,9 +18,8 @@ ghost use mathlib.Core.List.{List, []};
 ghost use Prim.Native.Nat.{ℕ, _*_, _≤_, _<_};
 ghost use lib.ListN.{length, getD};
 ghost use Rattle.definition.specs.Render.{Source};
-ghost use Rattle.definition.specs.Run as P;
 ghost use Rattle.notes.specs.Bits.{Forgot};
-ghost use Rattle.notes.specs.Means.{limits, source, bufs, Lines, Rows};
+ghost use Rattle.notes.specs.Means.{source, bufs, Lines, Rows};
 ghost use Rattle.notes.specs.Did.{Wf, Coded};
 ghost use Rattle.steps.specs.Steps.{whole, Tabled, Fits, Ready, Writes};
 ghost use Rattle.grammar.specs.Table.{Lends};
@@ -127,6 +126,7 @@ pub fn stray(
 pub fn at_hand(
     s: State,
     before: u32,
+    depth: usize,
     src: &[u8],
     ids: &[u32],
     ends: &[u32],
@@ -138,7 +138,7 @@ pub fn at_hand(
     sets: &[[u64; 2]; 55],
 ) -> Desk
     requires { ⌜ Rows (source (now src) (now ids) (now ends)) × Wf (source (now src) (now ids) (now ends)) (bufs (now events) (now errors) (now scratch)) (whole s (now notes)) × Lends (now table) (now sets) ⌝ }
-    ensures { λ r. ⌜ Hands (source (now (src .entry)) (now (ids .entry)) (now (ends .entry))) (whole s (now (notes .entry))) before (tally r (now (notes .exit))) (bufs (now (events .entry)) (now (errors .entry)) (now (scratch .entry))) (bufs (now (events .exit)) (now (errors .exit)) (now (scratch .exit))) ⌝ }
+    ensures { λ r. ⌜ Hands depth (source (now (src .entry)) (now (ids .entry)) (now (ends .entry))) (whole s (now (notes .entry))) before (tally r (now (notes .exit))) (bufs (now (events .entry)) (now (errors .entry)) (now (scratch .entry))) (bufs (now (events .exit)) (now (errors .exit)) (now (scratch .exit))) ⌝ }
 {
     if s.full != 0 {
         return Desk {
@@ -157,6 +157,7 @@ pub fn at_hand(
     if within(set::RULE_KEYWORDS, id, sets) {
         let t = rule_item(
             s,
+            depth,
             src,
             ids,
             ends,
@@ -218,6 +219,7 @@ pub fn over(s: State, ids: &[u32]) -> bool
 // One item, if the state is in good order and rows are left.
 pub fn item(
     d: Desk,
+    depth: usize,
     src: &[u8],
     ids: &[u32],
     ends: &[u32],
@@ -229,7 +231,7 @@ pub fn item(
     sets: &[[u64; 2]; 55],
 ) -> Desk
     requires { ⌜ Rows (source (now src) (now ids) (now ends)) × Wf (source (now src) (now ids) (now ends)) (bufs (now events) (now errors) (now scratch)) (whole (d .state) (now notes)) × Settled (whole (d .state) (now notes)) × Lends (now table) (now sets) ⌝ }
-    ensures { λ r. ⌜ Goes (P.items limits 1) (source (now (src .entry)) (now (ids .entry)) (now (ends .entry))) (tally d (now (notes .entry))) (tally r (now (notes .exit))) (bufs (now (events .entry)) (now (errors .entry)) (now (scratch .entry))) (bufs (now (events .exit)) (now (errors .exit)) (now (scratch .exit))) ⌝ }
+    ensures { λ r. ⌜ Goes depth 1 (source (now (src .entry)) (now (ids .entry)) (now (ends .entry))) (tally d (now (notes .entry))) (tally r (now (notes .exit))) (bufs (now (events .entry)) (now (errors .entry)) (now (scratch .entry))) (bufs (now (events .exit)) (now (errors .exit)) (now (scratch .exit))) ⌝ }
 {
     let s = d.state;
     if over(s, ids) {
@@ -239,6 +241,7 @@ pub fn item(
     let h = at_hand(
         t,
         d.before,
+        depth,
         src,
         ids,
         ends,
@@ -256,6 +259,7 @@ pub fn item(
 // All items: each takes a row, so there are no more of them than rows.
 pub fn items(
     mut d: Desk,
+    depth: usize,
     src: &[u8],
     ids: &[u32],
     ends: &[u32],
@@ -267,7 +271,7 @@ pub fn items(
     sets: &[[u64; 2]; 55],
 ) -> Desk
     requires { ⌜ Rows (source (now src) (now ids) (now ends)) × Wf (source (now src) (now ids) (now ends)) (bufs (now events) (now errors) (now scratch)) (whole (d .state) (now notes)) × Settled (whole (d .state) (now notes)) × Lends (now table) (now sets) ⌝ }
-    ensures { λ r. ⌜ Goes (P.items limits (length (now (ids .entry)))) (source (now (src .entry)) (now (ids .entry)) (now (ends .entry))) (tally d (now (notes .entry))) (tally r (now (notes .exit))) (bufs (now (events .entry)) (now (errors .entry)) (now (scratch .entry))) (bufs (now (events .exit)) (now (errors .exit)) (now (scratch .exit))) ⌝ }
+    ensures { λ r. ⌜ Goes depth (length (now (ids .entry))) (source (now (src .entry)) (now (ids .entry)) (now (ends .entry))) (tally d (now (notes .entry))) (tally r (now (notes .exit))) (bufs (now (events .entry)) (now (errors .entry)) (now (scratch .entry))) (bufs (now (events .exit)) (now (errors .exit)) (now (scratch .exit))) ⌝ }
 {
     let mut n = ids.len();
     while n > 0 {
@@ -276,6 +280,7 @@ pub fn items(
         }
         d = item(
             d,
+            depth,
             src,
             ids,
             ends,
