@@ -12,13 +12,13 @@ use lib.ListN.{length, getD, take, drop, set, length-append}
 use lib.Seq.{paste, take-paste, length-paste, length-take-le, take-add, drop-at}
 use Rattle.kinds.specs.Kinds as k
 use Rattle.definition.specs.Run as P
-use Rattle.definition.specs.Run.{Event, Choice, wanted, unwanted}
+use Rattle.definition.specs.Run.{Event, Choice, Limits, wanted, unwanted}
 use Rattle.definition.specs.Buffer.{four}
 use Rattle.definition.specs.Render.{Source, Rec, starts-at, ends-at, id-at, text-at, record-of, records, flat-records, form-of, names-of, said, held, used}
 use Rattle.notes.specs.Whole.{Whole, beside, resting}
 use Rattle.notes.specs.Bits.{ifb}
 use Rattle.notes.specs.Change.{withEr, withFull, withWants}
-use Rattle.notes.specs.Means.{limits, bufs, Past, Rows, Apart, recorded, Chosen, wantOf, unwantOf, namesIn, Means, Stands, overOf}
+use Rattle.notes.specs.Means.{bufs, Past, Rows, Apart, recorded, Chosen, wantOf, unwantOf, namesIn, Means, Stands, overOf}
 use Rattle.notes.specs.Did.{Placed, Ok, Sound, Coded, Wf, Counted, Errors}
 use Rattle.choice.specs.Choice.{choiceOf, scan, Noted, Pends, Chose}
 use Rattle.notes.proofs.Lists.{stored, take-four, length-four}
@@ -86,31 +86,31 @@ module _ (m : ℕ) (c : Choice) where
       let y = neither (eqb m (e .0)) (P.pending m es) p in
       (a .0, pending-more (e .0) es (λ q. eqb-false m (e .0) (y .0) (sym q)) (a .1), apart-more n es h (y .1) (a .2))
 
-  recorded-more : (x : Source) (es : List (ℕ × Choice)) → recorded x (es ++ ((m, c) ∷ [])) ≡ recorded x es ++ (record-of limits x m c ∷ [])
+  recorded-more : (L : Limits) (x : Source) (es : List (ℕ × Choice)) → recorded L x (es ++ ((m, c) ∷ [])) ≡ recorded L x es ++ (record-of L x m c ∷ [])
   unfolding recorded
-  recorded-more x [] = refl
-  recorded-more x (e ∷ es) = ap (λ (l : List Rec). record-of limits x (e .0) (e .1) ∷ l) (recorded-more x es)
+  recorded-more L x [] = refl
+  recorded-more L x (e ∷ es) = ap (λ (l : List Rec). record-of L x (e .0) (e .1) ∷ l) (recorded-more L x es)
 
 -- the records of the item at hand
-module _ {x : Source} {p : Past} {first er ercap item : ℕ} {errors : List ℕ} {es : List (ℕ × Choice)} (k : Chosen x p first er ercap item errors es) (i : item ≤ er) (l : er ≤ length errors) where
+module _ {x : Source} {p : Past} {first er ercap item quote : ℕ} {errors : List ℕ} {es : List (ℕ × Choice)} (k : Chosen x p first er ercap item quote errors es) (i : item ≤ er) (l : er ≤ length errors) where
   -- what stands fits
-  fitting : er ≤ ercap → _≡_ {A = ℕ} 0 (ifb (ltb ercap (length (flat-records (p .records ++ recorded x es)))) 8 0)
-  fitting f = ap (λ (b : Bool). ifb b 8 0) (sym (le-ltb ercap (length (flat-records (p .records ++ recorded x es))) (omega (arith, ap length (k .is), length-take-le er errors l))))
+  fitting : er ≤ ercap → _≡_ {A = ℕ} 0 (ifb (ltb ercap (length (flat-records (p .records ++ recorded (p .limits) x es)))) 8 0)
+  fitting f = ap (λ (b : Bool). ifb b 8 0) (sym (le-ltb ercap (length (flat-records (p .records ++ recorded (p .limits) x es))) (omega (arith, ap length (k .is), length-take-le er errors l))))
 
-  item-part : take (er - item) (drop item errors) ≡ flat-records (recorded x es)
+  item-part : take (er - item) (drop item errors) ≡ flat-records (recorded (p .limits) x es)
   item-part =
       let e : item + (er - item) ≡ er = omega arith in
       sym (drop-at (take item errors) (take (er - item) (drop item errors)) item (length-take-le item errors (omega arith)))
-      ∙ ap (drop item) (sym (take-add item (er - item) errors) ∙ ap (λ (j : ℕ). take j errors) e ∙ k .is ∙ flat-append (p .records) (recorded x es))
-      ∙ drop-at (flat-records (p .records)) (flat-records (recorded x es)) item (sym (k .since))
+      ∙ ap (drop item) (sym (take-add item (er - item) errors) ∙ ap (λ (j : ℕ). take j errors) e ∙ k .is ∙ flat-append (p .records) (recorded (p .limits) x es))
+      ∙ drop-at (flat-records (p .records)) (flat-records (recorded (p .limits) x es)) item (sym (k .since))
 
 -- AN ERROR AT A ROW
 flat-one : (q : Rec) {a b f c : ℕ} {ms : List ℕ} → a ≡ q .0 → b ≡ q .1 → f ≡ q .2 → ms ≡ q .3 → c ≡ length ms → a ∷ b ∷ f ∷ c ∷ ms ≡ flat-records (q ∷ [])
 flat-one q h i j k l = cc (append-nil (q .3))
 
-form-any : (i : ℕ) (t : List ℕ) (e : Bool) (ns : List ℕ) → form-of limits i t (choiceOf e []) ≡ form-of limits i t (choiceOf e ns)
-form-any i t true ns = refl
-form-any i t false ns = refl
+form-any : (L : Limits) (i : ℕ) (t : List ℕ) (e : Bool) (ns : List ℕ) → form-of L i t (choiceOf e []) ≡ form-of L i t (choiceOf e ns)
+form-any L i t true ns = refl
+form-any L i t false ns = refl
 
 abbrev row : Source → ℕ → ℕ
 row x at = length (x .ids) - at
@@ -132,7 +132,7 @@ module _ {x : Source} (w : Rows x) (at : ℕ) (h : at ≤ length (x .ids)) (s : 
         (t
         ∙ ap₂ (λ (i j : ℕ). scan i j 0 (part s er)) begins stops
         ∙ ap (scan (starts-at x (row x at)) (ends-at x (row x at)) 0) (item-part k (c .since) (le-trans (c .errors) l))
-        ∙ scan-recorded w (row x at) (omega arith) (length (x .ids) - s .first) (omega arith) es (k .apart))
+        ∙ scan-recorded w (row x at) (omega arith) (p .limits) (length (x .ids) - s .first) (omega arith) es (k .apart))
 
     added : (v : Choice) → P.add (row x at) v es ≡ elim y [ true ↦ es | false ↦ es ++ ((row x at, v) ∷ []) ]
     added v = ap (λ (q : Bool). elim q [ true ↦ es | false ↦ es ++ ((row x at, v) ∷ []) ]) pending-is
@@ -142,7 +142,7 @@ module _ {x : Source} (w : Rows x) (at : ℕ) (h : at ≤ length (x .ids)) (s : 
   chose-none v t =
       record {
         is = refl;
-        filled = λ p es k. fitting k (c .since) (le-trans (c .errors) l) (c .errors) ∙ ap (λ (q : List (ℕ × Choice)). ifb (ltb (s .ercap) (length (flat-records (p .records ++ recorded x q)))) 8 0) (sym (added k t v));
+        filled = λ p es k. fitting k (c .since) (le-trans (c .errors) l) (c .errors) ∙ ap (λ (q : List (ℕ × Choice)). ifb (ltb (s .ercap) (length (flat-records (p .records ++ recorded (p .limits) x q)))) 8 0) (sym (added k t v));
         chosen = λ p es k y. subst (Pends x p s er) (sym (added k t v)) k;
         fits = c .errors;
         grows = le-refl _;
@@ -150,22 +150,22 @@ module _ {x : Source} (w : Rows x) (at : ℕ) (h : at ≤ length (x .ids)) (s : 
       }
 
   -- none is, and a record is written
-  module _ (y : Bool) (ns : List ℕ) {i form count : ℕ} {ms : List ℕ} (o : i ≡ getD (x .ids) at k.UNKNOWN) (f : form ≡ form-of limits i (take (end - start) (drop start (x .bytes))) (choiceOf y [])) (v : ms ≡ names-of form (choiceOf y ns)) (u : count ≡ length ms) where
+  module _ (y : Bool) (ns : List ℕ) {i form count : ℕ} {ms : List ℕ} (o : i ≡ getD (x .ids) at k.UNKNOWN) (f : (L : Limits) → L .quote ≡ s .quote → form ≡ form-of L i (take (end - start) (drop start (x .bytes))) (choiceOf y [])) (v : ms ≡ names-of form (choiceOf y ns)) (u : count ≡ length ms) where
     abbrev numbers-at : List ℕ
     numbers-at = start ∷ end ∷ form ∷ count ∷ ms
 
-    formed : form ≡ form-of limits (id-at x (row x at)) (text-at x (row x at)) (choiceOf y ns)
-    formed = f ∙ form-any i _ y ns ∙ ap₂ (λ (j : ℕ) (t : List ℕ). form-of limits j t (choiceOf y ns)) (o ∙ sym (id-is w at h)) (ap₂ (λ (j k : ℕ). take (k - j) (drop j (x .bytes))) begins stops)
+    formed : (L : Limits) → L .quote ≡ s .quote → form ≡ form-of L (id-at x (row x at)) (text-at x (row x at)) (choiceOf y ns)
+    formed L q = f L q ∙ form-any L i _ y ns ∙ ap₂ (λ (j : ℕ) (t : List ℕ). form-of L j t (choiceOf y ns)) (o ∙ sym (id-is w at h)) (ap₂ (λ (j k : ℕ). take (k - j) (drop j (x .bytes))) begins stops)
 
-    record-is : numbers-at ≡ flat-records (record-of limits x (row x at) (choiceOf y ns) ∷ [])
-    record-is = flat-one (record-of limits x (row x at) (choiceOf y ns)) begins stops formed (v ∙ ap (λ (j : ℕ). names-of j (choiceOf y ns)) formed) u
+    record-is : (L : Limits) → L .quote ≡ s .quote → numbers-at ≡ flat-records (record-of L x (row x at) (choiceOf y ns) ∷ [])
+    record-is L q = flat-one (record-of L x (row x at) (choiceOf y ns)) begins stops (formed L q) (v ∙ ap (λ (j : ℕ). names-of j (choiceOf y ns)) (formed L q)) u
 
-    records-are : {p : Past} {es : List (ℕ × Choice)} (k : Pends x p s er es) → false ≡ scan start end 0 (part s er) → take (s .er) er ++ numbers-at ≡ flat-records (p .records ++ recorded x (P.add (row x at) (choiceOf y ns) es))
+    records-are : {p : Past} {es : List (ℕ × Choice)} (k : Pends x p s er es) → false ≡ scan start end 0 (part s er) → take (s .er) er ++ numbers-at ≡ flat-records (p .records ++ recorded (p .limits) x (P.add (row x at) (choiceOf y ns) es))
     records-are {p} {es} k t =
-        ap₂ (λ (i j : List ℕ). i ++ j) (k .is) record-is
-        ∙ sym (flat-append (p .records ++ recorded x es) (record-of limits x (row x at) (choiceOf y ns) ∷ []))
-        ∙ ap flat-records (append-assoc (p .records) (recorded x es) (record-of limits x (row x at) (choiceOf y ns) ∷ []) ∙ ap (λ (q : List Rec). p .records ++ q) (sym (recorded-more (row x at) (choiceOf y ns) x es)))
-        ∙ ap (λ (q : List (ℕ × Choice)). flat-records (p .records ++ recorded x q)) (sym (added k t (choiceOf y ns)))
+        ap₂ (λ (i j : List ℕ). i ++ j) (k .is) (record-is (p .limits) (k .quoted))
+        ∙ sym (flat-append (p .records ++ recorded (p .limits) x es) (record-of (p .limits) x (row x at) (choiceOf y ns) ∷ []))
+        ∙ ap flat-records (append-assoc (p .records) (recorded (p .limits) x es) (record-of (p .limits) x (row x at) (choiceOf y ns) ∷ []) ∙ ap (λ (q : List Rec). p .records ++ q) (sym (recorded-more (row x at) (choiceOf y ns) (p .limits) x es)))
+        ∙ ap (λ (q : List (ℕ × Choice)). flat-records (p .records ++ recorded (p .limits) x q)) (sym (added k t (choiceOf y ns)))
 
     pub chose-new : {r : Whole} {er′ : List ℕ} → s .first ≤ at → Noted numbers-at s r er er′ → false ≡ scan start end 0 (part s er) → Chose (P.add (row x at) (choiceOf y ns)) x s r er er′
     chose-new {r} {er′} a d t =
@@ -179,6 +179,7 @@ module _ {x : Source} (w : Rows x) (at : ℕ) (h : at ≤ length (x .ids)) (s : 
                 is = d .wrote q ∙ records-are k t;
                 since = k .since;
                 room = k .room;
+                quoted = k .quoted;
                 apart = subst (Apart (length (x .ids) - s .first)) (sym (added k t (choiceOf y ns))) (apart-more (row x at) (choiceOf y ns) (length (x .ids) - s .first) es (omega arith) (pending-is k t) (k .apart));
               });
           fits = d .fits;
@@ -230,18 +231,18 @@ furthest-in {n} {pos} {first} {far} {w} {u} {r} v q z = go (leb u w) q
     go false p = let h : first < u = v .unwant-since (λ y. z (p ∙ y)) in omega (arith, v .unwant-in)
 
 -- one moment more, at which the events fit
-spilled : (p : Past) (x : Source) (o : List Event) (es : List (ℕ × Choice)) → records limits x o [] ≡ p .records → 4 * suc (length o) ≤ p .event-room → ifb (ltb (p .error-room) (length (flat-records (p .records ++ recorded x es)))) 8 0 ≡ spill p x o es
-spilled p x o es q f = ap (λ (i : ℕ). ifb (ltb (p .error-room) i) 8 0) taken ∙ go (ltb (p .error-room) (used limits x (o, es) .1)) refl
+spilled : (p : Past) (x : Source) (o : List Event) (es : List (ℕ × Choice)) → records (p .limits) x o [] ≡ p .records → 4 * suc (length o) ≤ p .event-room → ifb (ltb (p .error-room) (length (flat-records (p .records ++ recorded (p .limits) x es)))) 8 0 ≡ spill p x o es
+spilled p x o es q f = ap (λ (i : ℕ). ifb (ltb (p .error-room) i) 8 0) taken ∙ go (ltb (p .error-room) (used (p .limits) x (o, es) .1)) refl
   where
-    taken : length (flat-records (p .records ++ recorded x es)) ≡ said limits x o + held limits x es
+    taken : length (flat-records (p .records ++ recorded (p .limits) x es)) ≡ said (p .limits) x o + held (p .limits) x es
     taken =
-        ap length (flat-append (p .records) (recorded x es))
-        ∙ length-append (flat-records (p .records)) (flat-records (recorded x es))
-        ∙ omega (arith, ap (λ (l : List Rec). length (flat-records l)) q, said-is limits x o [], held-is x es)
+        ap length (flat-append (p .records) (recorded (p .limits) x es))
+        ∙ length-append (flat-records (p .records)) (flat-records (recorded (p .limits) x es))
+        ∙ omega (arith, ap (λ (l : List Rec). length (flat-records l)) q, said-is (p .limits) x o [], held-is (p .limits) x es)
 
-    go : (b : Bool) → ltb (p .error-room) (used limits x (o, es) .1) ≡ b → ifb b 8 0 ≡ spill p x o es
-    go true e = sym (exceeds-errors (p .event-room) (p .error-room) (used limits x (o, es)) f (ltb-true _ _ e))
-    go false e = sym (exceeds-none (p .event-room) (p .error-room) (used limits x (o, es)) f (ltb-false _ _ e))
+    go : (b : Bool) → ltb (p .error-room) (used (p .limits) x (o, es) .1) ≡ b → ifb b 8 0 ≡ spill p x o es
+    go true e = sym (exceeds-errors (p .event-room) (p .error-room) (used (p .limits) x (o, es)) f (ltb-true _ _ e))
+    go false e = sym (exceeds-none (p .event-room) (p .error-room) (used (p .limits) x (o, es)) f (ltb-false _ _ e))
 
 ok-emptied : (n : ℕ) (s : Whole) → Ok n s → Ok n (withWants 0 0 s)
 ok-emptied n s w = (record { here = w .0 .here; since = w .0 .since; far-in = w .0 .far-in; want-in = omega arith; want-since = λ e. absurd (e refl); unwant-in = omega arith; unwant-since = λ e. absurd (e refl) }, w .1, w .2)
@@ -296,7 +297,7 @@ module _ (x : Source) (s : Whole) (er : List ℕ) (w : Ok (length (x .ids)) s) (
           record {
             over =
                 c .filled p (a .chosen) (m .chosen)
-                ∙ ap (λ (i : ℕ). ifb (ltb i (length (flat-records (p .records ++ recorded x (g (a .chosen)))))) 8 0) (sym (m .chosen .room))
+                ∙ ap (λ (i : ℕ). ifb (ltb i (length (flat-records (p .records ++ recorded (p .limits) x (g (a .chosen)))))) 8 0) (sym (m .chosen .room))
                 ∙ spilled p x (a .out) (g (a .chosen)) (m .written .past) (fits v m .0)
                 ∙ ap₂ (λ (i : ℕ) (q : List (ℕ × Choice)). first-of i (spill p x (a .out) q)) (sym z ∙ t .over) (sym e);
             means = λ y.

@@ -11,9 +11,9 @@ use lib.Dec.{eqb}
 use lib.ListN.{length, getD, drop, length-drop}
 use lib.Seq.{drop-append-seam, getD-drop, drop-drop}
 use Rattle.definition.specs.Run as P
-use Rattle.definition.specs.Run.{Choice}
+use Rattle.definition.specs.Run.{Choice, Limits}
 use Rattle.definition.specs.Render.{Source, starts-at, ends-at, record-of, flat-records}
-use Rattle.notes.specs.Means.{limits, recorded, Rows, Apart}
+use Rattle.notes.specs.Means.{recorded, Rows, Apart}
 use Rattle.choice.specs.Choice.{scan}
 use Rattle.choice.proofs.Records.{own}
 
@@ -79,10 +79,10 @@ module _ {x : Source} (w : Rows x) (r : ℕ) (h : r ≤ length (x .ids)) where
           ap₂ (λ (b c : Bool). either (b && c) (scan (starts-at x r) (ends-at x r) (length ns) (ns ++ l))) (eq-eqb _ _ (ap (starts-at x) q)) (eq-eqb _ _ (ap (ends-at x) q))
       go false e = ap (λ (b : Bool). either (b && eqb (ends-at x a) (ends-at x r)) (scan (starts-at x r) (ends-at x r) (length ns) (ns ++ l))) (ne-eqb _ _ (λ q. eqb-false r a e (sym (own w a r g h q)))) ∙ on
 
-  pub scan-recorded : (n : ℕ) → n ≤ length (x .ids) → (es : List (ℕ × Choice)) → Apart n es → scan (starts-at x r) (ends-at x r) 0 (flat-records (recorded x es)) ≡ P.pending r es
+  pub scan-recorded : (L : Limits) (n : ℕ) → n ≤ length (x .ids) → (es : List (ℕ × Choice)) → Apart n es → scan (starts-at x r) (ends-at x r) 0 (flat-records (recorded L x es)) ≡ P.pending r es
   unfolding recorded
-  scan-recorded n g [] k = scan-few (starts-at x r) (ends-at x r) [] (omega arith)
-  scan-recorded n g (e ∷ es) k =
-      let q = record-of limits x (e .0) (e .1) in
-      scan-one (e .0) (q .2) (q .3) (flat-records (recorded x es)) (omega (arith, k .0))
-      ∙ ap (either (eqb r (e .0))) (scan-recorded n g es (k .2))
+  scan-recorded L n g [] k = scan-few (starts-at x r) (ends-at x r) [] (omega arith)
+  scan-recorded L n g (e ∷ es) k =
+      let q = record-of L x (e .0) (e .1) in
+      scan-one (e .0) (q .2) (q .3) (flat-records (recorded L x es)) (omega (arith, k .0))
+      ∙ ap (either (eqb r (e .0))) (scan-recorded L n g es (k .2))

@@ -7,6 +7,7 @@ use notes::names::COUNT;
 use notes::names::ER;
 use notes::names::ERCAP;
 use notes::names::ITEM;
+use notes::names::QUOTE;
 use notes::names::UNWANT;
 use notes::names::WANT;
 use notes::rows::start_of;
@@ -17,12 +18,13 @@ ghost use lib.ListN.{length, getD, take, drop};
 ghost use lib.Seq.{paste};
 ghost use Rattle.kinds.specs.Kinds as k;
 ghost use Rattle.definition.specs.Run as P;
+ghost use Rattle.definition.specs.Run.{Limits};
 ghost use Rattle.definition.specs.Render.{form-found, form-unknown, form-of, names-of};
 ghost use Rattle.kinds.specs.Sets.{setOf, idsOf};
 ghost use Rattle.notes.specs.Whole.{Whole, beside};
 ghost use Rattle.notes.specs.Change.{withFull};
 ghost use Rattle.notes.specs.Means as m;
-ghost use Rattle.notes.specs.Means.{limits, source, Rows, namesOf, namesIn};
+ghost use Rattle.notes.specs.Means.{source, Rows, namesOf, namesIn};
 ghost use Rattle.notes.specs.Did.{Ok, Sound, Coded, Errors};
 ghost use Rattle.choice.specs.Choice.{choiceOf, scan, Noted, Chose, Spelt, Spells};
 
@@ -48,31 +50,31 @@ pub fn id_at(at: usize, ids: &[u32]) -> u32
 }
 
 // The form of what was found where something else was expected: nothing, or a text that is too long to quote or not.
-fn found(text: &[u8]) -> u32
-    ensures { λ r. ⌜ r ≡ form-found limits (now (text .entry)) ⌝ }
+fn found(text: &[u8], quote: usize) -> u32
+    ensures { λ r. ⌜ ((L : Limits) → L .quote ≡ quote → r ≡ form-found L (now (text .entry))) ⌝ }
 {
     if text.len() == 0 {
         return 3;
     }
-    if text.len() > 15 {
+    if text.len() > quote {
         return 2;
     }
     1
 }
 
 // The same of an unknown row: a comment, a text or a regular expression may have been begun and not closed.
-pub fn unclosed(text: &[u8]) -> u32
-    ensures { λ r. ⌜ r ≡ form-unknown limits (now (text .entry)) ⌝ }
+pub fn unclosed(text: &[u8], quote: usize) -> u32
+    ensures { λ r. ⌜ ((L : Limits) → L .quote ≡ quote → r ≡ form-unknown L (now (text .entry))) ⌝ }
 {
     if text.len() == 0 {
-        return found(text);
+        return found(text, quote);
     }
     let b = text[0];
     if b == b'"' {
         return 7;
     }
     if b != b'/' {
-        return found(text);
+        return found(text, quote);
     }
     if text.len() > 1 {
         if text[1] == b'*' {
@@ -84,8 +86,8 @@ pub fn unclosed(text: &[u8]) -> u32
 }
 
 // The form of an error at a row with the id and the text.
-pub fn form_of(row_id: u32, text: &[u8], expected: bool) -> u32
-    ensures { λ r. ⌜ r ≡ form-of limits «row_id» (now (text .entry)) (choiceOf expected []) ⌝ }
+pub fn form_of(row_id: u32, text: &[u8], expected: bool, quote: usize) -> u32
+    ensures { λ r. ⌜ ((L : Limits) → L .quote ≡ quote → r ≡ form-of L «row_id» (now (text .entry)) (choiceOf expected [])) ⌝ }
 {
     if !utf8::valid(text) {
         return 9;
@@ -97,9 +99,9 @@ pub fn form_of(row_id: u32, text: &[u8], expected: bool) -> u32
         return 4;
     }
     if row_id == id::UNKNOWN {
-        return unclosed(text);
+        return unclosed(text, quote);
     }
-    found(text)
+    found(text, quote)
 }
 
 // How many of the names an error has: all where its form tells them, else none.
@@ -216,9 +218,9 @@ impl Names {
 }
 
 // The names that the codes stand for. They are spelled only here, where an error is chosen.
-fn spelled(notes: &[usize; 67]) -> Names
+fn spelled(notes: &[usize; 68]) -> Names
     requires { ⌜ Coded (now notes) ⌝ }
-    ensures { λ r. ⌜ Spells (m.spelled (take (getD (now (notes .entry)) 2 0) (drop 9 (now (notes .entry))))) r ⌝ }
+    ensures { λ r. ⌜ Spells (m.spelled (take (getD (now (notes .entry)) 2 0) (drop 10 (now (notes .entry))))) r ⌝ }
 {
     let mut l = Names {
         count: 0,
@@ -240,7 +242,7 @@ pub fn record(
     count: usize,
     names: [u8; 96],
     errors: &mut [u32],
-    notes: &mut [usize; 67],
+    notes: &mut [usize; 68],
 ) -> u8
     requires { ⌜ (getD (now notes) 4 0 ≤ getD (now notes) 5 0) × (getD (now notes) 5 0 ≤ length (now errors)) × (count ≤ 85) × (length names ≡ 96) × Coded (now notes) ⌝ }
     ensures { λ r. ⌜ ((s : Whole) → s .full ≡ 0 → Noted (start ∷ end ∷ form ∷ count ∷ take count names) (beside (now (notes .entry)) s) (withFull r (beside (now (notes .exit)) s)) (now (errors .entry)) (now (errors .exit))) ⌝ }
@@ -266,7 +268,7 @@ fn choose_at(
     ids: &[u32],
     ends: &[u32],
     errors: &mut [u32],
-    notes: &mut [usize; 67],
+    notes: &mut [usize; 68],
 ) -> u8
     requires { ⌜ Rows (source (now src) (now ids) (now ends)) × Sound (length (now ids)) (now notes) × (getD (now notes) 5 0 ≤ length (now errors)) × (getD (now notes) 7 0 ≤ at) × (at ≤ length (now ids)) ⌝ }
     ensures { λ r. ⌜ ((s : Whole) → s .full ≡ 0 → Ok (length (now (ids .entry))) (beside (now (notes .entry)) s) → Chose (P.add (length (now (ids .entry)) - at) (choiceOf expected (namesIn (beside (now (notes .entry)) s)))) (source (now (src .entry)) (now (ids .entry)) (now (ends .entry))) (beside (now (notes .entry)) s) (withFull r (beside (now (notes .exit)) s)) (now (errors .entry)) (now (errors .exit))) ⌝ }
@@ -281,7 +283,8 @@ fn choose_at(
     let a = start as usize;
     let e = end as usize;
     let row = id_at(at, ids);
-    let form = form_of(row, &src[a..e], expected);
+    let quote = notes[QUOTE];
+    let form = form_of(row, &src[a..e], expected, quote);
     let l = spelled(notes);
     let count = named(expected, form, l.count);
     let names = l.names;
@@ -296,7 +299,7 @@ pub fn choose(
     ids: &[u32],
     ends: &[u32],
     errors: &mut [u32],
-    notes: &mut [usize; 67],
+    notes: &mut [usize; 68],
 ) -> u8
     requires { ⌜ Rows (source (now src) (now ids) (now ends)) × Sound (length (now ids)) (now notes) × (getD (now notes) 5 0 ≤ length (now errors)) ⌝ }
     ensures { λ r. ⌜ ((s : Whole) → s .full ≡ full → Ok (length (now (ids .entry))) (beside (now (notes .entry)) s) → Errors P.choose (source (now (src .entry)) (now (ids .entry)) (now (ends .entry))) (beside (now (notes .entry)) s) (withFull r (beside (now (notes .exit)) s)) (now (errors .entry)) (now (errors .exit))) ⌝ }

@@ -13,7 +13,6 @@ use lib.Seq.{length-take-le}
 use Rattle.definition.specs.Run as P
 use Rattle.definition.specs.Render.{Source, Reading, rendered, used, moments, exceeds, over, flat, flat-records}
 use Rattle.definition.specs.Answer.{Desk, After, Answer, refused, given, first-of, grounds, refusal, exceeded, answer, as-lent, refusing, blank, left-by, after, source-of}
-use Rattle.notes.specs.Means.{limits}
 use Rattle.notes.proofs.Rooms.{exceeds-events}
 use Rattle.notes.proofs.Rooms as rooms
 use Rattle.desk.specs.declared.items.Desk as D
@@ -28,12 +27,12 @@ picked : (n : ℕ) (A : Answer) → (n ≡ 0 → ⊥) → pick n A ≡ refused n
 picked zero A h = absurd (h refl)
 picked (suc n) A h = refl
 
-module _ (d : Desk) where
+module _ (L : P.Limits) (d : Desk) where
   abbrev number : ℕ
-  number = exceeded limits d (reading (source-of d) (d .fuel))
+  number = exceeded L d (reading L (source-of d) (d .fuel))
 
   abbrev found : Answer
-  found = pick number (given (rendered limits (source-of d) (reading (source-of d) (d .fuel))))
+  found = pick number (given (rendered L (source-of d) (reading L (source-of d) (d .fuel))))
 
   as-it-was : (n : ℕ) → n < 7 → left-by d (refused n) ≡ refusing n (d .events) (d .errors) (d .scratch)
   as-it-was n h = ap (λ (c : Bool). elim c as (λ _. After) [ true ↦ refusing n (d .events) (d .errors) (d .scratch) | false ↦ refusing n (blank (d .events)) (blank (d .errors)) (blank (d .scratch)) ]) (lt-ltb n 7 h)
@@ -54,21 +53,21 @@ module _ (d : Desk) where
       go true rest = h .0
       go false rest = rest
 
-  pub refused-so : (n : ℕ) → n ≡ refusal d → (n ≡ 0 → ⊥) → refusing n (d .events) (d .errors) (d .scratch) ≡ after limits d
+  pub refused-so : (n : ℕ) → n ≡ refusal d → (n ≡ 0 → ⊥) → refusing n (d .events) (d .errors) (d .scratch) ≡ after L d
   refused-so n e h =
       sym (as-it-was n (subst (λ (m : ℕ). m < 7) (sym e) (first-below (grounds d) (omega arith, (omega arith, (omega arith, (omega arith, (omega arith, (omega arith, tt)))))))))
       ∙ ap (left-by d) (sym (picked n _ h)) ∙ ap (λ (m : ℕ). left-by d (pick m found)) e
 
   -- none of them: the rooms decide
-  read-so : 0 ≡ refusal d → left-by d found ≡ after limits d
+  read-so : 0 ≡ refusal d → left-by d found ≡ after L d
   read-so e = ap (λ (m : ℕ). left-by d (pick m found)) e
 
   abbrev zeros : ℕ → After
   zeros n = refusing n (replicate (length (d .events)) 0) (replicate (length (d .errors)) 0) (replicate (length (d .scratch)) 0)
 
-  exceeded-so : 0 ≡ refusal d → (n : ℕ) → n ≡ number → 7 ≤ n → zeros n ≡ after limits d
+  exceeded-so : 0 ≡ refusal d → (n : ℕ) → n ≡ number → 7 ≤ n → zeros n ≡ after L d
   exceeded-so e n i h =
-      sym (all-zero n h) ∙ ap (left-by d) (sym (picked n _ (λ z. omega (arith, h, z)))) ∙ ap (λ (m : ℕ). left-by d (pick m (given (rendered limits (source-of d) (reading (source-of d) (d .fuel)))))) i ∙ read-so e
+      sym (all-zero n h) ∙ ap (left-by d) (sym (picked n _ (λ z. omega (arith, h, z)))) ∙ ap (λ (m : ℕ). left-by d (pick m (given (rendered L (source-of d) (reading L (source-of d) (d .fuel)))))) i ∙ read-so e
 
   -- a room that has no place for the SOURCE_FILE begin event
   module _ (h : length (d .events) < 4) where
@@ -82,12 +81,12 @@ module _ (d : Desk) where
     seven-first v m (inl z) k = ap (λ (w : ℕ). rooms.first-of w (exceeds E R m)) z ∙ exceeds-events E R m (omega (arith, h, k))
     seven-first v m (inr z) k = ap (λ (w : ℕ). rooms.first-of w (exceeds E R m)) z
 
-    seven : (x : Source) (ds : List P.Draft) → (over E R (map (used limits x) ds) ≡ 0) ⊎ (over E R (map (used limits x) ds) ≡ 7)
+    seven : (x : Source) (ds : List P.Draft) → (over E R (map (used L x) ds) ≡ 0) ⊎ (over E R (map (used L x) ds) ≡ 7)
     seven x [] = inl refl
-    seven x (c ∷ ds) = inr (seven-first (over E R (map (used limits x) ds)) (used limits x c) (seven x ds) (omega arith))
+    seven x (c ∷ ds) = inr (seven-first (over E R (map (used L x) ds)) (used L x c) (seven x ds) (omega arith))
 
-    pub too-small : 0 ≡ refusal d → zeros 7 ≡ after limits d
-    too-small e = exceeded-so e 7 (sym (seven-first (over E R (map (used limits (source-of d)) (reading (source-of d) (d .fuel) .drafts))) _ (seven (source-of d) (reading (source-of d) (d .fuel) .drafts)) (omega arith))) (omega arith)
+    pub too-small : 0 ≡ refusal d → zeros 7 ≡ after L d
+    too-small e = exceeded-so e 7 (sym (seven-first (over E R (map (used L (source-of d)) (reading L (source-of d) (d .fuel) .drafts))) _ (seven (source-of d) (reading L (source-of d) (d .fuel) .drafts)) (omega arith))) (omega arith)
 
   abbrev worst : Bool → Bool → ℕ
   worst b c = elim b [ true ↦ 7 | false ↦ elim c [ true ↦ 8 | false ↦ 0 ] ]
@@ -110,9 +109,9 @@ module _ (d : Desk) where
       go (suc v) (inr z) = inr z
 
   -- r is what the reading left, with what is noted in l
-  module _ (r : D.Desk) (l : List ℕ) {ev er : List ℕ} (z : 0 ≡ refusal d) (f : Framed (source-of d) (d .fuel) (length (d .events)) (length (d .errors)) (tally r l) ev er) where
-    pub room-so : (r .state .full ≡ 0 → ⊥) → zeros (r .state .full) ≡ after limits d
-    room-so n = exceeded-so z (r .state .full) (f .full) (go (big (length (d .events)) (length (d .errors)) (moments limits (source-of d) (reading (source-of d) (d .fuel)))))
+  module _ (r : D.Desk) (l : List ℕ) {ev er : List ℕ} (z : 0 ≡ refusal d) (f : Framed L (source-of d) (d .fuel) (length (d .events)) (length (d .errors)) (tally r l) ev er) where
+    pub room-so : (r .state .full ≡ 0 → ⊥) → zeros (r .state .full) ≡ after L d
+    room-so n = exceeded-so z (r .state .full) (f .full) (go (big (length (d .events)) (length (d .errors)) (moments L (source-of d) (reading L (source-of d) (d .fuel)))))
       where
         go : (number ≡ 0) ⊎ (7 ≤ number) → 7 ≤ r .state .full
         go (inl e) = absurd (n (f .full ∙ e))
@@ -122,20 +121,20 @@ module _ (d : Desk) where
     laid : (w l : List ℕ) (n : ℕ) (lent : List ℕ) → take n l ≡ w → n ≤ length l → length l ≡ length lent → take n l ++ replicate (length l - n) 0 ≡ w ++ replicate (length lent - length w) 0
     laid w l n lent e h i = ap₂ (λ (a : List ℕ) (k : ℕ). a ++ replicate k 0) e (ap₂ _-_ i (sym (length-take-le n l h) ∙ ap length e))
 
-    pub answer-so : r .state .full ≡ 0 → length ev ≡ length (d .events) → length er ≡ length (d .errors) → (sc : List ℕ) → length sc ≡ length (d .scratch) → answering r (getD l 4 0) ev er sc ≡ after limits d
-    answer-so h i j sc k = whole ∙ ap (λ (m : ℕ). left-by d (pick m (given (rendered limits (source-of d) (reading (source-of d) (d .fuel)))))) (sym h ∙ f .full) ∙ read-so z
+    pub answer-so : r .state .full ≡ 0 → length ev ≡ length (d .events) → length er ≡ length (d .errors) → (sc : List ℕ) → length sc ≡ length (d .scratch) → answering r (getD l 4 0) ev er sc ≡ after L d
+    answer-so h i j sc k = whole ∙ ap (λ (m : ℕ). left-by d (pick m (given (rendered L (source-of d) (reading L (source-of d) (d .fuel)))))) (sym h ∙ f .full) ∙ read-so z
       where
-        q : Finished (source-of d) (d .fuel) (tally r l) ev er
+        q : Finished L (source-of d) (d .fuel) (tally r l) ev er
         q = f .finished h
 
-        count : (r .state .ev + 4) / 4 ≡ length (rendered limits (source-of d) (reading (source-of d) (d .fuel)) .events)
+        count : (r .state .ev + 4) / 4 ≡ length (rendered L (source-of d) (reading L (source-of d) (d .fuel)) .events)
         count = omega (arith, q .event-count)
 
-        events : take (r .state .ev + 4) ev ++ replicate (length ev - (r .state .ev + 4)) 0 ≡ left-by d (given (rendered limits (source-of d) (reading (source-of d) (d .fuel)))) .events
+        events : take (r .state .ev + 4) ev ++ replicate (length ev - (r .state .ev + 4)) 0 ≡ left-by d (given (rendered L (source-of d) (reading L (source-of d) (d .fuel)))) .events
         events = laid _ ev (r .state .ev + 4) (d .events) (q .events) (q .event-fits) i
 
-        errors : take (getD l 4 0) er ++ replicate (length er - getD l 4 0) 0 ≡ left-by d (given (rendered limits (source-of d) (reading (source-of d) (d .fuel)))) .errors
+        errors : take (getD l 4 0) er ++ replicate (length er - getD l 4 0) 0 ≡ left-by d (given (rendered L (source-of d) (reading L (source-of d) (d .fuel)))) .errors
         errors = laid _ er (getD l 4 0) (d .errors) (q .errors) (q .error-fits) j
 
-        whole : answering r (getD l 4 0) ev er sc ≡ left-by d (given (rendered limits (source-of d) (reading (source-of d) (d .fuel))))
+        whole : answering r (getD l 4 0) ev er sc ≡ left-by d (given (rendered L (source-of d) (reading L (source-of d) (d .fuel))))
         whole = λ t. record { number = 0; outcome = q .outcome t; covered = q .covered t; event-count = count t; error-count = q .error-count t; left = q .left t; events = events t; errors = errors t; scratch = replicate (k t) 0 }

@@ -20,17 +20,13 @@ use Rattle.definition.specs.Merge.{quads, marks, finished, merged, merger}
 use Rattle.definition.specs.Merge as M
 use Rattle.theorems.proofs.Joined.{Orderly, flat-length, never-9-or-10, read-in-order}
 use Rattle.theorems.proofs.Demands as theorems
-use Rattle.notes.specs.Means.{limits}
 use Rattle.desk.specs.declared.read.Reading as D
 use Rattle.desk.specs.declared.read.Reading.the-variants.{Refused, Answered}
 use Rattle.desk.specs.Framing.{afterOf}
 
--- a result and buffers as the definition leaves them, for any limits L; and what `read` promises
-abbrev pub Left : Limits → Desk → D.Reading → List ℕ → List ℕ → List ℕ → Type 0
-Left L d r ev er sc = afterOf r ev er sc ≡ after L d
-
-abbrev pub Promised : Desk → D.Reading → List ℕ → List ℕ → List ℕ → Type 0
-Promised = Left limits
+-- what `read` promises of a result and buffers, for the limits L that it is handed
+abbrev pub Promised : Limits → Desk → D.Reading → List ℕ → List ℕ → List ℕ → Type 0
+Promised L d r ev er sc = afterOf r ev er sc ≡ after L d
 
 -- ONE OUTCOME: `Refused(0)` and an answer of zeros have the same numbers, but neither is promised of any desk: an answer has at least the two events of
 -- SOURCE_FILE
@@ -45,20 +41,20 @@ two-events L d n =
     let w = ap (λ (a : After). a .event-count) (ap (left-by d) (g .1)) ∙ ap (λ (r : Reading). length (r .events)) (given-is L d (g .0) (g .1) .whole) in
     omega (arith, w, length-append (inside (source-of d) (t .out)) ((3, kinds.SOURCE-FILE, 0, length (d .bytes)) ∷ []))
 
-result-is : (L : Limits) (d : Desk) (r : D.Reading) (ev er sc : List ℕ) → Left L d r ev er sc → answered-of ((after L d) .number) (after L d) ≡ r
+result-is : (L : Limits) (d : Desk) (r : D.Reading) (ev er sc : List ℕ) → Promised L d r ev er sc → answered-of ((after L d) .number) (after L d) ≡ r
 unfolding answered-of
 result-is L d (Refused zero) ev er sc p = absurd (omega (arith, two-events L d (sym (ap (λ (a : After). a .number) p)), ap (λ (a : After). a .event-count) p))
 result-is L d (Refused (suc n)) ev er sc p = ap (λ (a : After). answered-of (a .number) a) (sym p)
 result-is L d (Answered o c e k f) ev er sc p = ap (λ (a : After). answered-of (a .number) a) (sym p)
 
-buffers-are : (L : Limits) (d : Desk) (r : D.Reading) (ev er sc : List ℕ) → Left L d r ev er sc → ((after L d) .events ≡ ev) × ((after L d) .errors ≡ er) × ((after L d) .scratch ≡ sc)
+buffers-are : (L : Limits) (d : Desk) (r : D.Reading) (ev er sc : List ℕ) → Promised L d r ev er sc → ((after L d) .events ≡ ev) × ((after L d) .errors ≡ er) × ((after L d) .scratch ≡ sc)
 buffers-are L d (Refused n) ev er sc p = (ap (λ (a : After). a .events) (sym p), ap (λ (a : After). a .errors) (sym p), ap (λ (a : After). a .scratch) (sym p))
 buffers-are L d (Answered o c e k f) ev er sc p = (ap (λ (a : After). a .events) (sym p), ap (λ (a : After). a .errors) (sym p), ap (λ (a : After). a .scratch) (sym p))
 
 -- "the promise leaves one result and one content of each lent buffer; show any two allowed outcomes equal"
 pub one-outcome : (L : Limits) (d : Desk) (r r′ : D.Reading) (ev er sc ev′ er′ sc′ : List ℕ)
-    → Left L d r ev er sc
-    → Left L d r′ ev′ er′ sc′
+    → Promised L d r ev er sc
+    → Promised L d r′ ev′ er′ sc′
     → (r ≡ r′) × (ev ≡ ev′) × (er ≡ er′) × (sc ≡ sc′)
 one-outcome L d r r′ ev er sc ev′ er′ sc′ p q =
     let b = buffers-are L d r ev er sc p in
@@ -70,29 +66,29 @@ abbrev pub number : D.Reading → ℕ
 number (Refused n) = n
 number (Answered o c e k f) = 0
 
-pub read-number : (d : Desk) (r : D.Reading) (ev er sc : List ℕ) → Promised d r ev er sc → number r ≡ number-of limits d
-read-number d (Refused n) ev er sc p = ap (λ (a : After). a .number) p ∙ theorems.demand-1-number limits d
-read-number d (Answered o c e k f) ev er sc p = ap (λ (a : After). a .number) p ∙ theorems.demand-1-number limits d
+pub read-number : (L : Limits) (d : Desk) (r : D.Reading) (ev er sc : List ℕ) → Promised L d r ev er sc → number r ≡ number-of L d
+read-number L d (Refused n) ev er sc p = ap (λ (a : After). a .number) p ∙ theorems.demand-1-number L d
+read-number L d (Answered o c e k f) ev er sc p = ap (λ (a : After). a .number) p ∙ theorems.demand-1-number L d
 
 -- "with results and buffers as it says"
-pub read-lent : (d : Desk) (r : D.Reading) (n : ℕ) (ev er sc : List ℕ) → refusal d ≡ suc n → Promised d r ev er sc → afterOf r ev er sc ≡ refusing (suc n) (d .events) (d .errors) (d .scratch)
-read-lent d r n ev er sc h p = p ∙ theorems.demand-1-lent limits d n h
+pub read-lent : (L : Limits) (d : Desk) (r : D.Reading) (n : ℕ) (ev er sc : List ℕ) → refusal d ≡ suc n → Promised L d r ev er sc → afterOf r ev er sc ≡ refusing (suc n) (d .events) (d .errors) (d .scratch)
+read-lent L d r n ev er sc h p = p ∙ theorems.demand-1-lent L d n h
 
-pub read-blank : (d : Desk) (r : D.Reading) (n : ℕ) (ev er sc : List ℕ) → refusal d ≡ 0 → exceeded limits d (P.read limits (d .ids) (d .fuel)) ≡ suc n → Promised d r ev er sc →
+pub read-blank : (L : Limits) (d : Desk) (r : D.Reading) (n : ℕ) (ev er sc : List ℕ) → refusal d ≡ 0 → exceeded L d (P.read L (d .ids) (d .fuel)) ≡ suc n → Promised L d r ev er sc →
     afterOf r ev er sc ≡ refusing (suc n) (blank (d .events)) (blank (d .errors)) (blank (d .scratch))
-read-blank d r n ev er sc h i p = p ∙ theorems.demand-1-blank limits d n h i
+read-blank L d r n ev er sc h i p = p ∙ theorems.demand-1-blank L d n h i
 
 take-whole : (a b : List ℕ) → take (length a) (a ++ b) ≡ a
 take-whole [] b = refl
 take-whole (x ∷ a) b = ap (λ (l : List ℕ). x ∷ l) (take-whole a b)
 
 -- an answer, and the reading that it gives
-module _ (d : Desk) {o c e k f : ℕ} {ev er sc : List ℕ} (p : Promised d (Answered o c e k f) ev er sc) where
-  zero-number : (after limits d) .number ≡ 0
+module _ (L : Limits) (d : Desk) {o c e k f : ℕ} {ev er sc : List ℕ} (p : Promised L d (Answered o c e k f) ev er sc) where
+  zero-number : (after L d) .number ≡ 0
   zero-number = sym (ap (λ (a : After). a .number) p)
 
-  pub read-given : (R : Reading) × (answer limits d ≡ given R)
-  read-given = answered limits d zero-number
+  pub read-given : (R : Reading) × (answer L d ≡ given R)
+  read-given = answered L d zero-number
 
   left : afterOf (Answered o c e k f) ev er sc ≡ left-by d (given (read-given .0))
   left = p ∙ ap (left-by d) (read-given .1)
@@ -115,35 +111,35 @@ module _ (d : Desk) {o c e k f : ℕ} {ev er sc : List ℕ} (p : Promised d (Ans
       ap₂ take n read-events ∙ take-whole w (replicate (length (d .events) - length w) 0)
 
   pub read-merges : (room : ℕ) → let l : List ℕ = take (4 * e) ev in merger l room ≡ M.refusing 7 (leb (4 * length (finished l)) room) (merged (finished l))
-  read-merges room = subst (λ (l : List ℕ). merger l room ≡ M.refusing 7 (leb (4 * length (finished l)) room) (merged (finished l))) (sym read-list) (never-9-or-10 limits d (read-given .0) (read-given .1) room)
+  read-merges room = subst (λ (l : List ℕ). merger l room ≡ M.refusing 7 (leb (4 * length (finished l)) room) (merged (finished l))) (sym read-list) (never-9-or-10 L d (read-given .0) (read-given .1) room)
 
   pub read-orderly : Orderly (marks (quads (take (4 * e) ev)))
-  read-orderly = subst (λ (l : List ℕ). Orderly (marks (quads l))) (sym read-list) (read-in-order limits d (read-given .0) (read-given .1))
+  read-orderly = subst (λ (l : List ℕ). Orderly (marks (quads l))) (sym read-list) (read-in-order L d (read-given .0) (read-given .1))
 
   -- DEMAND 2: "If the reader was not stopped, the error list is empty exactly when the PEG accepts every item."
   pub read-accepts : o ≡ 0 → (k ≡ 0) ↔ Accepts (d .ids)
   read-accepts z =
-      let i = theorems.demand-2 limits d zero-number (sym (ap (λ (a : After). a .outcome) p) ∙ z) in
-      let q : k ≡ (after limits d) .error-count = ap (λ (a : After). a .error-count) p in
+      let i = theorems.demand-2 L d zero-number (sym (ap (λ (a : After). a .outcome) p) ∙ z) in
+      let q : k ≡ (after L d) .error-count = ap (λ (a : After). a .error-count) p in
       ((λ h. i .0 (sym q ∙ h)), λ h. q ∙ i .1 h)
 
   -- and as one parsing expression of Ford's
   pub read-accepts-ford : o ≡ 0 → (k ≡ 0) ↔ ((n : ℕ) × Ford rules (star (nt RULE-DECL)) (strip (d .ids)) n (Res.yes []))
   read-accepts-ford z =
-      let i = theorems.demand-2-ford limits d zero-number (sym (ap (λ (a : After). a .outcome) p) ∙ z) in
-      let q : k ≡ (after limits d) .error-count = ap (λ (a : After). a .error-count) p in
+      let i = theorems.demand-2-ford L d zero-number (sym (ap (λ (a : After). a .outcome) p) ∙ z) in
+      let q : k ≡ (after L d) .error-count = ap (λ (a : After). a .error-count) p in
       ((λ h. i .0 (sym q ∙ h)), λ h. q ∙ i .1 h)
 
   -- DEMAND 3: "what it writes up to the closing SOURCE_FILE event is what demand 2 gives inside SOURCE_FILE for the remaining rows as a file of their
   -- own with fuel f, places and record numbers shifted": whoever reads the remaining rows is given R′, which continues what was given here
-  pub read-continues : (n : ℕ) (scratch events errors : List ℕ) → let s : P.State = standing limits d n in let d′ : Desk = remaining d s scratch events errors in
+  pub read-continues : (n : ℕ) (scratch events errors : List ℕ) → let s : P.State = standing L d n in let d′ : Desk = remaining d s scratch events errors in
       Running (s .mode) → words (length (d′ .ids)) ≤ length scratch → length (d .events) ≤ length events → length (d .errors) ≤ length errors →
-      (R′ : Reading) × (answer limits d′ ≡ given R′) × Continued limits d s (read-given .0) R′
-  read-continues n scratch events errors = theorems.demand-3 limits d n scratch events errors (read-given .0) (read-given .1)
+      (R′ : Reading) × (answer L d′ ≡ given R′) × Continued L d s (read-given .0) R′
+  read-continues n scratch events errors = theorems.demand-3 L d n scratch events errors (read-given .0) (read-given .1)
 
   -- "fuel left is fuel given less the definition's `begin` steps, or 0 if they are more"
-  pub read-fuel : f ≡ d .fuel - P.begin-steps limits (d .ids) (d .fuel)
-  read-fuel = ap (λ (a : After). a .left) left ∙ theorems.fuel-left-is limits d (read-given .0) (read-given .1)
+  pub read-fuel : f ≡ d .fuel - P.begin-steps L (d .ids) (d .fuel)
+  read-fuel = ap (λ (a : After). a .left) left ∙ theorems.fuel-left-is L d (read-given .0) (read-given .1)
 
 refuelled : After → ℕ → After
 refuelled a f = record { number = a .number; outcome = a .outcome; covered = a .covered; event-count = a .event-count; error-count = a .error-count; left = f; events = a .events; errors = a .errors; scratch = a .scratch }
@@ -153,7 +149,7 @@ with-left (Refused n) f = Refused n
 with-left (Answered o c e k g) f = Answered o c e k f
 
 -- REQUEST (xiii): "More fuel never changes a finished reading", for any limits L. Here a reading ended with outcome 0.
-module _ (L : Limits) (d : Desk) {c e k f : ℕ} {ev er sc : List ℕ} (p : Left L d (Answered 0 c e k f) ev er sc) where
+module _ (L : Limits) (d : Desk) {c e k f : ℕ} {ev er sc : List ℕ} (p : Promised L d (Answered 0 c e k f) ev er sc) where
   was-given : (R : Reading) × (answer L d ≡ given R)
   was-given = answered L d (sym (ap (λ (a : After). a .number) p))
 
@@ -176,7 +172,7 @@ module _ (L : Limits) (d : Desk) {c e k f : ℕ} {ev er sc : List ℕ} (p : Left
   -- on any fuel that is not less than was spent: the same result but for the fuel left, and the same buffers; it is never refused
   pub read-enough-fuel : (g : ℕ) (r′ : D.Reading) (ev′ er′ sc′ : List ℕ)
       → spent ≤ g
-      → Left L (theorems.fuelled d g) r′ ev′ er′ sc′
+      → Promised L (theorems.fuelled d g) r′ ev′ er′ sc′
       → (r′ ≡ Answered 0 c e k (g - spent)) × (ev′ ≡ ev) × (er′ ≡ er) × (sc′ ≡ sc)
   unfolding refuelled
   read-enough-fuel g r′ ev′ er′ sc′ l q =
@@ -190,7 +186,7 @@ module _ (L : Limits) (d : Desk) {c e k f : ℕ} {ev er sc : List ℕ} (p : Left
   -- difference"
   pub read-more-fuel : (g : ℕ) (r′ : D.Reading) (ev′ er′ sc′ : List ℕ)
       → d .fuel ≤ g
-      → Left L (theorems.fuelled d g) r′ ev′ er′ sc′
+      → Promised L (theorems.fuelled d g) r′ ev′ er′ sc′
       → (r′ ≡ Answered 0 c e k (f + (g - d .fuel))) × (ev′ ≡ ev) × (er′ ≡ er) × (sc′ ≡ sc)
   read-more-fuel g r′ ev′ er′ sc′ l q =
       let z = read-enough-fuel g r′ ev′ er′ sc′ (omega (arith, l)) q in
@@ -200,7 +196,7 @@ module _ (L : Limits) (d : Desk) {c e k f : ℕ} {ev er sc : List ℕ} (p : Left
   -- "fuel too small by any amount ends with outcome 1 and never 0", in any rooms in which it is answered
   pub read-less-fuel : (g : ℕ) (lsc lev ler : List ℕ) {o′ c′ e′ k′ f′ : ℕ} {ev′ er′ sc′ : List ℕ}
       → g < spent
-      → Left L (theorems.relent d g lsc lev ler) (Answered o′ c′ e′ k′ f′) ev′ er′ sc′
+      → Promised L (theorems.relent d g lsc lev ler) (Answered o′ c′ e′ k′ f′) ev′ er′ sc′
       → o′ ≡ 1
   read-less-fuel g lsc lev ler l q =
       let d′ : Desk = theorems.relent d g lsc lev ler in
@@ -210,7 +206,7 @@ module _ (L : Limits) (d : Desk) {c e k f : ℕ} {ev er sc : List ℕ} (p : Left
 
   -- "the fuel a file uses when it finishes is the least that finishes it"
   pub read-least-fuel : (g : ℕ) (lsc lev ler : List ℕ) {c′ e′ k′ f′ : ℕ} {ev′ er′ sc′ : List ℕ}
-      → Left L (theorems.relent d g lsc lev ler) (Answered 0 c′ e′ k′ f′) ev′ er′ sc′
+      → Promised L (theorems.relent d g lsc lev ler) (Answered 0 c′ e′ k′ f′) ev′ er′ sc′
       → spent ≤ g
   read-least-fuel g lsc lev ler q =
       let d′ : Desk = theorems.relent d g lsc lev ler in
@@ -221,7 +217,7 @@ module _ (L : Limits) (d : Desk) {c e k f : ℕ} {ev er sc : List ℕ} (p : Left
   -- the lists of two finished readings in other rooms: the same numbers, each list with zeros behind it
   pub read-same-lists : (g : ℕ) (lsc lev ler : List ℕ) {o′ c′ e′ k′ f′ : ℕ} {ev′ er′ sc′ : List ℕ}
       → spent ≤ g
-      → Left L (theorems.relent d g lsc lev ler) (Answered o′ c′ e′ k′ f′) ev′ er′ sc′
+      → Promised L (theorems.relent d g lsc lev ler) (Answered o′ c′ e′ k′ f′) ev′ er′ sc′
       → (Answered o′ c′ e′ k′ f′ ≡ Answered 0 c e k (g - spent))
       × ((events errors : List ℕ) × (ev ≡ filled events (d .events)) × (ev′ ≡ filled events lev) × (er ≡ filled errors (d .errors)) × (er′ ≡ filled errors ler))
   unfolding answered-of with-left

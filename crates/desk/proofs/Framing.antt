@@ -20,7 +20,7 @@ use Rattle.definition.proofs.Buffer.{buffer-length, buffer-read}
 use Rattle.notes.specs.Whole.{Whole}
 use Rattle.notes.specs.Bits.{ifb, bitAt}
 use Rattle.notes.specs.Change.{withEv, withFull}
-use Rattle.notes.specs.Means.{limits, Bufs, bufs, Means, recorded, overOf, modeOf}
+use Rattle.notes.specs.Means.{Bufs, bufs, Means, recorded, overOf, modeOf}
 use Rattle.notes.specs.Did.{Wf, Put}
 use Rattle.notes.proofs.Naming.{none-named}
 use Rattle.notes.proofs.Rooms.{ev-count, er-count, first-of, exceeds-none, exceeds-events, full-first}
@@ -40,8 +40,8 @@ unfolding bitAt
 no-bits n i = ap (λ (w : ℕ). eqb (w / 2 ^ (i % 64) % 2) 1) (zero-at n (i / 64)) ∙ ap (λ (w : ℕ). eqb (w % 2) 1) (zero-div (2 ^ (i % 64)))
 
 -- before the first item
-pub blank-wf : (x : Source) (fuel evcap ercap : ℕ) (ev er sc : List ℕ) → evcap ≤ length ev → ercap ≤ length er → 2 * (length (x .ids) + 1) ≤ 64 * length sc → Wf x (bufs ev er sc) (tally (blank fuel evcap) (clean ercap) .state)
-blank-wf x fuel evcap ercap ev er sc h i j = (
+pub blank-wf : (x : Source) (fuel evcap ercap quote : ℕ) (ev er sc : List ℕ) → evcap ≤ length ev → ercap ≤ length er → 2 * (length (x .ids) + 1) ≤ 64 * length sc → Wf x (bufs ev er sc) (tally (blank fuel evcap) (clean ercap quote) .state)
+blank-wf x fuel evcap ercap quote ev er sc h i j = (
   (
     record { here = omega arith; since = le-refl 0; far-in = omega arith; want-in = omega arith; want-since = λ n. absurd (n refl); unwant-in = omega arith; unwant-since = λ n. absurd (n refl) },
     none-named (replicate 58 0) refl,
@@ -72,8 +72,8 @@ items-chosen L (suc n) s e = go (s .rest) (s .mode) (items-chosen L n (P.item L 
     go (i ∷ is) failed h = e
     go (i ∷ is) (stopped w) h = e
 
-none-chosen : (x : Source) (fuel : ℕ) → reading x fuel .chosen ≡ []
-none-chosen x fuel = items-chosen limits (length (x .ids)) (P.start (x .ids) fuel) refl
+none-chosen : (L : P.Limits) (x : Source) (fuel : ℕ) → reading L x fuel .chosen ≡ []
+none-chosen L x fuel = items-chosen L (length (x .ids)) (P.start (x .ids) fuel) refl
 
 -- events one after another
 flat-end : (a : List Quad) (q : Quad) → flat (a ++ (q ∷ [])) ≡ flat a ++ four (q .0) (q .1) (q .2) (q .3)
@@ -84,30 +84,30 @@ flat-length : (a : List Quad) → length (flat a) ≡ 4 * length a
 flat-length [] = refl
 flat-length (e ∷ a) = omega (arith, flat-length a)
 
-module _ (x : Source) (fuel evcap R : ℕ) {d : Tally} {t : Whole} {ev₁ ev₂ er sc : List ℕ}
-    (B : Between (evcap + 4) R x d (bufs ev₁ er sc) (reading x fuel)) (w : Wf x (bufs ev₁ er sc) (d .state)) (put : Put (four 3 k.SOURCE-FILE 0 (length (x .bytes))) (d .state) t ev₁ ev₂) where
+module _ (L : P.Limits) (x : Source) (fuel evcap R : ℕ) {d : Tally} {t : Whole} {ev₁ ev₂ er sc : List ℕ}
+    (B : Between L (evcap + 4) R x d (bufs ev₁ er sc) (reading L x fuel)) (w : Wf x (bufs ev₁ er sc) (d .state)) (put : Put (four 3 k.SOURCE-FILE 0 (length (x .bytes))) (d .state) t ev₁ ev₂) where
   a : P.State
-  a = reading x fuel
+  a = reading L x fuel
 
   -- which room is exceeded first
-  pub exceeded : t .full ≡ over (evcap + 4) R (moments limits x (reading x fuel))
+  pub exceeded : t .full ≡ over (evcap + 4) R (moments L x (reading L x fuel))
   unfolding overOf
   exceeded = go (ℕ-discrete (d .state .full) 0)
     where
-      past : d .state .full ≡ over (evcap + 4) R (map (used limits x) (reading x fuel .drafts))
+      past : d .state .full ≡ over (evcap + 4) R (map (used L x) (reading L x fuel .drafts))
       past = B .stands .over
 
       last : ℕ × ℕ
-      last = (4 * suc (suc (length (reading x fuel .out))), said limits x (reading x fuel .out))
+      last = (4 * suc (suc (length (reading L x fuel .out))), said L x (reading L x fuel .out))
 
       goal : ℕ → Type 0
       goal v = t .full ≡ first-of v (exceeds (evcap + 4) R last)
 
-      go : Dec (d .state .full ≡ 0) → goal (over (evcap + 4) R (map (used limits x) (reading x fuel .drafts)))
+      go : Dec (d .state .full ≡ 0) → goal (over (evcap + 4) R (map (used L x) (reading L x fuel .drafts)))
       go (no n) = put .stuck n ∙ past ∙ sym (full-first _ _ (λ z. n (past ∙ z)))
       go (yes z) = subst goal (sym z ∙ past) (fits (decLt (d .state .evcap) (d .state .ev + 4)))
         where
-          m : Means (pastOf (evcap + 4) R x (reading x fuel)) x (d .state) (bufs ev₁ er sc) (reading x fuel)
+          m : Means (pastOf L (evcap + 4) R x (reading L x fuel)) x (d .state) (bufs ev₁ er sc) (reading L x fuel)
           m = B .stands .means z
 
           room : evcap + 4 ≡ d .state .evcap + 4
@@ -116,10 +116,10 @@ module _ (x : Source) (fuel evcap R : ℕ) {d : Tally} {t : Whole} {ev₁ ev₂ 
           wide : R ≡ d .state .ercap
           wide = m .chosen .room
 
-          many : d .state .ev ≡ 4 * length (reading x fuel .out)
+          many : d .state .ev ≡ 4 * length (reading L x fuel .out)
           many = ev-count w m
 
-          told : said limits x (reading x fuel .out) ≤ R
+          told : said L x (reading L x fuel .out) ≤ R
           told = omega (arith, er-count w m, wide, w .0 .2 .errors)
 
           fits : Dec (d .state .evcap < d .state .ev + 4) → goal 0
@@ -128,39 +128,39 @@ module _ (x : Source) (fuel evcap R : ℕ) {d : Tally} {t : Whole} {ev₁ ev₂ 
 
   -- the finished lists, where none is
   module _ (z : t .full ≡ 0) where
-    m : Means (pastOf (evcap + 4) R x (reading x fuel)) x (d .state) (bufs ev₁ er sc) (reading x fuel)
+    m : Means (pastOf L (evcap + 4) R x (reading L x fuel)) x (d .state) (bufs ev₁ er sc) (reading L x fuel)
     m = B .stands .means (put .room z)
 
-    inner : take (t .ev) ev₂ ≡ flat (inside x (reading x fuel .out)) ++ four 3 k.SOURCE-FILE 0 (length (x .bytes))
-    inner = put .wrote z ∙ ap (λ (l : List ℕ). l ++ four 3 k.SOURCE-FILE 0 (length (x .bytes))) (m .written .is ∙ buffer-read x limits (x .ids) fuel)
+    inner : take (t .ev) ev₂ ≡ flat (inside x (reading L x fuel .out)) ++ four 3 k.SOURCE-FILE 0 (length (x .bytes))
+    inner = put .wrote z ∙ ap (λ (l : List ℕ). l ++ four 3 k.SOURCE-FILE 0 (length (x .bytes))) (m .written .is ∙ buffer-read x L (x .ids) fuel)
 
     fits : t .ev ≤ length ev₂
     fits = omega (arith, put .fits, w .1 .events, put .long)
 
-    events-are : (first rest : List ℕ) → first ≡ four 1 k.SOURCE-FILE 0 (length (x .bytes)) → take (t .ev + 4) (first ++ (ev₂ ++ rest)) ≡ flat (rendered limits x (reading x fuel) .events)
+    events-are : (first rest : List ℕ) → first ≡ four 1 k.SOURCE-FILE 0 (length (x .bytes)) → take (t .ev + 4) (first ++ (ev₂ ++ rest)) ≡ flat (rendered L x (reading L x fuel) .events)
     events-are first rest e =
         ap (λ (l : List ℕ). take (t .ev + 4) (l ++ (ev₂ ++ rest))) e
         ∙ ap (λ (n : ℕ). take n (four 1 k.SOURCE-FILE 0 (length (x .bytes)) ++ (ev₂ ++ rest))) (add-comm (t .ev) 4)
         ∙ take-append-add (four 1 k.SOURCE-FILE 0 (length (x .bytes))) (ev₂ ++ rest) (t .ev)
         ∙ ap (λ (l : List ℕ). four 1 k.SOURCE-FILE 0 (length (x .bytes)) ++ l)
-        (take-append-le (t .ev) ev₂ rest fits ∙ inner ∙ sym (flat-end (inside x (reading x fuel .out)) (3, k.SOURCE-FILE, 0, length (x .bytes))))
+        (take-append-le (t .ev) ev₂ rest fits ∙ inner ∙ sym (flat-end (inside x (reading L x fuel .out)) (3, k.SOURCE-FILE, 0, length (x .bytes))))
 
-    records-are : take (d .state .er) er ≡ flat-records (records limits x (reading x fuel .out) [])
+    records-are : take (d .state .er) er ≡ flat-records (records L x (reading L x fuel .out) [])
     unfolding recorded
-    records-are = m .chosen .is ∙ ap (λ (c : List (ℕ × P.Choice)). flat-records (records limits x (reading x fuel .out) [] ++ recorded x c)) (none-chosen x fuel) ∙ ap flat-records (append-nil (records limits x (reading x fuel .out) []))
+    records-are = m .chosen .is ∙ ap (λ (c : List (ℕ × P.Choice)). flat-records (records L x (reading L x fuel .out) [] ++ recorded L x c)) (none-chosen L x fuel) ∙ ap flat-records (append-nil (records L x (reading L x fuel .out) []))
 
-    many-events : t .ev + 4 ≡ 4 * length (rendered limits x (reading x fuel) .events)
+    many-events : t .ev + 4 ≡ 4 * length (rendered L x (reading L x fuel) .events)
     many-events =
-        let i = inside x (reading x fuel .out) in
-        omega (arith, put .more z, ev-count w m, sym (flat-length i) ∙ ap length (sym (buffer-read x limits (x .ids) fuel)) ∙ buffer-length x (reading x fuel .out), length-append i ((3, k.SOURCE-FILE, 0, length (x .bytes)) ∷ []))
+        let i = inside x (reading L x fuel .out) in
+        omega (arith, put .more z, ev-count w m, sym (flat-length i) ∙ ap length (sym (buffer-read x L (x .ids) fuel)) ∙ buffer-length x (reading L x fuel .out), length-append i ((3, k.SOURCE-FILE, 0, length (x .bytes)) ∷ []))
 
-    covered : d .state .pos ≡ length (x .ids) - length (reading x fuel .rest)
+    covered : d .state .pos ≡ length (x .ids) - length (reading L x fuel .rest)
     covered = omega (arith, ap length (m .rest) ∙ length-drop (d .state .pos) (x .ids), w .0 .0 .here)
 
     field : {A : Type 0} (f : Whole → A) → f t ≡ f (withEv (t .ev) (withFull (t .full) (d .state)))
     field f = ap f (put .is)
 
-    pub finished : (first rest : List ℕ) → first ≡ four 1 k.SOURCE-FILE 0 (length (x .bytes)) → Finished x fuel (record { state = t; before = d .before }) (first ++ (ev₂ ++ rest)) er
+    pub finished : (first rest : List ℕ) → first ≡ four 1 k.SOURCE-FILE 0 (length (x .bytes)) → Finished L x fuel (record { state = t; before = d .before }) (first ++ (ev₂ ++ rest)) er
     finished first rest e =
         record {
           events = events-are first rest e;
@@ -175,34 +175,34 @@ module _ (x : Source) (fuel evcap R : ℕ) {d : Tally} {t : Whole} {ev₁ ev₂ 
         }
 
 -- all items, from nothing on: xs are the events with the begin event, whose other cells are lent, and l₀ the list of notes
-module _ (x : Source) (fuel : ℕ) (xs er₀ sc₀ l₀ : List ℕ) {d₀ : Desk} (e : d₀ ≡ blank fuel (length xs - 4)) (n : l₀ ≡ replicate 67 0) where
+module _ (L : P.Limits) (x : Source) (fuel : ℕ) (xs er₀ sc₀ l₀ : List ℕ) {d₀ : Desk} (e : d₀ ≡ blank fuel (length xs - 4)) (n : l₀ ≡ replicate 68 0) where
   abbrev first : Tally
-  first = tally d₀ (set l₀ 5 (length er₀))
+  first = tally d₀ (set (set l₀ 5 (length er₀)) 9 (L .quote))
 
-  begins : first ≡ tally (blank fuel (length xs - 4)) (clean (length er₀))
-  begins = λ i. tally (e i) (set (n i) 5 (length er₀))
+  begins : first ≡ tally (blank fuel (length xs - 4)) (clean (length er₀) (L .quote))
+  begins = λ i. tally (e i) (set (set (n i) 5 (length er₀)) 9 (L .quote))
 
   pub opens : 2 * (length (x .ids) + 1) ≤ 64 * length sc₀ → Wf x (bufs (midOf 4 (length xs - 4) xs) er₀ sc₀) (first .state) × Settled (first .state)
   opens i =
       subst (λ (c : Tally). Wf x (bufs (midOf 4 (length xs - 4) xs) er₀ sc₀) (c .state) × Settled (c .state)) (sym begins)
-      (blank-wf x fuel (length xs - 4) (length er₀) (midOf 4 (length xs - 4) xs) er₀ sc₀ (omega (arith, mid-len 4 (length xs) xs (le-refl (length xs)))) (le-refl (length er₀)) i, (refl, refl))
+      (blank-wf x fuel (length xs - 4) (length er₀) (L .quote) (midOf 4 (length xs - 4) xs) er₀ sc₀ (omega (arith, mid-len 4 (length xs) xs (le-refl (length xs)))) (le-refl (length er₀)) i, (refl, refl))
 
-  pub frames : {d : Tally} {t : Whole} {ev₁ ev₂ er sc : List ℕ} → sc₀ ≡ replicate (length sc₀) 0 → 4 ≤ length xs → (E : ℕ) → length xs ≡ E → take 4 xs ≡ four 1 k.SOURCE-FILE 0 (length (x .bytes)) →
-      Goes (P.items limits (length (x .ids))) x first d (bufs (midOf 4 (length xs - 4) xs) er₀ sc₀) (bufs ev₁ er sc) → Put (four 3 k.SOURCE-FILE 0 (length (x .bytes))) (d .state) t ev₁ ev₂ →
-      Framed x fuel E (length er₀) (record { state = t; before = d .before }) (putMid 4 (length xs - 4) xs ev₂) er
-  frames {d} {t} {ev₁} {ev₂} {er} {sc} none h E whole front g put =
+  pub frames : {depth : ℕ} {d : Tally} {t : Whole} {ev₁ ev₂ er sc : List ℕ} → sc₀ ≡ replicate (length sc₀) 0 → 4 ≤ length xs → (E : ℕ) → length xs ≡ E → take 4 xs ≡ four 1 k.SOURCE-FILE 0 (length (x .bytes)) → L .depth ≡ depth →
+      Goes depth (length (x .ids)) x first d (bufs (midOf 4 (length xs - 4) xs) er₀ sc₀) (bufs ev₁ er sc) → Put (four 3 k.SOURCE-FILE 0 (length (x .bytes))) (d .state) t ev₁ ev₂ →
+      Framed L x fuel E (length er₀) (record { state = t; before = d .before }) (putMid 4 (length xs - 4) xs ev₂) er
+  frames {depth} {d} {t} {ev₁} {ev₂} {er} {sc} none h E whole front deep g put =
       record {
-        full = exceeded x fuel (length xs - 4) (length er₀) B (g .wf) put ∙ ap (λ (n : ℕ). over n (length er₀) (moments limits x (reading x fuel))) room;
-        finished = λ z. finished x fuel (length xs - 4) (length er₀) B (g .wf) put z (take 4 xs) (postOf 4 (length xs - 4) xs) front;
+        full = exceeded L x fuel (length xs - 4) (length er₀) B (g .wf) put ∙ ap (λ (n : ℕ). over n (length er₀) (moments L x (reading L x fuel))) room;
+        finished = λ z. finished L x fuel (length xs - 4) (length er₀) B (g .wf) put z (take 4 xs) (postOf 4 (length xs - 4) xs) front;
       }
     where
       room : length xs - 4 + 4 ≡ E
       room = omega (arith, h, whole)
 
-      B : Between (length xs - 4 + 4) (length er₀) x d (bufs ev₁ er sc) (reading x fuel)
+      B : Between L (length xs - 4 + 4) (length er₀) x d (bufs ev₁ er sc) (reading L x fuel)
       B =
-          reads x fuel (length xs - 4) (length er₀) (midOf 4 (length xs - 4) xs) er₀ sc₀ (λ i. ap (λ (l : List ℕ). bitAt l i) none ∙ no-bits (length sc₀) i)
-          (subst (λ (c : Tally). Goes (P.items limits (length (x .ids))) x c d (bufs (midOf 4 (length xs - 4) xs) er₀ sc₀) (bufs ev₁ er sc)) begins g)
+          reads L x fuel (length xs - 4) (length er₀) (midOf 4 (length xs - 4) xs) er₀ sc₀ (λ i. ap (λ (l : List ℕ). bitAt l i) none ∙ no-bits (length sc₀) i) deep
+          (subst (λ (c : Tally). Goes depth (length (x .ids)) x c d (bufs (midOf 4 (length xs - 4) xs) er₀ sc₀) (bufs ev₁ er sc)) begins g)
 
 -- outcomes by the code's mode
 pub done : (m : ℕ) → m < 2 → 0 ≡ outcomeOf m

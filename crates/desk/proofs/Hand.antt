@@ -13,10 +13,10 @@ use Rattle.kinds.specs.Sets.{pick}
 use Rattle.kinds.specs.Answers.{isSome}
 use Rattle.definition.specs.Grammar.{rule-decl}
 use Rattle.definition.specs.Run as P
-use Rattle.definition.specs.Run.{Choice, Next, end, other, hit}
+use Rattle.definition.specs.Run.{Choice, Limits, Next, end, other, hit}
 use Rattle.definition.specs.Render.{Source, Rec, records}
 use Rattle.notes.specs.Whole.{Whole}
-use Rattle.notes.specs.Means.{limits, Bufs, Past, Means, Stands, Apart, recorded, overOf}
+use Rattle.notes.specs.Means.{Bufs, Past, Means, Stands, Apart, recorded, overOf}
 use Rattle.notes.specs.Did.{Wf, Did, Below, Distinct}
 use Rattle.notes.proofs.Core.{Sticky}
 use Rattle.notes.proofs.Sticky.{sticky-exec}
@@ -27,7 +27,7 @@ use Rattle.desk.proofs.Telling.{recorded-length}
 use Rattle.desk.proofs.Stray.{sticky-stray}
 
 -- what stands recorded is what the error events say
-pub heard : {p : Past} {x : Source} {s : Whole} {b : Bufs} {a : P.State} → Stands p x s b a → Stands (pastOf (p .event-room) (p .error-room) x a) x s b a
+pub heard : {p : Past} {x : Source} {s : Whole} {b : Bufs} {a : P.State} → Stands p x s b a → Stands (pastOf (p .limits) (p .event-room) (p .error-room) x a) x s b a
 unfolding overOf
 heard {p} {x} {s} {b} {a} t = record { over = t .over; means = λ z. let m = t .means z in subst (λ (l : List Rec). Means (since p l) x s b a) (sym (m .written .past)) (same m) }
   where
@@ -40,21 +40,21 @@ heard {p} {x} {s} {b} {a} t = record { over = t .over; means = λ z. let m = t .
           written = record { is = m .written .is; past = m .written .past; room = m .written .room };
           want = m .want;
           unwant = m .unwant;
-          chosen = record { is = m .chosen .is; since = m .chosen .since; room = m .chosen .room; apart = m .chosen .apart };
+          chosen = record { is = m .chosen .is; since = m .chosen .since; room = m .chosen .room; quoted = m .chosen .quoted; apart = m .chosen .apart };
           cache = m .cache;
         }
 
-sticky-rule : (p : Past) (x : Source) (a : P.State) → Sticky p x a (P.read-rule limits a)
+sticky-rule : (L : Limits) (p : Past) (x : Source) (a : P.State) → Sticky p x a (P.read-rule L a)
 unfolding P.read-rule
-sticky-rule p x a = sticky-exec p x (limits .depth) rule-decl false a
+sticky-rule L p x a = sticky-exec p x (L .depth) rule-decl false a
 
-pub sticky-hand : (p : Past) (x : Source) (a : P.State) → Sticky p x a (at-hand a)
-sticky-hand p x a = go (P.sought P.rule-keywords (a .rest))
+pub sticky-hand : (L : Limits) (p : Past) (x : Source) (a : P.State) → Sticky p x a (at-hand L a)
+sticky-hand L p x a = go (P.sought P.rule-keywords (a .rest))
   where
-    go : (n : Next) → Sticky p x a (P.item-at limits n a)
+    go : (n : Next) → Sticky p x a (P.item-at L n a)
     go end = λ z. refl
     go other = sticky-stray p x a
-    go (hit i is) = sticky-rule p x a
+    go (hit i is) = sticky-rule L p x a
 
 -- what stands at hand
 module _ (ids : List ℕ) (at : ℕ) where
@@ -85,57 +85,59 @@ apart-few : (n : ℕ) (es : List (ℕ × Choice)) → Apart n es → length es �
 apart-few n es a = let y = own-rows n es a in omega (arith, few (suc n) (rows es) (y .0) (y .1), rows-length es)
 
 -- where a room was exceeded before
-pub hand-stuck : {x : Source} {s : Whole} {before : ℕ} {b : Bufs} → (s .full ≡ 0 → ⊥) → Wf x b s → Hands x s before (record { state = s; before = before }) b b
+pub hand-stuck : {depth : ℕ} {x : Source} {s : Whole} {before : ℕ} {b : Bufs} → (s .full ≡ 0 → ⊥) → Wf x b s → Hands depth x s before (record { state = s; before = before }) b b
 unfolding overOf
-hand-stuck {x} n w =
+hand-stuck {depth} {x} n w =
     record {
-      does = λ p a t f. record { over = t .over ∙ sym (sticky-hand p x a (λ z. n (t .over ∙ z))); means = λ z. absurd (n z) };
-      count = λ p a t f z. absurd (n z);
-      few = λ p a t f z. absurd (n z);
+      does = λ p a i t f. record { over = t .over ∙ sym (sticky-hand (p .limits) p x a (λ z. n (t .over ∙ z))); means = λ z. absurd (n z) };
+      count = λ p a i t f z. absurd (n z);
+      few = λ p a i t f z. absurd (n z);
       wf = w;
       room = λ z. z;
       first = refl;
       ahead = le-refl _;
     }
 
+-- by what stands at hand
 module _ {x : Source} {s : Whole} {b : Bufs} (z : s .full ≡ 0) where
-  -- by what stands at hand
-  hand-is : (n : Next) → P.sought P.rule-keywords (drop (s .pos) (x .ids)) ≡ n → {p : Past} {a : P.State} → Stands p x s b a → P.item-at limits n a ≡ at-hand a
-  hand-is n q {p} {a} t = ap (λ (k : Next). P.item-at limits k a) (sym (ap (P.sought P.rule-keywords) (t .means z .rest) ∙ q))
+  hand-is : (n : Next) → P.sought P.rule-keywords (drop (s .pos) (x .ids)) ≡ n → {p : Past} {a : P.State} → Stands p x s b a → P.item-at (p .limits) n a ≡ at-hand (p .limits) a
+  hand-is n q {p} {a} t = ap (λ (k : Next). P.item-at (p .limits) k a) (sym (ap (P.sought P.rule-keywords) (t .means z .rest) ∙ q))
 
+module _ {depth : ℕ} {x : Source} {s : Whole} {b : Bufs} (z : s .full ≡ 0) where
   -- n was read, as the definition does it
   hands : (n : Next) → P.sought P.rule-keywords (drop (s .pos) (x .ids)) ≡ n → (d : Tally) (before : ℕ) {b′ : Bufs}
-      → ((p : Past) (a : P.State) → Stands p x s b a → Free p s before a → (l : List Rec) × Stands (since p l) x (d .state) b′ (P.item-at limits n a) × (d .state .full ≡ 0 → d .before ≡ length l) × (d .state .full ≡ 0 → d .before + length (P.item-at limits n a .chosen) ≤ before + (length (x .ids) - s .first) + 1))
-      → Wf x b′ (d .state) → d .state .first ≡ s .first → s .pos ≤ d .state .pos → Hands x s before d b b′
-  hands n q d before {b′} g w i h =
+      → ((p : Past) (a : P.State) → p .limits .depth ≡ depth → Stands p x s b a → Free p s before a → (l : List Rec) × Stands (since p l) x (d .state) b′ (P.item-at (p .limits) n a) × (d .state .full ≡ 0 → d .before ≡ length l) × (d .state .full ≡ 0 → d .before + length (P.item-at (p .limits) n a .chosen) ≤ before + (length (x .ids) - s .first) + 1))
+      → Wf x b′ (d .state) → d .state .first ≡ s .first → s .pos ≤ d .state .pos → Hands depth x s before d b b′
+  hands n q d before {b′} g w same h =
       record {
-        does = λ p a t f.
-            let y = g p a t f in
-            subst (λ (c : P.State). Stands (pastOf (p .event-room) (p .error-room) x c) x (d .state) b′ c) (hand-is n q t) (heard (y .1));
-        count = λ p a t f v. let y = g p a t f in y .2 v ∙ ap length (sym (y .1 .means v .written .past)) ∙ ap (λ (c : P.State). length (records limits x (c .out) [])) (hand-is n q t);
-        few = λ p a t f v. subst (λ (c : P.State). d .before + length (c .chosen) ≤ before + (length (x .ids) - s .first) + 1) (hand-is n q t) (g p a t f .3 v);
+        does = λ p a i t f.
+            let y = g p a i t f in
+            subst (λ (c : P.State). Stands (pastOf (p .limits) (p .event-room) (p .error-room) x c) x (d .state) b′ c) (hand-is z n q t) (heard (y .1));
+        count = λ p a i t f v. let y = g p a i t f in y .2 v ∙ ap length (sym (y .1 .means v .written .past)) ∙ ap (λ (c : P.State). length (records (p .limits) x (c .out) [])) (hand-is z n q t);
+        few = λ p a i t f v. subst (λ (c : P.State). d .before + length (c .chosen) ≤ before + (length (x .ids) - s .first) + 1) (hand-is z n q t) (g p a i t f .3 v);
         wf = w;
         room = λ v. z;
-        first = i;
+        first = same;
         ahead = h;
       }
 
-  pub hand-end : {before : ℕ} → length (x .ids) ≤ s .pos → Wf x b s → Hands x s before (record { state = s; before = before }) b b
-  hand-end {before} h w = hands end (at-end (x .ids) (s .pos) h) (record { state = s; before = before }) before (λ p a t f. (p .records, t, (λ v. f z .1), λ v. omega (arith, ap length (f z .0)))) w refl (le-refl _)
+  pub hand-end : {before : ℕ} → length (x .ids) ≤ s .pos → Wf x b s → Hands depth x s before (record { state = s; before = before }) b b
+  hand-end {before} h w = hands end (at-end (x .ids) (s .pos) h) (record { state = s; before = before }) before (λ p a i t f. (p .records, t, (λ v. f z .1), λ v. omega (arith, ap length (f z .0)))) w refl (le-refl _)
 
   module _ (h : s .pos < length (x .ids)) where
-    pub hand-rule : {before : ℕ} {r : Whole} {b′ : Bufs} → true ≡ isSome (pick P.rule-keywords (getD (x .ids) (s .pos) 0)) → Did (P.read-rule limits) x s r b b′ → Hands x s before (record { state = r; before = before }) b b′
+    pub hand-rule : {before : ℕ} {r : Whole} {b′ : Bufs} → true ≡ isSome (pick P.rule-keywords (getD (x .ids) (s .pos) 0)) → ((L : Limits) → L .depth ≡ depth → Did (P.read-rule L) x s r b b′) → Hands depth x s before (record { state = r; before = before }) b b′
     hand-rule {before} {r} e y =
         let i = getD (x .ids) (s .pos) 0 in
         let o = picked (pick P.rule-keywords i) in
+        let any = y (record { depth = depth; quote = 0 }) refl in
         hands (hit o (drop (suc (s .pos)) (x .ids))) (at-row (x .ids) (s .pos) (some o) h (has-some P.rule-keywords i e)) (record { state = r; before = before }) before
-        (λ p a t f. (p .records, y .does p a t, (λ v. f z .1), λ v. omega (arith, apart-few (length (x .ids) - r .first) (P.read-rule limits a .chosen) (y .does p a t .means v .chosen .apart), y .first)))
-        (y .wf) (y .first) (y .ahead)
+        (λ p a e t f. let u = y (p .limits) e in (p .records, u .does p a t, (λ v. f z .1), λ v. omega (arith, apart-few (length (x .ids) - r .first) (P.read-rule (p .limits) a .chosen) (u .does p a t .means v .chosen .apart), u .first)))
+        (any .wf) (any .first) (any .ahead)
 
-    pub hand-stray : {before : ℕ} {d : Tally} {b′ : Bufs} → false ≡ isSome (pick P.rule-keywords (getD (x .ids) (s .pos) 0)) → Strays x s before d b b′ → Hands x s before d b b′
+    pub hand-stray : {before : ℕ} {d : Tally} {b′ : Bufs} → false ≡ isSome (pick P.rule-keywords (getD (x .ids) (s .pos) 0)) → Strays x s before d b b′ → Hands depth x s before d b b′
     hand-stray {before} {d} e y =
         hands other (at-row (x .ids) (s .pos) none h (lacks P.rule-keywords (getD (x .ids) (s .pos) 0) e)) d before
-        (λ p a t f.
+        (λ p a i t f.
         let one : List (ℕ × Choice) = (length (a .rest), P.stray) ∷ [] in
-        (p .records ++ recorded x one, y .does p a t f, y .count p a t f, λ v. omega (arith, y .count p a t f v, f z .1, length-append (p .records) (recorded x one), recorded-length x one, ap length (f z .0))))
+        (p .records ++ recorded (p .limits) x one, y .does p a t f, y .count p a t f, λ v. omega (arith, y .count p a t f v, f z .1, length-append (p .records) (recorded (p .limits) x one), recorded-length (p .limits) x one, ap length (f z .0))))
         (y .wf) (y .first) (y .ahead)

@@ -13,7 +13,7 @@ use Rattle.definition.specs.Render.{Source, Rec, flat-records, used, held}
 use Rattle.notes.specs.Whole.{Whole}
 use Rattle.notes.specs.Bits.{ifb}
 use Rattle.choice.specs.Choice as C
-use Rattle.notes.specs.Means.{limits, bufs, Past, Means, Stands, Lines, recorded, overOf}
+use Rattle.notes.specs.Means.{bufs, Past, Means, Stands, Lines, recorded, overOf}
 use Rattle.notes.specs.Did.{Wf, Events}
 use Rattle.notes.proofs.Rooms.{flat-append, er-count, fits, first-of, spill, exceeds-none, exceeds-errors}
 use Rattle.notes.proofs.Core.{Sticky, sticky-mark}
@@ -63,7 +63,7 @@ module _ (x : Source) (s s₁ : Whole) (before st en : ℕ) (ev er er₁ sc : Li
     back : length (x .ids) - length (a .rest) ≡ s .pos
     back = ap (λ (r : List ℕ). length (x .ids) - length r) (m .rest) ∙ row (s .pos) (x .ids) (w .0 .0 .here)
 
-    numbers : _≡_ {A = List ℕ} (st ∷ en ∷ 10 ∷ 0 ∷ []) (flat-records (recorded x one))
+    numbers : _≡_ {A = List ℕ} (st ∷ en ∷ 10 ∷ 0 ∷ []) (flat-records (recorded (p .limits) x one))
     unfolding recorded
     numbers =
         ap₂ (λ (i j : ℕ). i ∷ j ∷ 10 ∷ 0 ∷ []) (q ∙ sym (start-is x (length (a .rest)) (s .pos) back (omega (arith, l .level, w .0 .0 .here)))) (q′ ∙ sym (end-is x (length (a .rest)) (s .pos) back (omega (arith, l .level))))
@@ -73,12 +73,12 @@ module _ (x : Source) (s s₁ : Whole) (before st en : ℕ) (ev er er₁ sc : Li
     noted-over = u .filled ∙ go (ltb (s .ercap) (s .er + 4)) refl ∙ ap (λ (i : ℕ). first-of i (spill p x (a .out) one)) (sym z ∙ t .over)
       where
         go : (c : Bool) → ltb (s .ercap) (s .er + 4) ≡ c → _≡_ {A = ℕ} (ifb c 8 0) (spill p x (a .out) one)
-        go true i = let g : s .ercap < s .er + 4 = ltb-true (s .ercap) (s .er + 4) i in sym (exceeds-errors (p .event-room) (p .error-room) (used limits x (a .out, one)) (fits w m .0) (omega (arith, er-count w m, ap (held limits x) e, m .chosen .room)))
-        go false i = let g : s .er + 4 ≤ s .ercap = ltb-false (s .ercap) (s .er + 4) i in sym (exceeds-none (p .event-room) (p .error-room) (used limits x (a .out, one)) (fits w m .0) (omega (arith, er-count w m, ap (held limits x) e, m .chosen .room)))
+        go true i = let g : s .ercap < s .er + 4 = ltb-true (s .ercap) (s .er + 4) i in sym (exceeds-errors (p .event-room) (p .error-room) (used (p .limits) x (a .out, one)) (fits w m .0) (omega (arith, er-count w m, ap (held (p .limits) x) e, m .chosen .room)))
+        go false i = let g : s .er + 4 ≤ s .ercap = ltb-false (s .ercap) (s .er + 4) i in sym (exceeds-none (p .event-room) (p .error-room) (used (p .limits) x (a .out, one)) (fits w m .0) (omega (arith, er-count w m, ap (held (p .limits) x) e, m .chosen .room)))
 
-    none : recorded x (a .chosen) ≡ []
+    none : recorded (p .limits) x (a .chosen) ≡ []
     unfolding recorded
-    none = ap (recorded x) e
+    none = ap (recorded (p .limits) x) e
 
     noted-means : s₁ .full ≡ 0 → Means p x s₁ (bufs ev er₁ sc) (noted a)
     noted-means y =
@@ -95,9 +95,10 @@ module _ (x : Source) (s s₁ : Whole) (before st en : ℕ) (ev er er₁ sc : Li
                 is =
                     u .wrote y
                     ∙ ap₂ (λ (i j : List ℕ). i ++ j) (m .chosen .is ∙ ap (λ (r : List Rec). flat-records (p .records ++ r)) none ∙ ap flat-records (append-nil (p .records))) numbers
-                    ∙ sym (flat-append (p .records) (recorded x one));
+                    ∙ sym (flat-append (p .records) (recorded (p .limits) x one));
                 since = m .chosen .since;
                 room = m .chosen .room;
+                quoted = m .chosen .quoted;
                 apart = (omega (arith, ap length (m .rest), length-drop (s .pos) (x .ids), w .0 .0 .since), refl, tt);
               };
           cache = m .cache;

@@ -11,75 +11,75 @@ use lib.Dec.{ltb}
 use lib.ListN.{length, take, drop, length-append}
 use lib.Seq.{length-take-le, take-add, drop-at}
 use Rattle.definition.specs.Run as P
-use Rattle.definition.specs.Run.{Event, opened, leaf, closed, bad, Choice}
+use Rattle.definition.specs.Run.{Event, opened, leaf, closed, bad, Choice, Limits}
 use Rattle.definition.specs.Buffer.{four, buffer}
 use Rattle.definition.specs.Render.{Source, Rec, record-of, records, flat-records, bads, said, used, starts-at, ends-at}
 use Rattle.definition.proofs.Buffer.{buffer-bad, buffer-length}
 use Rattle.notes.specs.Whole.{Whole}
 use Rattle.notes.specs.Bits.{ifb}
-use Rattle.notes.specs.Means.{limits, bufs, Past, recorded, Chosen, Means, Stands, overOf}
+use Rattle.notes.specs.Means.{bufs, Past, recorded, Chosen, Means, Stands, overOf}
 use Rattle.notes.specs.Did.{Wf}
 use Rattle.notes.proofs.Rooms.{flat-append, said-is, ev-count, fits, first-of, spill, full-first, exceeds-none, exceeds-events}
 use Rattle.desk.specs.Items.{Tally, most, notes, Flushed, withItem, tell, told, Numbered, Tells}
 use Rattle.desk.proofs.Writing.{notes-one, notes-none}
 
-module _ (x : Source) where
+module _ (L : Limits) (x : Source) where
   -- a record more is written behind those of the events before
-  records-on : (o : List Event) (l : List Rec) → records limits x o l ≡ records limits x o [] ++ l
+  records-on : (o : List Event) (l : List Rec) → records L x o l ≡ records L x o [] ++ l
   records-on [] l = refl
   records-on (opened n ∷ o) l = records-on o l
   records-on (leaf a n ∷ o) l = records-on o l
   records-on (closed a n m ∷ o) l = records-on o l
   records-on (bad n c ∷ o) l =
-      let r : Rec = record-of limits x n c in
-      records-on o (r ∷ l) ∙ sym (append-assoc (records limits x o []) (r ∷ []) l) ∙ ap (λ (k : List Rec). k ++ l) (sym (records-on o (r ∷ [])))
+      let r : Rec = record-of L x n c in
+      records-on o (r ∷ l) ∙ sym (append-assoc (records L x o []) (r ∷ []) l) ∙ ap (λ (k : List Rec). k ++ l) (sym (records-on o (r ∷ [])))
 
-  pub errors-records : (es : List (ℕ × Choice)) (o : List Event) → records limits x (P.errors es o) [] ≡ records limits x o [] ++ recorded x es
+  pub errors-records : (es : List (ℕ × Choice)) (o : List Event) → records L x (P.errors es o) [] ≡ records L x o [] ++ recorded L x es
   unfolding recorded
-  errors-records [] o = sym (append-nil (records limits x o []))
+  errors-records [] o = sym (append-nil (records L x o []))
   errors-records (e ∷ es) o =
-      let r : Rec = record-of limits x (e .0) (e .1) in
-      errors-records es (bad (e .0) (e .1) ∷ o) ∙ ap (λ (k : List Rec). k ++ recorded x es) (records-on o (r ∷ [])) ∙ append-assoc (records limits x o []) (r ∷ []) (recorded x es)
+      let r : Rec = record-of L x (e .0) (e .1) in
+      errors-records es (bad (e .0) (e .1) ∷ o) ∙ ap (λ (k : List Rec). k ++ recorded L x es) (records-on o (r ∷ [])) ∙ append-assoc (records L x o []) (r ∷ []) (recorded L x es)
 
-  pub bads-records : (o : List Event) (l : List Rec) → length (records limits x o l) ≡ bads o + length l
+  pub bads-records : (o : List Event) (l : List Rec) → length (records L x o l) ≡ bads o + length l
   bads-records [] l = omega arith
   bads-records (opened n ∷ o) l = bads-records o l
   bads-records (leaf a n ∷ o) l = bads-records o l
   bads-records (closed a n m ∷ o) l = bads-records o l
-  bads-records (bad n c ∷ o) l = omega (arith, bads-records o (record-of limits x n c ∷ l))
+  bads-records (bad n c ∷ o) l = omega (arith, bads-records o (record-of L x n c ∷ l))
 
-  pub recorded-length : (es : List (ℕ × Choice)) → length (recorded x es) ≡ length es
+  pub recorded-length : (es : List (ℕ × Choice)) → length (recorded L x es) ≡ length es
   unfolding recorded
   recorded-length [] = refl
   recorded-length (e ∷ es) = ap suc (recorded-length es)
 
-  recorded-none : recorded x [] ≡ []
+  recorded-none : recorded L x [] ≡ []
   unfolding recorded
   recorded-none = refl
 
-  errors-buffer : (es : List (ℕ × Choice)) (o : List Event) → bads o + length es ≤ most → buffer x (P.errors es o) ≡ buffer x o ++ notes (bads o) 0 (flat-records (recorded x es))
+  errors-buffer : (es : List (ℕ × Choice)) (o : List Event) → bads o + length es ≤ most → buffer x (P.errors es o) ≡ buffer x o ++ notes (bads o) 0 (flat-records (recorded L x es))
   unfolding recorded
   errors-buffer [] o h = sym (ap (λ (l : List ℕ). buffer x o ++ l) (notes-none (bads o)) ∙ append-nil (buffer x o))
   errors-buffer (e ∷ es) o h =
-      let r : Rec = record-of limits x (e .0) (e .1) in
+      let r : Rec = record-of L x (e .0) (e .1) in
       let q = four 4 (bads o) (starts-at x (e .0)) (ends-at x (e .0)) in
-      let l = notes (suc (bads o)) 0 (flat-records (recorded x es)) in
+      let l = notes (suc (bads o)) 0 (flat-records (recorded L x es)) in
       errors-buffer es (bad (e .0) (e .1) ∷ o) (omega arith)
       ∙ ap (λ (k : List ℕ). k ++ l) (buffer-bad x (e .0) (e .1) o)
       ∙ append-assoc (buffer x o) q l
-      ∙ ap (λ (k : List ℕ). buffer x o ++ k) (sym (notes-one (bads o) (starts-at x (e .0)) (ends-at x (e .0)) (r .2) (r .3) (flat-records (recorded x es)) (omega arith)))
+      ∙ ap (λ (k : List ℕ). buffer x o ++ k) (sym (notes-one (bads o) (starts-at x (e .0)) (ends-at x (e .0)) (r .2) (r .3) (flat-records (recorded L x es)) (omega arith)))
 
   errors-length : (es : List (ℕ × Choice)) (o : List Event) → length (P.errors es o) ≡ length es + length o
   errors-length [] o = omega arith
   errors-length (e ∷ es) o = omega (arith, errors-length es (bad (e .0) (e .1) ∷ o))
 
 -- the records of the item at hand
-item-part : {x : Source} {p : Past} {first er ercap item : ℕ} {errors : List ℕ} {es : List (ℕ × Choice)} → Chosen x p first er ercap item errors es → item ≤ er → er ≤ length errors → take (er - item) (drop item errors) ≡ flat-records (recorded x es)
+item-part : {x : Source} {p : Past} {first er ercap item quote : ℕ} {errors : List ℕ} {es : List (ℕ × Choice)} → Chosen x p first er ercap item quote errors es → item ≤ er → er ≤ length errors → take (er - item) (drop item errors) ≡ flat-records (recorded (p .limits) x es)
 item-part {x} {p} {er = er} {item = item} {errors = errors} {es = es} k i l =
     let e : item + (er - item) ≡ er = omega arith in
     sym (drop-at (take item errors) (take (er - item) (drop item errors)) item (length-take-le item errors (omega arith)))
-    ∙ ap (drop item) (sym (take-add item (er - item) errors) ∙ ap (λ (j : ℕ). take j errors) e ∙ k .is ∙ flat-append (p .records) (recorded x es))
-    ∙ drop-at (flat-records (p .records)) (flat-records (recorded x es)) item (sym (k .since))
+    ∙ ap (drop item) (sym (take-add item (er - item) errors) ∙ ap (λ (j : ℕ). take j errors) e ∙ k .is ∙ flat-append (p .records) (recorded (p .limits) x es))
+    ∙ drop-at (flat-records (p .records)) (flat-records (recorded (p .limits) x es)) item (sym (k .since))
 
 module _ (x : Source) (s : Whole) (before : ℕ) (d : Tally) (ev ev′ er sc : List ℕ) (w : Wf x (bufs ev er sc) s) (u : Flushed (take (s .er - s .item) (drop (s .item) er)) before s d ev ev′) where
   abbrev q : List ℕ
@@ -95,12 +95,12 @@ module _ (x : Source) (s : Whole) (before : ℕ) (d : Tally) (ev ev′ er sc : L
     wrote : s .full ≡ 0 → buffer x out′ ≡ buffer x (a .out) ++ q
     wrote z =
         let m = t .means z in
-        let c : bads (a .out) ≡ before = omega (arith, bads-records x (a .out) [], ap length (m .written .past), n z .0) in
-        errors-buffer x (a .chosen) (a .out) (omega (arith, n z .1))
+        let c : bads (a .out) ≡ before = omega (arith, bads-records (p .limits) x (a .out) [], ap length (m .written .past), n z .0) in
+        errors-buffer (p .limits) x (a .chosen) (a .out) (omega (arith, n z .1))
         ∙ ap₂ (λ (i : ℕ) (l : List ℕ). buffer x (a .out) ++ notes i 0 l) c (sym (item-part (m .chosen) (w .0 .2 .since) (omega (arith, w .0 .2 .errors, w .1 .errors))))
 
     size : s .full ≡ 0 → length q ≡ 4 * length (a .chosen)
-    size z = omega (arith, ap length (wrote z), length-append (buffer x (a .out)) q, buffer-length x out′, buffer-length x (a .out), errors-length x (a .chosen) (a .out))
+    size z = omega (arith, ap length (wrote z), length-append (buffer x (a .out)) q, buffer-length x out′, buffer-length x (a .out), errors-length (p .limits) x (a .chosen) (a .out))
 
     spills : s .full ≡ 0 → d .state .full ≡ spill p x out′ []
     spills z = u .puts .filled z ∙ go (ltb (s .evcap) (s .ev + length q)) refl
@@ -109,14 +109,14 @@ module _ (x : Source) (s : Whole) (before : ℕ) (d : Tally) (ev ev′ er sc : L
         m = t .means z
 
         big : 4 * length out′ ≡ s .ev + length q
-        big = omega (arith, size z, errors-length x (a .chosen) (a .out), ev-count w m)
+        big = omega (arith, size z, errors-length (p .limits) x (a .chosen) (a .out), ev-count w m)
 
-        same : said limits x out′ ≡ s .er
-        same = omega (arith, said-is limits x out′ [], ap (λ (l : List Rec). length (flat-records l)) (errors-records x (a .chosen) (a .out) ∙ ap (λ (l : List Rec). l ++ recorded x (a .chosen)) (m .written .past)), ap length (m .chosen .is), length-take-le (s .er) er (omega (arith, w .0 .2 .errors, w .1 .errors)))
+        same : said (p .limits) x out′ ≡ s .er
+        same = omega (arith, said-is (p .limits) x out′ [], ap (λ (l : List Rec). length (flat-records l)) (errors-records (p .limits) x (a .chosen) (a .out) ∙ ap (λ (l : List Rec). l ++ recorded (p .limits) x (a .chosen)) (m .written .past)), ap length (m .chosen .is), length-take-le (s .er) er (omega (arith, w .0 .2 .errors, w .1 .errors)))
 
         go : (c : Bool) → ltb (s .evcap) (s .ev + length q) ≡ c → _≡_ {A = ℕ} (ifb c 7 0) (spill p x out′ [])
-        go true e = let l : s .evcap < s .ev + length q = ltb-true (s .evcap) (s .ev + length q) e in sym (exceeds-events (p .event-room) (p .error-room) (used limits x (out′, [])) (omega (arith, big, m .written .room)))
-        go false e = let l : s .ev + length q ≤ s .evcap = ltb-false (s .evcap) (s .ev + length q) e in sym (exceeds-none (p .event-room) (p .error-room) (used limits x (out′, [])) (omega (arith, big, m .written .room)) (omega (arith, same, m .chosen .room, w .0 .2 .errors)))
+        go true e = let l : s .evcap < s .ev + length q = ltb-true (s .evcap) (s .ev + length q) e in sym (exceeds-events (p .event-room) (p .error-room) (used (p .limits) x (out′, [])) (omega (arith, big, m .written .room)))
+        go false e = let l : s .ev + length q ≤ s .evcap = ltb-false (s .evcap) (s .ev + length q) e in sym (exceeds-none (p .event-room) (p .error-room) (used (p .limits) x (out′, [])) (omega (arith, big, m .written .room)) (omega (arith, same, m .chosen .room, w .0 .2 .errors)))
 
     told-over : d .state .full ≡ overOf (told p x a) x (tell a)
     unfolding overOf
@@ -135,14 +135,15 @@ module _ (x : Source) (s : Whole) (before : ℕ) (d : Tally) (ev ev′ er sc : L
           rest = m .rest;
           mode = m .mode;
           fuel = m .fuel;
-          written = record { is = u .puts .wrote z ∙ ap (λ (l : List ℕ). l ++ q) (m .written .is) ∙ sym (wrote y); past = errors-records x (a .chosen) (a .out) ∙ ap (λ (l : List Rec). l ++ recorded x (a .chosen)) (m .written .past); room = m .written .room };
+          written = record { is = u .puts .wrote z ∙ ap (λ (l : List ℕ). l ++ q) (m .written .is) ∙ sym (wrote y); past = errors-records (p .limits) x (a .chosen) (a .out) ∙ ap (λ (l : List Rec). l ++ recorded (p .limits) x (a .chosen)) (m .written .past); room = m .written .room };
           want = m .want;
           unwant = m .unwant;
           chosen =
               record {
-                is = m .chosen .is ∙ ap flat-records (sym (ap (λ (l : List Rec). told p x a .records ++ l) (recorded-none x) ∙ append-nil (told p x a .records)));
+                is = m .chosen .is ∙ ap flat-records (sym (ap (λ (l : List Rec). told p x a .records ++ l) (recorded-none (p .limits) x) ∙ append-nil (told p x a .records)));
                 since = sym (length-take-le (s .er) er (omega (arith, w .0 .2 .errors, w .1 .errors))) ∙ ap length (m .chosen .is);
                 room = m .chosen .room;
+                quoted = m .chosen .quoted;
                 apart = tt;
               };
           cache = m .cache;
@@ -154,7 +155,7 @@ module _ (x : Source) (s : Whole) (before : ℕ) (d : Tally) (ev ev′ er sc : L
         does = λ p a t n. record { over = told-over p a t n; means = told-means p a t n };
         count = λ p a t n z.
             let y = u .puts .room z in
-            omega (arith, u .counted, size p a t n y, n y .0, length-append (p .records) (recorded x (a .chosen)), recorded-length x (a .chosen));
+            omega (arith, u .counted, size p a t n y, n y .0, length-append (p .records) (recorded (p .limits) x (a .chosen)), recorded-length (p .limits) x (a .chosen));
         wf = subst (λ (r : Whole). Wf x (bufs ev′ er sc) (withItem (s .er) r)) (sym (u .puts .is)) ((w .0 .0, w .0 .1, record { events = u .puts .fits; since = le-refl _; errors = w .0 .2 .errors }), record { events = omega (arith, w .1 .events, u .puts .long); errors = w .1 .errors; scratch = w .1 .scratch });
         is = ap (withItem (s .er)) (u .puts .is);
         room = u .puts .room;

@@ -4,13 +4,19 @@ use mathlib.Core.Path.{_≡_}
 use mathlib.Core.List.{List, _++_}
 use lib.ListN.{length, take, replicate}
 use Rattle.definition.specs.Run as P
+use Rattle.definition.specs.Run.{Limits}
 use Rattle.definition.specs.Render.{Source, Reading, rendered, outcome-of, moments, over, flat, flat-records}
 use Rattle.definition.specs.Answer.{After, refusing}
-use Rattle.notes.specs.Means.{limits, modeOf}
+use Rattle.notes.specs.Means.{modeOf}
 use Rattle.desk.specs.declared.items.Desk.{Desk}
 use Rattle.desk.specs.Items.{Tally}
+use Rattle.desk.specs.declared.read.Limits as C
 use Rattle.desk.specs.declared.read.Reading as D
 use Rattle.desk.specs.declared.read.Reading.the-variants.{Refused, Answered}
+
+-- the definition's limits, of the code's
+abbrev pub limitsOf : C.Limits → Limits
+limitsOf l = record { depth = l .depth; quote = l .quote }
 
 -- "A refusal returns its number and zeros"; "An answer returns outcome, rows covered, counts of events and error records, fuel left"
 abbrev pub afterOf : D.Reading → List ℕ → List ℕ → List ℕ → After
@@ -36,21 +42,21 @@ answering d left ev er sc =
       scratch = replicate (length sc) 0;
     }
 
-abbrev pub reading : Source → ℕ → P.State
-reading x fuel = P.read limits (x .ids) fuel
+abbrev pub reading : Limits → Source → ℕ → P.State
+reading L x fuel = P.read L (x .ids) fuel
 
 -- the lists that a reading gives, and its numbers, E and R being the rooms
-pub record Finished (x : Source) (fuel : ℕ) (r : Tally) (ev er : List ℕ) : Type 0 where
-  pub events : take (r .state .ev + 4) ev ≡ flat (rendered limits x (reading x fuel) .events)
-  pub errors : take (r .state .er) er ≡ flat-records (rendered limits x (reading x fuel) .errors)
+pub record Finished (L : Limits) (x : Source) (fuel : ℕ) (r : Tally) (ev er : List ℕ) : Type 0 where
+  pub events : take (r .state .ev + 4) ev ≡ flat (rendered L x (reading L x fuel) .events)
+  pub errors : take (r .state .er) er ≡ flat-records (rendered L x (reading L x fuel) .errors)
   pub event-fits : r .state .ev + 4 ≤ length ev
   pub error-fits : r .state .er ≤ length er
-  pub outcome : outcomeOf (r .state .mode) ≡ rendered limits x (reading x fuel) .outcome
-  pub covered : r .state .pos ≡ rendered limits x (reading x fuel) .covered
-  pub event-count : r .state .ev + 4 ≡ 4 * length (rendered limits x (reading x fuel) .events)
-  pub error-count : r .before ≡ length (rendered limits x (reading x fuel) .errors)
-  pub left : r .state .fuel ≡ rendered limits x (reading x fuel) .left
+  pub outcome : outcomeOf (r .state .mode) ≡ rendered L x (reading L x fuel) .outcome
+  pub covered : r .state .pos ≡ rendered L x (reading L x fuel) .covered
+  pub event-count : r .state .ev + 4 ≡ 4 * length (rendered L x (reading L x fuel) .events)
+  pub error-count : r .before ≡ length (rendered L x (reading L x fuel) .errors)
+  pub left : r .state .fuel ≡ rendered L x (reading L x fuel) .left
 
-pub record Framed (x : Source) (fuel E R : ℕ) (r : Tally) (ev er : List ℕ) : Type 0 where
-  pub full : r .state .full ≡ over E R (moments limits x (reading x fuel))
-  pub finished : r .state .full ≡ 0 → Finished x fuel r ev er
+pub record Framed (L : Limits) (x : Source) (fuel E R : ℕ) (r : Tally) (ev er : List ℕ) : Type 0 where
+  pub full : r .state .full ≡ over E R (moments L x (reading L x fuel))
+  pub finished : r .state .full ≡ 0 → Finished L x fuel r ev er

@@ -7,12 +7,13 @@ use lib.Dec.{eqb, leb, ltb}
 use lib.ListN.{length, take, set, replicate}
 use Rattle.kinds.specs.Kinds as k
 use Rattle.definition.specs.Run as P
+use Rattle.definition.specs.Run.{Limits}
 use Rattle.definition.specs.Buffer.{four}
 use Rattle.definition.specs.Render.{Source, Rec, records}
 use Rattle.notes.specs.Whole.{Whole}
 use Rattle.notes.specs.Bits.{ifb}
 use Rattle.notes.specs.Change.{withEv, withFull}
-use Rattle.notes.specs.Means.{limits, Bufs, Past, Stands, recorded}
+use Rattle.notes.specs.Means.{Bufs, Past, Stands, recorded}
 use Rattle.notes.specs.Did.{Wf}
 use Rattle.steps.specs.Steps.{whole}
 use Rattle.desk.specs.declared.items.Desk.{Desk}
@@ -58,18 +59,18 @@ pub record Flushed (records : List ℕ) (before : ℕ) (s : Whole) (r : Tally) (
   pub counted : 4 * r .before ≡ 4 * before + length (notes before 0 records)
 
 abbrev pub withItem : ℕ → Whole → Whole
-withItem n s = record { pos = s .pos; fuel = s .fuel; mode = s .mode; ev = s .ev; evcap = s .evcap; full = s .full; want = s .want; unwant = s .unwant; count = s .count; mask = s .mask; codes = s .codes; er = s .er; ercap = s .ercap; item = n; first = s .first; far = s .far }
+withItem n s = record { pos = s .pos; fuel = s .fuel; mode = s .mode; ev = s .ev; evcap = s .evcap; full = s .full; want = s .want; unwant = s .unwant; count = s .count; mask = s .mask; codes = s .codes; er = s .er; ercap = s .ercap; item = n; first = s .first; far = s .far; quote = s .quote }
 
 -- "Pending errors .. are written as events": the chosen ones are written, and none is left
 abbrev pub tell : P.Reader
 tell a = P.mark (record { rest = a .rest; mode = a .mode; fuel = a .fuel; out = P.errors (a .chosen) (a .out); want = a .want; unwant = a .unwant; chosen = []; cache = a .cache; begun = a .begun; drafts = a .drafts })
 
--- the rooms, and what stands recorded
+-- the limits and rooms, and what stands recorded
 abbrev pub since : Past → List Rec → Past
-since p l = record { event-room = p .event-room; error-room = p .error-room; records = l }
+since p l = record { limits = p .limits; event-room = p .event-room; error-room = p .error-room; records = l }
 
 abbrev pub told : Past → Source → P.State → Past
-told p x a = since p (p .records ++ recorded x (a .chosen))
+told p x a = since p (p .records ++ recorded (p .limits) x (a .chosen))
 
 -- as many error events stand written as there are records, and there are numbers left for those of the errors that are chosen
 abbrev pub Numbered : Past → Whole → ℕ → P.State → Type 0
@@ -93,7 +94,7 @@ junk-node a =
 
 -- with form 10's record
 abbrev pub blamed : Past → Source → P.State → Past
-blamed p x a = since p (p .records ++ recorded x ((length (a .rest), P.stray) ∷ []))
+blamed p x a = since p (p .records ++ recorded (p .limits) x ((length (a .rest), P.stray) ∷ []))
 
 -- form 10 can be numbered, and no error is pending
 abbrev pub Free : Past → Whole → ℕ → P.State → Type 0
@@ -109,18 +110,18 @@ pub record Strays (x : Source) (s : Whole) (before : ℕ) (r : Tally) (b b′ : 
   pub ahead : s .pos ≤ r .state .pos
 
 -- by the row at hand
-abbrev pub at-hand : P.Reader
-at-hand a = P.item-at limits (P.sought P.rule-keywords (a .rest)) a
+abbrev pub at-hand : Limits → P.Reader
+at-hand L a = P.item-at L (P.sought P.rule-keywords (a .rest)) a
 
--- the rooms, and the records of the errors that stand written
-abbrev pub pastOf : ℕ → ℕ → Source → P.State → Past
-pastOf E R x a = record { event-room = E; error-room = R; records = records limits x (a .out) [] }
+-- the limits and rooms, and the records of the errors that stand written
+abbrev pub pastOf : Limits → ℕ → ℕ → Source → P.State → Past
+pastOf L E R x a = record { limits = L; event-room = E; error-room = R; records = records L x (a .out) [] }
 
--- the row at hand was read; the errors of n rows that are to be written now are few
-pub record Hands (x : Source) (s : Whole) (before : ℕ) (r : Tally) (b b′ : Bufs) : Type 0 where
-  pub does : (p : Past) (a : P.State) → Stands p x s b a → Free p s before a → Stands (pastOf (p .event-room) (p .error-room) x (at-hand a)) x (r .state) b′ (at-hand a)
-  pub count : (p : Past) (a : P.State) → Stands p x s b a → Free p s before a → r .state .full ≡ 0 → r .before ≡ length (records limits x (at-hand a .out) [])
-  pub few : (p : Past) (a : P.State) → Stands p x s b a → Free p s before a → r .state .full ≡ 0 → r .before + length (at-hand a .chosen) ≤ before + (length (x .ids) - s .first) + 1
+-- the row at hand was read, where so many nodes may be open; the errors that are to be written now are few
+pub record Hands (depth : ℕ) (x : Source) (s : Whole) (before : ℕ) (r : Tally) (b b′ : Bufs) : Type 0 where
+  pub does : (p : Past) (a : P.State) → p .limits .depth ≡ depth → Stands p x s b a → Free p s before a → let c = at-hand (p .limits) a in Stands (pastOf (p .limits) (p .event-room) (p .error-room) x c) x (r .state) b′ c
+  pub count : (p : Past) (a : P.State) → p .limits .depth ≡ depth → Stands p x s b a → Free p s before a → r .state .full ≡ 0 → r .before ≡ length (records (p .limits) x (at-hand (p .limits) a .out) [])
+  pub few : (p : Past) (a : P.State) → p .limits .depth ≡ depth → Stands p x s b a → Free p s before a → r .state .full ≡ 0 → r .before + length (at-hand (p .limits) a .chosen) ≤ before + (length (x .ids) - s .first) + 1
   pub wf : Wf x b′ (r .state)
   pub room : r .state .full ≡ 0 → s .full ≡ 0
   pub first : r .state .first ≡ s .first
@@ -128,7 +129,7 @@ pub record Hands (x : Source) (s : Whole) (before : ℕ) (r : Tally) (b b′ : B
 
 -- "between items it holds position, fuel and outputs only"
 abbrev pub settled : Whole → Whole
-settled s = record { pos = s .pos; fuel = s .fuel; mode = ifb (eqb (s .mode) 1) 0 (s .mode); ev = s .ev; evcap = s .evcap; full = s .full; want = 0; unwant = 0; count = s .count; mask = s .mask; codes = s .codes; er = s .er; ercap = s .ercap; item = s .item; first = s .pos; far = s .pos }
+settled s = record { pos = s .pos; fuel = s .fuel; mode = ifb (eqb (s .mode) 1) 0 (s .mode); ev = s .ev; evcap = s .evcap; full = s .full; want = 0; unwant = 0; count = s .count; mask = s .mask; codes = s .codes; er = s .er; ercap = s .ercap; item = s .item; first = s .pos; far = s .pos; quote = s .quote }
 
 abbrev pub Settled : Whole → Type 0
 Settled s = (s .item ≡ s .er) × (s .first ≡ s .pos)
@@ -137,16 +138,16 @@ Settled s = (s .item ≡ s .er) × (s .first ≡ s .pos)
 abbrev pub over : ℕ → Whole → Bool
 over n s = ifb (eqb (s .full) 0) (ifb (eqb (s .mode) 0) (leb n (s .pos)) true) true
 
--- between two items, E and R being the rooms. Each item takes a row and brings at most one record for each row that is left from its first on, and
+-- between two items, L being the limits, E and R the rooms. Each item takes a row and brings at most one record for each row that is left from its first on, and
 -- for the source's end; so the records before row `pos` can be numbered by 32 bits
-pub record Between (E R : ℕ) (x : Source) (d : Tally) (b : Bufs) (a : P.State) : Type 0 where
-  pub stands : Stands (pastOf E R x a) x (d .state) b a
-  pub count : d .state .full ≡ 0 → d .before ≡ length (records limits x (a .out) [])
+pub record Between (L : Limits) (E R : ℕ) (x : Source) (d : Tally) (b : Bufs) (a : P.State) : Type 0 where
+  pub stands : Stands (pastOf L E R x a) x (d .state) b a
+  pub count : d .state .full ≡ 0 → d .before ≡ length (records L x (a .out) [])
   pub few : d .state .full ≡ 0 → d .state .mode ≡ 0 → (d .state .pos ≡ 0 → d .before ≡ 0) × (d .before ≤ d .state .pos * 65536 + 1)
 
--- from between two items to between two items, f being done
-pub record Goes (f : P.Reader) (x : Source) (d r : Tally) (b b′ : Bufs) : Type 0 where
-  pub does : (E R : ℕ) (a : P.State) → Between E R x d b a → Between E R x r b′ (f a)
+-- from between two items to between two items, n of them being read, where so many nodes may be open
+pub record Goes (depth n : ℕ) (x : Source) (d r : Tally) (b b′ : Bufs) : Type 0 where
+  pub does : (L : Limits) (E R : ℕ) (a : P.State) → L .depth ≡ depth → Between L E R x d b a → Between L E R x r b′ (P.items L n a)
   pub wf : Wf x b′ (r .state)
   pub settles : Settled (r .state)
 
@@ -154,6 +155,6 @@ pub record Goes (f : P.Reader) (x : Source) (d r : Tally) (b b′ : Bufs) : Type
 abbrev pub blank : ℕ → ℕ → Desk
 blank fuel evcap = record { state = record { pos = 0; ev = 0; evcap = evcap; fuel = fuel; mode = 0; full = 0 }; before = 0 }
 
--- where nothing is noted but how many numbers of error records may be written
-abbrev pub clean : ℕ → List ℕ
-clean ercap = set (replicate 67 0) 5 ercap
+-- where nothing is noted but how many numbers of error records may be written, and how long a text may be to be quoted
+abbrev pub clean : ℕ → ℕ → List ℕ
+clean ercap quote = set (set (replicate 68 0) 5 ercap) 9 quote

@@ -18,9 +18,8 @@ ghost use mathlib.Core.List.{List, []};
 ghost use Prim.Native.Nat.{ℕ, _*_, _≤_, _<_};
 ghost use lib.ListN.{length, getD};
 ghost use Rattle.definition.specs.Render.{Source};
-ghost use Rattle.definition.specs.Run as P;
 ghost use Rattle.notes.specs.Bits.{Forgot};
-ghost use Rattle.notes.specs.Means.{limits, source, bufs, Lines, Rows};
+ghost use Rattle.notes.specs.Means.{source, bufs, Lines, Rows};
 ghost use Rattle.notes.specs.Did.{Wf, Coded};
 ghost use Rattle.steps.specs.Steps.{whole, Tabled, Fits, Ready, Writes};
 ghost use Rattle.grammar.specs.Table.{Lends};
@@ -66,7 +65,7 @@ pub fn tell(
     before: u32,
     errors: &[u32],
     events: &mut [u32],
-    notes: &mut [usize; 67],
+    notes: &mut [usize; 68],
 ) -> Desk
     requires { ⌜ Fits s (now events) × (getD (now notes) 6 0 ≤ getD (now notes) 4 0) × (getD (now notes) 4 0 ≤ length (now errors)) ⌝ }
     ensures { λ r. ⌜ ((x : Source) (sc : List ℕ) → Wf x (bufs (now (events .entry)) (now (errors .entry)) sc) (whole s (now (notes .entry))) → Tells x (whole s (now (notes .entry))) before (tally r (now (notes .exit))) (bufs (now (events .entry)) (now (errors .entry)) sc) (bufs (now (events .exit)) (now (errors .entry)) sc)) ⌝ }
@@ -105,7 +104,7 @@ pub fn stray(
     ends: &[u32],
     events: &mut [u32],
     errors: &mut [u32],
-    notes: &mut [usize; 67],
+    notes: &mut [usize; 68],
     sets: &[[u64; 2]; 55],
 ) -> Desk
     requires { ⌜ Ready (now ids) (now ends) s (now notes) (now events) × (getD (now notes) 5 0 ≤ length (now errors)) × (s .pos < length (now ids)) × (s .full ≡ 0) × Tabled (now sets) ⌝ }
@@ -127,18 +126,19 @@ pub fn stray(
 pub fn at_hand(
     s: State,
     before: u32,
+    depth: usize,
     src: &[u8],
     ids: &[u32],
     ends: &[u32],
     events: &mut [u32],
     errors: &mut [u32],
     scratch: &mut [u64],
-    notes: &mut [usize; 67],
+    notes: &mut [usize; 68],
     table: &[u32; 284],
     sets: &[[u64; 2]; 55],
 ) -> Desk
     requires { ⌜ Rows (source (now src) (now ids) (now ends)) × Wf (source (now src) (now ids) (now ends)) (bufs (now events) (now errors) (now scratch)) (whole s (now notes)) × Lends (now table) (now sets) ⌝ }
-    ensures { λ r. ⌜ Hands (source (now (src .entry)) (now (ids .entry)) (now (ends .entry))) (whole s (now (notes .entry))) before (tally r (now (notes .exit))) (bufs (now (events .entry)) (now (errors .entry)) (now (scratch .entry))) (bufs (now (events .exit)) (now (errors .exit)) (now (scratch .exit))) ⌝ }
+    ensures { λ r. ⌜ Hands depth (source (now (src .entry)) (now (ids .entry)) (now (ends .entry))) (whole s (now (notes .entry))) before (tally r (now (notes .exit))) (bufs (now (events .entry)) (now (errors .entry)) (now (scratch .entry))) (bufs (now (events .exit)) (now (errors .exit)) (now (scratch .exit))) ⌝ }
 {
     if s.full != 0 {
         return Desk {
@@ -157,6 +157,7 @@ pub fn at_hand(
     if within(set::RULE_KEYWORDS, id, sets) {
         let t = rule_item(
             s,
+            depth,
             src,
             ids,
             ends,
@@ -176,7 +177,7 @@ pub fn at_hand(
 }
 
 // What an item leaves behind is given up, but for place, fuel and outputs.
-pub fn settle(d: Desk, scratch: &mut [u64], notes: &mut [usize; 67]) -> Desk
+pub fn settle(d: Desk, scratch: &mut [u64], notes: &mut [usize; 68]) -> Desk
     requires { ⌜ (2 * getD (now notes) 8 0 ≤ 64 * length (now scratch)) × Coded (now notes) ⌝ }
     ensures { λ r. ⌜ (whole (r .state) (now (notes .exit)) ≡ settled (whole (d .state) (now (notes .entry)))) × (r .before ≡ d .before) × Forgot (getD (now (notes .entry)) 7 0) (getD (now (notes .entry)) 8 0) (now (scratch .entry)) (now (scratch .exit)) ⌝ }
 {
@@ -218,18 +219,19 @@ pub fn over(s: State, ids: &[u32]) -> bool
 // One item, if the state is in good order and rows are left.
 pub fn item(
     d: Desk,
+    depth: usize,
     src: &[u8],
     ids: &[u32],
     ends: &[u32],
     events: &mut [u32],
     errors: &mut [u32],
     scratch: &mut [u64],
-    notes: &mut [usize; 67],
+    notes: &mut [usize; 68],
     table: &[u32; 284],
     sets: &[[u64; 2]; 55],
 ) -> Desk
     requires { ⌜ Rows (source (now src) (now ids) (now ends)) × Wf (source (now src) (now ids) (now ends)) (bufs (now events) (now errors) (now scratch)) (whole (d .state) (now notes)) × Settled (whole (d .state) (now notes)) × Lends (now table) (now sets) ⌝ }
-    ensures { λ r. ⌜ Goes (P.items limits 1) (source (now (src .entry)) (now (ids .entry)) (now (ends .entry))) (tally d (now (notes .entry))) (tally r (now (notes .exit))) (bufs (now (events .entry)) (now (errors .entry)) (now (scratch .entry))) (bufs (now (events .exit)) (now (errors .exit)) (now (scratch .exit))) ⌝ }
+    ensures { λ r. ⌜ Goes depth 1 (source (now (src .entry)) (now (ids .entry)) (now (ends .entry))) (tally d (now (notes .entry))) (tally r (now (notes .exit))) (bufs (now (events .entry)) (now (errors .entry)) (now (scratch .entry))) (bufs (now (events .exit)) (now (errors .exit)) (now (scratch .exit))) ⌝ }
 {
     let s = d.state;
     if over(s, ids) {
@@ -239,6 +241,7 @@ pub fn item(
     let h = at_hand(
         t,
         d.before,
+        depth,
         src,
         ids,
         ends,
@@ -256,18 +259,19 @@ pub fn item(
 // All items: each takes a row, so there are no more of them than rows.
 pub fn items(
     mut d: Desk,
+    depth: usize,
     src: &[u8],
     ids: &[u32],
     ends: &[u32],
     events: &mut [u32],
     errors: &mut [u32],
     scratch: &mut [u64],
-    notes: &mut [usize; 67],
+    notes: &mut [usize; 68],
     table: &[u32; 284],
     sets: &[[u64; 2]; 55],
 ) -> Desk
     requires { ⌜ Rows (source (now src) (now ids) (now ends)) × Wf (source (now src) (now ids) (now ends)) (bufs (now events) (now errors) (now scratch)) (whole (d .state) (now notes)) × Settled (whole (d .state) (now notes)) × Lends (now table) (now sets) ⌝ }
-    ensures { λ r. ⌜ Goes (P.items limits (length (now (ids .entry)))) (source (now (src .entry)) (now (ids .entry)) (now (ends .entry))) (tally d (now (notes .entry))) (tally r (now (notes .exit))) (bufs (now (events .entry)) (now (errors .entry)) (now (scratch .entry))) (bufs (now (events .exit)) (now (errors .exit)) (now (scratch .exit))) ⌝ }
+    ensures { λ r. ⌜ Goes depth (length (now (ids .entry))) (source (now (src .entry)) (now (ids .entry)) (now (ends .entry))) (tally d (now (notes .entry))) (tally r (now (notes .exit))) (bufs (now (events .entry)) (now (errors .entry)) (now (scratch .entry))) (bufs (now (events .exit)) (now (errors .exit)) (now (scratch .exit))) ⌝ }
 {
     let mut n = ids.len();
     while n > 0 {
@@ -276,6 +280,7 @@ pub fn items(
         }
         d = item(
             d,
+            depth,
             src,
             ids,
             ends,

@@ -8,17 +8,35 @@ use kinds::SETS;
 use kinds::kind;
 use notes::names::ER;
 use notes::names::ERCAP;
+use notes::names::QUOTE;
 use refusals::judged;
 use steps::state::State;
 ghost use mathlib.Core.Path.{_≡_};
 ghost use Prim.Native.Nat.{_+_, _*_, _≤_};
 ghost use lib.ListN.{length, replicate};
+ghost use Rattle.definition.specs.Run as P;
 ghost use Rattle.definition.specs.Answer.{refusing, after};
 ghost use Rattle.refusals.specs.Judge.{desk};
-ghost use Rattle.notes.specs.Means.{limits, source, Rows};
+ghost use Rattle.notes.specs.Means.{source, Rows};
 ghost use Rattle.desk.specs.Items as Items;
 ghost use Rattle.desk.specs.Items.{tally};
-ghost use Rattle.desk.specs.Framing.{Framed, afterOf, answering, outcomeOf};
+ghost use Rattle.desk.specs.Framing.{limitsOf, Framed, afterOf, answering, outcomeOf};
+
+// How many nodes may be open besides SOURCE_FILE, and how long a found text may be to be quoted. Any values will do; each open node takes stack.
+pub struct Limits {
+    pub depth: usize,
+    pub quote: usize,
+}
+
+// Document 01's limits.
+pub fn base() -> Limits
+    ensures { λ r. ⌜ limitsOf r ≡ P.base ⌝ }
+{
+    Limits {
+        depth: 1024,
+        quote: 15,
+    }
+}
 
 // A refusal by its number; or outcome, rows covered, counts of events and error records, fuel left.
 pub enum Reading {
@@ -68,13 +86,14 @@ fn whole(
     ids: &[u32],
     ends: &[u32],
     fuel: u32,
+    limits: Limits,
     scratch: &mut [u64],
     events: &mut [u32],
     errors: &mut [u32],
-    notes: &mut [usize; 67],
+    notes: &mut [usize; 68],
 ) -> Desk
-    requires { ⌜ Rows (source (now src) (now ids) (now ends)) × (now scratch ≡ replicate (length (now scratch)) 0) × (2 * (length (now ids) + 1) ≤ 64 * length (now scratch)) × (4 ≤ length (now events)) × (now notes ≡ replicate 67 0) ⌝ }
-    ensures { λ r. ⌜ Framed (source (now (src .entry)) (now (ids .entry)) (now (ends .entry))) fuel (length (now (events .entry))) (length (now (errors .entry))) (tally r (now (notes .exit))) (now (events .exit)) (now (errors .exit)) ⌝ }
+    requires { ⌜ Rows (source (now src) (now ids) (now ends)) × (now scratch ≡ replicate (length (now scratch)) 0) × (2 * (length (now ids) + 1) ≤ 64 * length (now scratch)) × (4 ≤ length (now events)) × (now notes ≡ replicate 68 0) ⌝ }
+    ensures { λ r. ⌜ Framed (limitsOf limits) (source (now (src .entry)) (now (ids .entry)) (now (ends .entry))) fuel (length (now (events .entry))) (length (now (errors .entry))) (tally r (now (notes .exit))) (now (events .exit)) (now (errors .exit)) ⌝ }
 {
     let size = src.len() as u32;
     events[0] = 1;
@@ -83,11 +102,13 @@ fn whole(
     events[3] = size;
     let d = blank(fuel, events.len() - 4);
     notes[ERCAP] = errors.len();
+    notes[QUOTE] = limits.quote;
     let table = ROWS;
     let sets = SETS;
     let inner = &mut events[4..];
     let r = items(
         d,
+        limits.depth,
         src,
         ids,
         ends,
@@ -148,11 +169,12 @@ pub fn read(
     starts: &[u32],
     ends: &[u32],
     fuel: u32,
+    limits: Limits,
     scratch: &mut [u64],
     events: &mut [u32],
     errors: &mut [u32],
 ) -> Reading
-    ensures { λ r. ⌜ afterOf r (now (events .exit)) (now (errors .exit)) (now (scratch .exit)) ≡ after limits (desk (now (src .entry)) (now (ids .entry)) (now (starts .entry)) (now (ends .entry)) fuel (now (scratch .entry)) (now (events .entry)) (now (errors .entry))) ⌝ }
+    ensures { λ r. ⌜ afterOf r (now (events .exit)) (now (errors .exit)) (now (scratch .exit)) ≡ after (limitsOf limits) (desk (now (src .entry)) (now (ids .entry)) (now (starts .entry)) (now (ends .entry)) fuel (now (scratch .entry)) (now (events .entry)) (now (errors .entry))) ⌝ }
 {
     let n = judged(src, ids, starts, ends, scratch.len());
     if n != 0 {
@@ -162,8 +184,10 @@ pub fn read(
         return spoilt(7, scratch, events, errors);
     }
     wipe(scratch);
-    let mut notes = [0usize; 67];
-    let d = whole(src, ids, ends, fuel, scratch, events, errors, &mut notes);
+    let mut notes = [0usize; 68];
+    let d = whole(
+        src, ids, ends, fuel, limits, scratch, events, errors, &mut notes,
+    );
     let s = d.state;
     if s.full != 0 {
         return spoilt(s.full as u32, scratch, events, errors);

@@ -22,7 +22,7 @@ use Rattle.definition.specs.Render.{Source}
 use Rattle.definition.proofs.Every.{productions}
 use Rattle.notes.specs.Whole.{Whole}
 use Rattle.notes.specs.Change.{markOf, gone, withMode}
-use Rattle.notes.specs.Means.{limits, Bufs, bufs, namesOf}
+use Rattle.notes.specs.Means.{Bufs, bufs, namesOf}
 use Rattle.notes.specs.Did.{Wf, Did, Events, Peeked, hits, ahead}
 use Rattle.notes.proofs.Core as core
 use Rattle.grammar.proofs.Exec.{guarded}
@@ -252,9 +252,9 @@ item-stands : prog item ≡ rule-decl
 unfolding prog partOf rowOf production productions namesOf
 item-stands = refl
 
-pub is-item : {x : Source} {s r : Whole} {b b′ : Bufs} → Did (reads (limits .depth) false (prog item)) x s r b b′ → Did (P.read-rule limits) x s r b b′
+pub is-item : (L : P.Limits) {depth : ℕ} {x : Source} {s r : Whole} {b b′ : Bufs} → L .depth ≡ depth → Did (reads depth false (prog item)) x s r b b′ → Did (P.read-rule L) x s r b b′
 unfolding P.read-rule
-is-item {x} {s} {r} {b} {b′} y = subst (λ (q : Prog). Did (reads (limits .depth) false q) x s r b b′) item-stands y
+is-item L {depth} {x} {s} {r} {b} {b′} e y = subst (λ (q : Prog). Did (reads (L .depth) false q) x s r b b′) item-stands (subst (λ (d : ℕ). Did (reads d false (prog item)) x s r b b′) (sym e) y)
 
 -- what is left of a line
 module _ (d : ℕ) (o : Bool) {x : Source} {s z : Whole} {b b₂ : Bufs} where

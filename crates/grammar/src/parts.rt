@@ -18,7 +18,7 @@ ghost use Rattle.definition.specs.Prog.{ifnext, _/_};
 ghost use Rattle.definition.specs.Prog as G;
 ghost use Rattle.definition.specs.Grammar as K;
 ghost use Rattle.definition.specs.Run as P;
-ghost use Rattle.notes.specs.Means.{limits, source, bufs, Rows};
+ghost use Rattle.notes.specs.Means.{source, bufs, Rows};
 ghost use Rattle.notes.specs.Did.{Wf, Did, Both};
 ghost use Rattle.steps.specs.Steps.{whole, Whence, Tabled};
 ghost use Rattle.grammar.specs.Rows.{size};
@@ -144,7 +144,7 @@ fn step(
     ends: &[u32],
     events: &mut [u32],
     errors: &mut [u32],
-    notes: &mut [usize; 67],
+    notes: &mut [usize; 68],
     sets: &[[u64; 2]; 55],
 ) -> State
     requires { ⌜ Whence (now src) (now ids) (now ends) s (now notes) (now events) (now errors) × (set < 55) × Tabled (now sets) ⌝ }
@@ -181,7 +181,7 @@ fn exec(
     events: &mut [u32],
     errors: &mut [u32],
     scratch: &mut [u64],
-    notes: &mut [usize; 67],
+    notes: &mut [usize; 68],
     table: &[u32; 284],
     sets: &[[u64; 2]; 55],
 ) -> State
@@ -364,7 +364,7 @@ fn node(
     events: &mut [u32],
     errors: &mut [u32],
     scratch: &mut [u64],
-    notes: &mut [usize; 67],
+    notes: &mut [usize; 68],
     table: &[u32; 284],
     sets: &[[u64; 2]; 55],
 ) -> State
@@ -432,7 +432,7 @@ fn cached(
     events: &mut [u32],
     errors: &mut [u32],
     scratch: &mut [u64],
-    notes: &mut [usize; 67],
+    notes: &mut [usize; 68],
     table: &[u32; 284],
     sets: &[[u64; 2]; 55],
 ) -> State
@@ -483,7 +483,7 @@ fn many(
     events: &mut [u32],
     errors: &mut [u32],
     scratch: &mut [u64],
-    notes: &mut [usize; 67],
+    notes: &mut [usize; 68],
     table: &[u32; 284],
     sets: &[[u64; 2]; 55],
 ) -> State
@@ -522,26 +522,27 @@ fn many(
     s
 }
 
-// An item that begins with a rule keyword: a rule, and recovery behind it.
+// An item that begins with a rule keyword: a rule, and recovery behind it. `depth` nodes may be open besides SOURCE_FILE.
 pub fn rule_item(
     s: State,
+    depth: usize,
     src: &[u8],
     ids: &[u32],
     ends: &[u32],
     events: &mut [u32],
     errors: &mut [u32],
     scratch: &mut [u64],
-    notes: &mut [usize; 67],
+    notes: &mut [usize; 68],
     table: &[u32; 284],
     sets: &[[u64; 2]; 55],
 ) -> State
     requires { ⌜ Rows (source (now src) (now ids) (now ends)) × Wf (source (now src) (now ids) (now ends)) (bufs (now events) (now errors) (now scratch)) (whole s (now notes)) × Lends (now table) (now sets) ⌝ }
-    ensures { λ r. ⌜ Did (P.read-rule limits) (source (now (src .entry)) (now (ids .entry)) (now (ends .entry))) (whole s (now (notes .entry))) (whole r (now (notes .exit))) (bufs (now (events .entry)) (now (errors .entry)) (now (scratch .entry))) (bufs (now (events .exit)) (now (errors .exit)) (now (scratch .exit))) ⌝ }
+    ensures { λ r. ⌜ ((L : P.Limits) → L .depth ≡ depth → Did (P.read-rule L) (source (now (src .entry)) (now (ids .entry)) (now (ends .entry))) (whole s (now (notes .entry))) (whole r (now (notes .exit))) (bufs (now (events .entry)) (now (errors .entry)) (now (scratch .entry))) (bufs (now (events .exit)) (now (errors .exit)) (now (scratch .exit)))) ⌝ }
 {
     exec(
         ITEM,
         s,
-        1024,
+        depth,
         false,
         src,
         ids,

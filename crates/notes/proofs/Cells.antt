@@ -10,51 +10,52 @@ use Rattle.notes.specs.Change.{withWants, withCodes, withEr, withFar}
 use Rattle.notes.specs.Did.{Coded}
 use Rattle.notes.proofs.Naming.{none-named}
 
-pub long : (l : List ℕ) → length (drop 9 l) ≡ 58 → 9 ≤ length l
-long l h = omega (arith, length-drop 9 l)
+pub long : (l : List ℕ) → length (drop 10 l) ≡ 58 → 10 ≤ length l
+long l h = omega (arith, length-drop 10 l)
 
--- a list of nine cells or more, cell by cell
-nine : (Q : List ℕ → Type 0) → ((a b c d e f g i j : ℕ) (t : List ℕ) → Q (a ∷ b ∷ c ∷ d ∷ e ∷ f ∷ g ∷ i ∷ j ∷ t)) → (l : List ℕ) → 9 ≤ length l → Q l
-nine Q q [] h = absurd (omega arith)
-nine Q q (a ∷ []) h = absurd (omega arith)
-nine Q q (a ∷ b ∷ []) h = absurd (omega arith)
-nine Q q (a ∷ b ∷ c ∷ []) h = absurd (omega arith)
-nine Q q (a ∷ b ∷ c ∷ d ∷ []) h = absurd (omega arith)
-nine Q q (a ∷ b ∷ c ∷ d ∷ e ∷ []) h = absurd (omega arith)
-nine Q q (a ∷ b ∷ c ∷ d ∷ e ∷ f ∷ []) h = absurd (omega arith)
-nine Q q (a ∷ b ∷ c ∷ d ∷ e ∷ f ∷ g ∷ []) h = absurd (omega arith)
-nine Q q (a ∷ b ∷ c ∷ d ∷ e ∷ f ∷ g ∷ i ∷ []) h = absurd (omega arith)
-nine Q q (a ∷ b ∷ c ∷ d ∷ e ∷ f ∷ g ∷ i ∷ j ∷ t) h = q a b c d e f g i j t
+-- a list of ten cells or more, cell by cell
+ten : (Q : List ℕ → Type 0) → ((a b c d e f g i j k : ℕ) (t : List ℕ) → Q (a ∷ b ∷ c ∷ d ∷ e ∷ f ∷ g ∷ i ∷ j ∷ k ∷ t)) → (l : List ℕ) → 10 ≤ length l → Q l
+ten Q q [] h = absurd (omega arith)
+ten Q q (a ∷ []) h = absurd (omega arith)
+ten Q q (a ∷ b ∷ []) h = absurd (omega arith)
+ten Q q (a ∷ b ∷ c ∷ []) h = absurd (omega arith)
+ten Q q (a ∷ b ∷ c ∷ d ∷ []) h = absurd (omega arith)
+ten Q q (a ∷ b ∷ c ∷ d ∷ e ∷ []) h = absurd (omega arith)
+ten Q q (a ∷ b ∷ c ∷ d ∷ e ∷ f ∷ []) h = absurd (omega arith)
+ten Q q (a ∷ b ∷ c ∷ d ∷ e ∷ f ∷ g ∷ []) h = absurd (omega arith)
+ten Q q (a ∷ b ∷ c ∷ d ∷ e ∷ f ∷ g ∷ i ∷ []) h = absurd (omega arith)
+ten Q q (a ∷ b ∷ c ∷ d ∷ e ∷ f ∷ g ∷ i ∷ j ∷ []) h = absurd (omega arith)
+ten Q q (a ∷ b ∷ c ∷ d ∷ e ∷ f ∷ g ∷ i ∷ j ∷ k ∷ t) h = q a b c d e f g i j k t
 
-module _ (l : List ℕ) (s : Whole) (h : 9 ≤ length l) where
+module _ (l : List ℕ) (s : Whole) (h : 10 ≤ length l) where
   -- a further row at which names are expected: no codes yet
-  pub fresh-want : (v : ℕ) → beside (set (set (set l 0 v) 2 0) 3 0) s ≡ withCodes 0 0 (drop 9 l) (withWants v (getD l 1 0) (beside l s))
-  fresh-want v = nine (λ l. beside (set (set (set l 0 v) 2 0) 3 0) s ≡ withCodes 0 0 (drop 9 l) (withWants v (getD l 1 0) (beside l s))) (λ a b c d e f g i j t. refl) l h
+  pub fresh-want : (v : ℕ) → beside (set (set (set l 0 v) 2 0) 3 0) s ≡ withCodes 0 0 (drop 10 l) (withWants v (getD l 1 0) (beside l s))
+  fresh-want v = ten (λ l. beside (set (set (set l 0 v) 2 0) 3 0) s ≡ withCodes 0 0 (drop 10 l) (withWants v (getD l 1 0) (beside l s))) (λ a b c d e f g i j k t. refl) l h
 
   pub new-unwant : (v : ℕ) → beside (set l 1 v) s ≡ withWants (getD l 0 0) v (beside l s)
-  new-unwant v = nine (λ l. beside (set l 1 v) s ≡ withWants (getD l 0 0) v (beside l s)) (λ a b c d e f g i j t. refl) l h
+  new-unwant v = ten (λ l. beside (set l 1 v) s ≡ withWants (getD l 0 0) v (beside l s)) (λ a b c d e f g i j k t. refl) l h
 
   -- a choice empties both
   pub no-wants : beside (set (set l 0 0) 1 0) s ≡ withWants 0 0 (beside l s)
-  no-wants = nine (λ l. beside (set (set l 0 0) 1 0) s ≡ withWants 0 0 (beside l s)) (λ a b c d e f g i j t. refl) l h
+  no-wants = ten (λ l. beside (set (set l 0 0) 1 0) s ≡ withWants 0 0 (beside l s)) (λ a b c d e f g i j k t. refl) l h
 
   pub new-er : (v : ℕ) → beside (set l 4 v) s ≡ withEr v (beside l s)
-  new-er v = nine (λ l. beside (set l 4 v) s ≡ withEr v (beside l s)) (λ a b c d e f g i j t. refl) l h
+  new-er v = ten (λ l. beside (set l 4 v) s ≡ withEr v (beside l s)) (λ a b c d e f g i j k t. refl) l h
 
   pub new-far : (v : ℕ) → beside (set l 8 v) s ≡ withFar v (beside l s)
-  new-far v = nine (λ l. beside (set l 8 v) s ≡ withFar v (beside l s)) (λ a b c d e f g i j t. refl) l h
+  new-far v = ten (λ l. beside (set l 8 v) s ≡ withFar v (beside l s)) (λ a b c d e f g i j k t. refl) l h
 
   -- how many codes there are and which
-  counted : (n m : ℕ) → beside (set (set l 3 m) 2 n) s ≡ withCodes n m (drop 9 l) (beside l s)
-  counted n m = nine (λ l. beside (set (set l 3 m) 2 n) s ≡ withCodes n m (drop 9 l) (beside l s)) (λ a b c d e f g i j t. refl) l h
+  counted : (n m : ℕ) → beside (set (set l 3 m) 2 n) s ≡ withCodes n m (drop 10 l) (beside l s)
+  counted n m = ten (λ l. beside (set (set l 3 m) 2 n) s ≡ withCodes n m (drop 10 l) (beside l s)) (λ a b c d e f g i j k t. refl) l h
 
-pub fresh-coded : (l : List ℕ) → 9 ≤ length l → (v : ℕ) → length (drop 9 l) ≡ 58 → Coded (set (set (set l 0 v) 2 0) 3 0)
-fresh-coded l h v = nine (λ l. length (drop 9 l) ≡ 58 → Coded (set (set (set l 0 v) 2 0) 3 0)) (λ a b c d e f g i j t. none-named t) l h
+pub fresh-coded : (l : List ℕ) → 10 ≤ length l → (v : ℕ) → length (drop 10 l) ≡ 58 → Coded (set (set (set l 0 v) 2 0) 3 0)
+fresh-coded l h v = ten (λ l. length (drop 10 l) ≡ 58 → Coded (set (set (set l 0 v) 2 0) 3 0)) (λ a b c d e f g i j k t. none-named t) l h
 
 -- a code in its cell
-coded : (l : List ℕ) (s : Whole) (i v : ℕ) → beside (set l (9 + i) v) s ≡ withCodes (getD l 2 0) (getD l 3 0) (set (drop 9 l) i v) (beside l s)
+coded : (l : List ℕ) (s : Whole) (i v : ℕ) → beside (set l (10 + i) v) s ≡ withCodes (getD l 2 0) (getD l 3 0) (set (drop 10 l) i v) (beside l s)
 coded l s i v =
-    let e : (k : ℕ) → k < 9 → getD (set l (9 + i) v) k 0 ≡ getD l k 0 = λ k h. getD-set-other l (9 + i) k v 0 (λ q. omega arith) in
+    let e : (k : ℕ) → k < 10 → getD (set l (10 + i) v) k 0 ≡ getD l k 0 = λ k h. getD-set-other l (10 + i) k v 0 (λ q. omega arith) in
     λ j.
     record {
       pos = s .pos;
@@ -72,23 +73,24 @@ coded l s i v =
       item = e 6 (omega arith) j;
       first = e 7 (omega arith) j;
       far = e 8 (omega arith) j;
-      codes = drop-set-add 9 l i v j;
+      quote = e 9 (omega arith) j;
+      codes = drop-set-add 10 l i v j;
     }
 
 -- one code more
-pub entered : (l : List ℕ) (s : Whole) (h : 9 ≤ length l) (n m i v : ℕ) → beside (set (set (set l 3 m) 2 n) (9 + i) v) s ≡ withCodes n m (set (drop 9 l) i v) (beside l s)
+pub entered : (l : List ℕ) (s : Whole) (h : 10 ≤ length l) (n m i v : ℕ) → beside (set (set (set l 3 m) 2 n) (10 + i) v) s ≡ withCodes n m (set (drop 10 l) i v) (beside l s)
 entered l s h n m i v = coded (set (set l 3 m) 2 n) s i v ∙ ap (λ (w : Whole). withCodes (w .count) (w .mask) (set (w .codes) i v) w) (counted l s h n m)
 
 -- between two items: the records of the item at hand begin elsewhere, and nothing is left of the item before but them
 abbrev itemAt : ℕ → Whole → Whole
-itemAt v w = record { pos = w .pos; fuel = w .fuel; mode = w .mode; ev = w .ev; evcap = w .evcap; full = w .full; want = w .want; unwant = w .unwant; count = w .count; mask = w .mask; codes = w .codes; er = w .er; ercap = w .ercap; item = v; first = w .first; far = w .far }
+itemAt v w = record { pos = w .pos; fuel = w .fuel; mode = w .mode; ev = w .ev; evcap = w .evcap; full = w .full; want = w .want; unwant = w .unwant; count = w .count; mask = w .mask; codes = w .codes; er = w .er; ercap = w .ercap; item = v; first = w .first; far = w .far; quote = w .quote }
 
 abbrev restingAt : ℕ → Whole → Whole
-restingAt v w = record { pos = w .pos; fuel = w .fuel; mode = w .mode; ev = w .ev; evcap = w .evcap; full = w .full; want = 0; unwant = 0; count = w .count; mask = w .mask; codes = w .codes; er = w .er; ercap = w .ercap; item = w .item; first = v; far = v }
+restingAt v w = record { pos = w .pos; fuel = w .fuel; mode = w .mode; ev = w .ev; evcap = w .evcap; full = w .full; want = 0; unwant = 0; count = w .count; mask = w .mask; codes = w .codes; er = w .er; ercap = w .ercap; item = w .item; first = v; far = v; quote = w .quote }
 
-module _ (l : List ℕ) (s : Whole) (h : 9 ≤ length l) where
+module _ (l : List ℕ) (s : Whole) (h : 10 ≤ length l) where
   pub new-item : (v : ℕ) → beside (set l 6 v) s ≡ itemAt v (beside l s)
-  new-item v = nine (λ l. beside (set l 6 v) s ≡ itemAt v (beside l s)) (λ a b c d e f g i j t. refl) l h
+  new-item v = ten (λ l. beside (set l 6 v) s ≡ itemAt v (beside l s)) (λ a b c d e f g i j k t. refl) l h
 
   pub at-rest : (v : ℕ) → beside (set (set (set (set l 7 v) 8 v) 0 0) 1 0) s ≡ restingAt v (beside l s)
-  at-rest v = nine (λ l. beside (set (set (set (set l 7 v) 8 v) 0 0) 1 0) s ≡ restingAt v (beside l s)) (λ a b c d e f g i j t. refl) l h
+  at-rest v = ten (λ l. beside (set (set (set (set l 7 v) 8 v) 0 0) 1 0) s ≡ restingAt v (beside l s)) (λ a b c d e f g i j k t. refl) l h

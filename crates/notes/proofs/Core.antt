@@ -11,13 +11,13 @@ use lib.Dec.{ltb}
 use lib.ListN.{length, take, drop, replicate}
 use lib.Seq.{take-take}
 use Rattle.definition.specs.Run as P
-use Rattle.definition.specs.Run.{Event, opened, leaf, closed, bad}
+use Rattle.definition.specs.Run.{Event, opened, leaf, closed, bad, Limits}
 use Rattle.definition.specs.Buffer.{four, buffer}
 use Rattle.definition.specs.Render.{Source, Rec, records, said, held, used, exceeds, over}
 use Rattle.notes.specs.Whole.{Whole, beside}
 use Rattle.notes.specs.Bits.{ifb}
 use Rattle.notes.specs.Change.{withPos, withEv, withFull, standing}
-use Rattle.notes.specs.Means.{limits, Bufs, bufs, Past, Means, Stands, Lines, overOf}
+use Rattle.notes.specs.Means.{Bufs, bufs, Past, Means, Stands, Lines, overOf}
 use Rattle.notes.specs.Did.{Ok, Sound, Wf, Roomy, Did, Events, Errors, Plain, Penned, Put}
 use Rattle.notes.proofs.Naming.{none-named}
 use Rattle.notes.proofs.Lists.{stored, take-four, keep-four, length-four}
@@ -91,7 +91,7 @@ does-like {f} g {x} {s} {r} {b} {b′} h y = record { does = λ p a t. alike (h 
 
 pub over-drafts : (p : Past) (x : Source) (a c : P.State) → a .drafts ≡ c .drafts → overOf p x a ≡ overOf p x c
 unfolding overOf
-over-drafts p x a c e = ap (λ (l : List P.Draft). over (p .event-room) (p .error-room) (map (used limits x) l)) e
+over-drafts p x a c e = ap (λ (l : List P.Draft). over (p .event-room) (p .error-room) (map (used (p .limits) x) l)) e
 
 -- an event that brings no record
 abbrev pub Quiet : Event → Type 0
@@ -100,17 +100,17 @@ Quiet (leaf a n) = Unit
 Quiet (closed a n m) = Unit
 Quiet (bad n c) = ⊥
 
-quiet-records : (x : Source) (v : Event) (o : List Event) (l : List Rec) → Quiet v → records limits x (v ∷ o) l ≡ records limits x o l
-quiet-records x (opened n) o l q = refl
-quiet-records x (leaf a n) o l q = refl
-quiet-records x (closed a n m) o l q = refl
-quiet-records x (bad n c) o l q = absurd q
+quiet-records : (L : Limits) (x : Source) (v : Event) (o : List Event) (l : List Rec) → Quiet v → records L x (v ∷ o) l ≡ records L x o l
+quiet-records L x (opened n) o l q = refl
+quiet-records L x (leaf a n) o l q = refl
+quiet-records L x (closed a n m) o l q = refl
+quiet-records L x (bad n c) o l q = absurd q
 
-quiet-said : (x : Source) (v : Event) (o : List Event) → Quiet v → said limits x (v ∷ o) ≡ said limits x o
-quiet-said x (opened n) o q = refl
-quiet-said x (leaf a n) o q = refl
-quiet-said x (closed a n m) o q = refl
-quiet-said x (bad n c) o q = absurd q
+quiet-said : (L : Limits) (x : Source) (v : Event) (o : List Event) → Quiet v → said L x (v ∷ o) ≡ said L x o
+quiet-said L x (opened n) o q = refl
+quiet-said L x (leaf a n) o q = refl
+quiet-said L x (closed a n m) o q = refl
+quiet-said L x (bad n c) o q = absurd q
 
 -- four numbers more: what `write` returns
 module _ (at cap full : ℕ) (ev : List ℕ) where
@@ -140,7 +140,7 @@ put-of s u = record { is = refl; stuck = u .stuck; filled = u .filled; room = u 
 
 -- a state for any place: what holds of all that stand there is known of this one, where the code has none at hand
 abbrev pub blank : Whole
-blank = record { pos = 0; fuel = 0; mode = 0; ev = 0; evcap = 0; er = 0; ercap = 0; item = 0; first = 0; far = 0; want = 0; unwant = 0; full = 0; count = 0; mask = 0; codes = replicate 58 0 }
+blank = record { pos = 0; fuel = 0; mode = 0; ev = 0; evcap = 0; er = 0; ercap = 0; item = 0; first = 0; far = 0; quote = 0; want = 0; unwant = 0; full = 0; count = 0; mask = 0; codes = replicate 58 0 }
 
 pub ok-blank : (n pos ev cap full : ℕ) → pos ≤ n → ev ≤ cap → Ok n (standing pos ev cap full blank)
 ok-blank n pos ev cap full h k = (
@@ -177,12 +177,12 @@ module _ {q : List ℕ} {s r : Whole} {ev ev′ : List ℕ} (u : Put q s r ev ev
         here z true e =
             let m = t .means z in
             let l : s .evcap < s .ev + 4 = ltb-true (s .evcap) (s .ev + 4) e in
-            sym (exceeds-events (p .event-room) (p .error-room) (used limits x (v ∷ a .out, a .chosen)) (omega (arith, ev-count w m, m .written .room)))
+            sym (exceeds-events (p .event-room) (p .error-room) (used (p .limits) x (v ∷ a .out, a .chosen)) (omega (arith, ev-count w m, m .written .room)))
         here z false e =
             let m = t .means z in
             let f = fits w m in
             let l : s .ev + 4 ≤ s .evcap = ltb-false (s .evcap) (s .ev + 4) e in
-            sym (exceeds-none (p .event-room) (p .error-room) (used limits x (v ∷ a .out, a .chosen)) (omega (arith, ev-count w m, m .written .room)) (omega (arith, f .1, quiet-said x v (a .out) k)))
+            sym (exceeds-none (p .event-room) (p .error-room) (used (p .limits) x (v ∷ a .out, a .chosen)) (omega (arith, ev-count w m, m .written .room)) (omega (arith, f .1, quiet-said (p .limits) x v (a .out) k)))
 
         go : Dec (s .full ≡ 0) → r .full ≡ first-of (overOf p x a) (spill p x (v ∷ a .out) (a .chosen))
         go (yes z) = u .filled z ∙ here z (ltb (s .evcap) (s .ev + 4)) refl ∙ ap (λ (i : ℕ). first-of i (spill p x (v ∷ a .out) (a .chosen))) (sym z ∙ t .over)
@@ -199,7 +199,7 @@ module _ {q : List ℕ} {s r : Whole} {ev ev′ : List ℕ} (u : Put q s r ev ev
                 rest = m .rest;
                 mode = m .mode;
                 fuel = m .fuel;
-                written = record { is = u .wrote z ∙ g (u .room z); past = quiet-records x v (a .out) [] k ∙ m .written .past; room = m .written .room };
+                written = record { is = u .wrote z ∙ g (u .room z); past = quiet-records (p .limits) x v (a .out) [] k ∙ m .written .past; room = m .written .room };
                 want = m .want;
                 unwant = m .unwant;
                 chosen = m .chosen;

@@ -15,7 +15,7 @@ use Rattle.definition.specs.Buffer.{buffer}
 use Rattle.definition.specs.Render.{Source, Rec, record-of, records, flat-records, said, held, used, exceeds}
 use Rattle.definition.proofs.Buffer.{buffer-length}
 use Rattle.notes.specs.Whole.{Whole}
-use Rattle.notes.specs.Means.{limits, Bufs, Past, recorded, Means, Stands, overOf}
+use Rattle.notes.specs.Means.{Bufs, Past, recorded, Means, Stands, overOf}
 use Rattle.notes.specs.Did.{Wf}
 
 -- records as numbers
@@ -33,29 +33,29 @@ said-is L x (leaf a n ∷ o) l = said-is L x o l
 said-is L x (closed a n m ∷ o) l = said-is L x o l
 said-is L x (bad n c ∷ o) l = omega (arith, said-is L x o (record-of L x n c ∷ l), flat-length (record-of L x n c) l)
 
-pub held-is : (x : Source) (c : List (ℕ × Choice)) → held limits x c ≡ length (flat-records (recorded x c))
+pub held-is : (L : Limits) (x : Source) (c : List (ℕ × Choice)) → held L x c ≡ length (flat-records (recorded L x c))
 unfolding recorded
-held-is x [] = refl
-held-is x (e ∷ c) = omega (arith, held-is x c, flat-length (record-of limits x (e .0) (e .1)) (recorded x c))
+held-is L x [] = refl
+held-is L x (e ∷ c) = omega (arith, held-is L x c, flat-length (record-of L x (e .0) (e .1)) (recorded L x c))
 
 -- how much of each list is used
 module _ {p : Past} {x : Source} {s : Whole} {b : Bufs} {a : P.State} (w : Wf x b s) (m : Means p x s b a) where
   pub ev-count : s .ev ≡ 4 * length (a .out)
   ev-count = sym (length-take-le (s .ev) (b .events) (omega (arith, w .0 .2 .events, w .1 .events))) ∙ ap length (m .written .is) ∙ buffer-length x (a .out)
 
-  pub er-count : s .er ≡ said limits x (a .out) + held limits x (a .chosen)
+  pub er-count : s .er ≡ said (p .limits) x (a .out) + held (p .limits) x (a .chosen)
   er-count =
       sym (length-take-le (s .er) (b .errors) (omega (arith, w .0 .2 .errors, w .1 .errors)))
-      ∙ ap length (m .chosen .is ∙ flat-append (p .records) (recorded x (a .chosen)))
-      ∙ length-append (flat-records (p .records)) (flat-records (recorded x (a .chosen)))
-      ∙ ap₂ (λ (i j : ℕ). i + j) (ap (λ (l : List Rec). length (flat-records l)) (sym (m .written .past)) ∙ sym (said-is limits x (a .out) []) ∙ omega arith) (sym (held-is x (a .chosen)))
+      ∙ ap length (m .chosen .is ∙ flat-append (p .records) (recorded (p .limits) x (a .chosen)))
+      ∙ length-append (flat-records (p .records)) (flat-records (recorded (p .limits) x (a .chosen)))
+      ∙ ap₂ (λ (i j : ℕ). i + j) (ap (λ (l : List Rec). length (flat-records l)) (sym (m .written .past)) ∙ sym (said-is (p .limits) x (a .out) []) ∙ omega arith) (sym (held-is (p .limits) x (a .chosen)))
 
 -- one moment more
 abbrev pub first-of : ℕ → ℕ → ℕ
 first-of v k = elim v [ zero ↦ k | suc n ↦ suc n ]
 
 abbrev pub spill : Past → Source → List Event → List (ℕ × Choice) → ℕ
-spill p x o c = exceeds (p .event-room) (p .error-room) (used limits x (o, c))
+spill p x o c = exceeds (p .event-room) (p .error-room) (used (p .limits) x (o, c))
 
 pub marked : (p : Past) (x : Source) (a : P.State) → overOf p x (P.mark a) ≡ first-of (overOf p x a) (spill p x (a .out) (a .chosen))
 unfolding overOf
@@ -71,7 +71,7 @@ pub exceeds-errors : (e r : ℕ) (m : ℕ × ℕ) → m .0 ≤ e → r < m .1 �
 exceeds-errors e r m h k = ap₂ (λ (c d : Bool). elim c [ true ↦ 7 | false ↦ elim d [ true ↦ 8 | false ↦ 0 ] ]) (le-ltb e (m .0) h) (lt-ltb r (m .1) k)
 
 -- what stands fits
-pub fits : {p : Past} {x : Source} {s : Whole} {b : Bufs} {a : P.State} → Wf x b s → Means p x s b a → (4 * suc (length (a .out)) ≤ p .event-room) × (said limits x (a .out) + held limits x (a .chosen) ≤ p .error-room)
+pub fits : {p : Past} {x : Source} {s : Whole} {b : Bufs} {a : P.State} → Wf x b s → Means p x s b a → (4 * suc (length (a .out)) ≤ p .event-room) × (said (p .limits) x (a .out) + held (p .limits) x (a .chosen) ≤ p .error-room)
 fits w m = (omega (arith, ev-count w m, m .written .room, w .0 .2 .events), omega (arith, er-count w m, m .chosen .room, w .0 .2 .errors))
 
 pub full-first : (v k : ℕ) → (v ≡ 0 → ⊥) → first-of v k ≡ v
@@ -83,7 +83,7 @@ pub still : {p : Past} {x : Source} {s : Whole} {b : Bufs} {a : P.State} → Wf 
 still {p} {x} {s} {b} {a} w t = marked p x a ∙ go (overOf p x a) refl
   where
     go : (v : ℕ) → overOf p x a ≡ v → first-of v (spill p x (a .out) (a .chosen)) ≡ v
-    go zero e = let f = fits w (t .means (t .over ∙ e)) in exceeds-none (p .event-room) (p .error-room) (used limits x (a .out, a .chosen)) (f .0) (f .1)
+    go zero e = let f = fits w (t .means (t .over ∙ e)) in exceeds-none (p .event-room) (p .error-room) (used (p .limits) x (a .out, a .chosen)) (f .0) (f .1)
     go (suc n) e = refl
 
 -- a moment between two others, with less written than at the later one, tells nothing

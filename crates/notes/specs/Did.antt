@@ -41,7 +41,7 @@ pub record Named (count mask : ℕ) (codes : List ℕ) : Type 0 where
 
 -- the same of the list of notes
 abbrev pub Coded : List ℕ → Type 0
-Coded l = Named (getD l 2 0) (getD l 3 0) (drop 9 l)
+Coded l = Named (getD l 2 0) (getD l 3 0) (drop 10 l)
 
 pub record Counted (ev evcap item er ercap : ℕ) : Type 0 where
   pub events : ev ≤ evcap

@@ -14,10 +14,6 @@ use Rattle.kinds.specs.Sets.{setOf, idsOf}
 use Rattle.notes.specs.Whole.{Whole}
 use Rattle.notes.specs.Bits.{ifb, Cached}
 
--- today's limits
-abbrev pub limits : Limits
-limits = P.base
-
 -- starts are not kept: a row begins where the one before it ends
 abbrev pub source : List ℕ → List ℕ → List ℕ → Source
 source bytes ids ends = record { bytes = bytes; ids = ids; ends = ends }
@@ -30,8 +26,9 @@ pub record Bufs : Type 0 where
 abbrev pub bufs : List ℕ → List ℕ → List ℕ → Bufs
 bufs a b c = record { events = a; errors = b; scratch = c }
 
--- what stays throughout an item: the rooms, and the records of the items before
+-- what stays throughout an item: the limits, the rooms, and the records of the items before
 pub record Past : Type 0 where
+  pub limits : Limits
   pub event-room : ℕ
   pub error-room : ℕ
   pub records : List Rec
@@ -65,9 +62,9 @@ unwantOf n zero = none
 unwantOf n (suc p) = some (n - p)
 
 -- the records of pending errors
-unfoldable pub recorded : Source → List (ℕ × Choice) → List Rec
-recorded x [] = []
-recorded x (e ∷ es) = record-of limits x (e .0) (e .1) ∷ recorded x es
+unfoldable pub recorded : Limits → Source → List (ℕ × Choice) → List Rec
+recorded L x [] = []
+recorded L x (e ∷ es) = record-of L x (e .0) (e .1) ∷ recorded L x es
 
 -- each at a row of its own, none before the item's first
 abbrev pub Apart : ℕ → List (ℕ × Choice) → Type 0
@@ -91,13 +88,14 @@ namesIn s = spelled (take (s .count) (s .codes))
 
 pub record Written (x : Source) (p : Past) (ev evcap : ℕ) (events : List ℕ) (out : List Event) : Type 0 where
   pub is : take ev events ≡ buffer x out
-  pub past : records limits x out [] ≡ p .records
+  pub past : records (p .limits) x out [] ≡ p .records
   pub room : p .event-room ≡ evcap + 4
 
-pub record Chosen (x : Source) (p : Past) (first er ercap item : ℕ) (errors : List ℕ) (chosen : List (ℕ × Choice)) : Type 0 where
-  pub is : take er errors ≡ flat-records (p .records ++ recorded x chosen)
+pub record Chosen (x : Source) (p : Past) (first er ercap item quote : ℕ) (errors : List ℕ) (chosen : List (ℕ × Choice)) : Type 0 where
+  pub is : take er errors ≡ flat-records (p .records ++ recorded (p .limits) x chosen)
   pub since : item ≡ length (flat-records (p .records))
   pub room : p .error-room ≡ ercap
+  pub quoted : p .limits .quote ≡ quote
   pub apart : Apart (length (x .ids) - first) chosen
 
 pub record Means (p : Past) (x : Source) (s : Whole) (b : Bufs) (a : P.State) : Type 0 where
@@ -107,12 +105,12 @@ pub record Means (p : Past) (x : Source) (s : Whole) (b : Bufs) (a : P.State) : 
   pub written : Written x p (s .ev) (s .evcap) (b .events) (a .out)
   pub want : a .want ≡ wantOf (length (x .ids)) (s .want) (namesIn s)
   pub unwant : a .unwant ≡ unwantOf (length (x .ids)) (s .unwant)
-  pub chosen : Chosen x p (s .first) (s .er) (s .ercap) (s .item) (b .errors) (a .chosen)
+  pub chosen : Chosen x p (s .first) (s .er) (s .ercap) (s .item) (s .quote) (b .errors) (a .chosen)
   pub cache : Cached (length (x .ids)) (s .first) (s .far) (b .scratch) (a .cache)
 
 -- which room was exceeded first so far, 7 or 8, or 0
 unfoldable pub overOf : Past → Source → P.State → ℕ
-overOf p x a = over (p .event-room) (p .error-room) (map (used limits x) (a .drafts))
+overOf p x a = over (p .event-room) (p .error-room) (map (used (p .limits) x) (a .drafts))
 
 -- the state stands for a: until a room is exceeded it means a, and from then on it only knows which room
 pub record Stands (p : Past) (x : Source) (s : Whole) (b : Bufs) (a : P.State) : Type 0 where

@@ -28,6 +28,8 @@ pub record Whole : Type 0 where
   -- the item's first row, and the row up to before which failures are remembered
   pub first : ℕ
   pub far : ℕ
+  -- how long a found text may be to be quoted
+  pub quote : ℕ
 
 -- the cells of the list of notes, in the order of src/names.rt
 abbrev pub beside : List ℕ → Whole → Whole
@@ -48,9 +50,10 @@ beside l s =
       item = getD l 6 0;
       first = getD l 7 0;
       far = getD l 8 0;
-      codes = drop 9 l;
+      quote = getD l 9 0;
+      codes = drop 10 l;
     }
 
 -- a state that rests at a row, where only what is noted counts
 abbrev pub resting : ℕ → Whole
-resting p = record { pos = p; fuel = 0; mode = 0; ev = 0; evcap = 0; full = 0; want = 0; unwant = 0; count = 0; mask = 0; codes = []; er = 0; ercap = 0; item = 0; first = 0; far = 0 }
+resting p = record { pos = p; fuel = 0; mode = 0; ev = 0; evcap = 0; full = 0; want = 0; unwant = 0; count = 0; mask = 0; codes = []; er = 0; ercap = 0; item = 0; first = 0; far = 0; quote = 0 }

@@ -41,7 +41,7 @@ pub fn forget(from: usize, to: usize, scratch: &mut [u64])
 }
 
 // Remembers a failure by its bit, and that its row is to be forgotten.
-pub fn remembers(bit: usize, scratch: &mut [u64], notes: &mut [usize; 67])
+pub fn remembers(bit: usize, scratch: &mut [u64], notes: &mut [usize; 68])
     requires { ⌜ (bit / 64 < length (now scratch)) × Coded (now notes) ⌝ }
     ensures { λ _. ⌜ ((s : Whole) → beside (now (notes .exit)) s ≡ withFar (max (getD (now (notes .entry)) 8 0) (bit / 2 + 1)) (beside (now (notes .entry)) s)) × Kept bit (now (scratch .entry)) (now (scratch .exit)) ⌝ }
 {

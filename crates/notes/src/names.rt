@@ -30,11 +30,14 @@ pub const FIRST: usize = 7;
 
 pub const FAR: usize = 8;
 
+// How long a found text may be to be quoted. It stands here so that only what chooses an error looks at it.
+pub const QUOTE: usize = 9;
+
 // The codes in order of first entry, 58 at the most: a set's number for the set's ids, or 55 to 57 for the three descriptions.
-pub const CODES: usize = 9;
+pub const CODES: usize = 10;
 
 // Enters a code, unless it is there.
-pub fn enter(code: usize, notes: &mut [usize; 67])
+pub fn enter(code: usize, notes: &mut [usize; 68])
     requires { ⌜ Coded (now notes) × (code < 58) ⌝ }
     ensures { λ _. ⌜ ((s : Whole) → Enters (P.join (namesIn (beside (now (notes .entry)) s)) (namesOf code)) (beside (now (notes .entry)) s) (beside (now (notes .exit)) s)) ⌝ }
 {
@@ -49,7 +52,7 @@ pub fn enter(code: usize, notes: &mut [usize; 67])
 }
 
 // Names were expected at the row.
-pub fn expected(code: usize, at: usize, notes: &mut [usize; 67])
+pub fn expected(code: usize, at: usize, notes: &mut [usize; 68])
     requires { ⌜ Coded (now notes) × (code < 58) × (at ≤ 65536) ⌝ }
     ensures { λ _. ⌜ ((x : Source) (s : Whole) → Ok (length (x .ids)) (beside (now (notes .entry)) s) → Peeked (x .ids) (s .pos) at → Plain (P.expected (namesOf code)) x (beside (now (notes .entry)) s) (beside (now (notes .exit)) s)) ⌝ }
 {
@@ -69,7 +72,7 @@ pub fn expected(code: usize, at: usize, notes: &mut [usize; 67])
 }
 
 // A row was matched that must not stand there.
-pub fn unexpected(at: usize, notes: &mut [usize; 67])
+pub fn unexpected(at: usize, notes: &mut [usize; 68])
     requires { ⌜ at ≤ 65536 ⌝ }
     ensures { λ _. ⌜ ((x : Source) (s : Whole) → Ok (length (x .ids)) (beside (now (notes .entry)) s) → Peeked (x .ids) (s .pos) at → Plain P.unexpected x (beside (now (notes .entry)) s) (beside (now (notes .exit)) s)) ⌝ }
 {

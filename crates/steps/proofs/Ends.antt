@@ -19,7 +19,7 @@ use Rattle.definition.proofs.Buffer.{adding}
 use Rattle.notes.specs.Whole.{Whole}
 use Rattle.notes.specs.Bits.{ifb}
 use Rattle.notes.specs.Change.{withMode}
-use Rattle.notes.specs.Means.{limits, Bufs, bufs, Past, Means, Stands, modeOf, overOf}
+use Rattle.notes.specs.Means.{Bufs, bufs, Past, Means, Stands, modeOf, overOf}
 use Rattle.notes.specs.Did.{Ok, Wf, Did, Events, Errors, Plain, Began, Both, Shuts, shutA}
 use Rattle.notes.proofs.Rooms.{er-count, said-is}
 use Rattle.notes.proofs.Core.{Like, like-same, like-at, Sticky, alike, idle, then}
@@ -158,9 +158,9 @@ swallows d o S {x} {s} {s₁} {er = er} sc w y z e =
 
 -- no error of the item is pending where no number of one stands written
 pub none-pending : {p : Past} {x : Source} {s : Whole} {b : Bufs} {a : P.State} → Wf x b s → Means p x s b a → s .er ≡ s .item → a .chosen ≡ []
-none-pending {p} {x} {s} {b} {a} w m e = none (a .chosen) (omega (arith, er-count w m, e, m .chosen .since, said-is limits x (a .out) [], ap (λ (l : List Rec). length (flat-records l)) (m .written .past)))
+none-pending {p} {x} {s} {b} {a} w m e = none (a .chosen) (omega (arith, er-count w m, e, m .chosen .since, said-is (p .limits) x (a .out) [], ap (λ (l : List Rec). length (flat-records l)) (m .written .past)))
   where
-    none : (c : List (ℕ × Choice)) → held limits x c ≡ 0 → c ≡ []
+    none : (c : List (ℕ × Choice)) → held (p .limits) x c ≡ 0 → c ≡ []
     none [] h = refl
     none (e ∷ c) h = absurd (omega arith)
 
@@ -168,7 +168,7 @@ pub some-pending : {p : Past} {x : Source} {s : Whole} {b : Bufs} {a : P.State} 
 some-pending {p} {x} {s} {b} {a} w m n S = go (a .chosen) refl
   where
     none : a .chosen ≡ [] → s .er ≡ s .item
-    none q = omega (arith, er-count w m, m .chosen .since, said-is limits x (a .out) [], ap (λ (l : List Rec). length (flat-records l)) (m .written .past), ap (held limits x) q)
+    none q = omega (arith, er-count w m, m .chosen .since, said-is (p .limits) x (a .out) [], ap (λ (l : List Rec). length (flat-records l)) (m .written .past), ap (held (p .limits) x) q)
 
     go : (c : List (ℕ × Choice)) → a .chosen ≡ c → P.first-names c S a ≡ a
     go [] q = absurd (n (none q))

@@ -13,7 +13,7 @@ use Rattle.definition.specs.Buffer.{four}
 use Rattle.definition.specs.Render.{Source, used}
 use Rattle.notes.specs.Whole.{Whole}
 use Rattle.notes.specs.Change.{withPos}
-use Rattle.notes.specs.Means.{limits, Bufs, bufs, Past, Stands, overOf}
+use Rattle.notes.specs.Means.{Bufs, bufs, Past, Stands, overOf}
 use Rattle.notes.specs.Did.{Wf, Events, Put}
 use Rattle.notes.proofs.Rooms.{fits, still, thin}
 use Rattle.notes.proofs.Core.{bare, Like, like-same, like-at}
@@ -56,7 +56,7 @@ skip-step S {p} {x} {s} {b} {a} i is w t h y = like-at t (sticky-trans p x a (P.
         let e : P.skip-to S a ≡ P.mark (P.put (P.seek S is) (P.seek-out S is o) a) = skip-is S a (i ∷ is) (h z) ∙ (λ k. P.mark (P.put (seek-on S i is y k) (seek-out-on S i is (a .out) y k) a)) in
         record {
           all = λ q. sym (ap bare e);
-          over = thin (p .event-room) (p .error-room) (overOf p x a) (used limits x (o, a .chosen)) (used limits x (P.seek-out S is o, a .chosen)) (omega (arith, seek-more S is o)) (λ q. fits w (t .means z) .1) ∙ sym (ap (overOf p x) e);
+          over = thin (p .event-room) (p .error-room) (overOf p x a) (used (p .limits) x (o, a .chosen)) (used (p .limits) x (P.seek-out S is o, a .chosen)) (omega (arith, seek-more S is o)) (λ q. fits w (t .means z) .1) ∙ sym (ap (overOf p x) e);
         }
 
 skip-none : (S : List ℕ) {p : Past} {x : Source} {s : Whole} {b : Bufs} {a : P.State} → Wf x b s → Stands p x s b a → (s .full ≡ 0 → P.past (P.next S (a .rest)) ≡ true) → Like p x a (P.skip-to S a)

@@ -18,7 +18,7 @@ use Rattle.definition.proofs.Buffer.{buffer-leaf, buffer-opened}
 use Rattle.definition.proofs.Gap.{gap, gap-out}
 use Rattle.notes.specs.Whole.{Whole}
 use Rattle.notes.specs.Change.{withPos}
-use Rattle.notes.specs.Means.{limits, Bufs, bufs, Past, source, Means, Stands, Lines, modeOf, overOf}
+use Rattle.notes.specs.Means.{Bufs, bufs, Past, source, Means, Stands, Lines, modeOf, overOf}
 use Rattle.notes.specs.Did.{Ok, Wf, Did, Events, Put}
 use Rattle.notes.proofs.Lists.{getD-any}
 use Rattle.notes.proofs.Peeks.{skip-yes, skip-no}
@@ -97,7 +97,7 @@ trivia-step {p} {x} {s} {b} {a} i is w t h y = like-at t (sticky-trans p x a (P.
           all = λ q. ap bare d ∙ sym (ap bare e);
           over =
               ap (overOf p x) d
-              ∙ thin (p .event-room) (p .error-room) (overOf p x a) (used limits x (o, a .chosen)) (used limits x (P.trivia-out is o, a .chosen)) (omega (arith, out-more is o)) (λ q. fits w (t .means z) .1)
+              ∙ thin (p .event-room) (p .error-room) (overOf p x a) (used (p .limits) x (o, a .chosen)) (used (p .limits) x (P.trivia-out is o, a .chosen)) (omega (arith, out-more is o)) (λ q. fits w (t .means z) .1)
               ∙ sym (ap (overOf p x) e);
         }
 
@@ -233,7 +233,7 @@ skips {s = s} r p k u f = record { of = λ bytes l w. f bytes l (k .of bytes l w
 
 -- notes for any state: what holds whatever is noted is known of these, where the code has none at hand
 abbrev pub none-noted : List ℕ
-none-noted = replicate 67 0
+none-noted = replicate 68 0
 
 pub ok-none : (n : ℕ) (s : State) → s .pos ≤ n → s .ev ≤ s .evcap → Ok n (whole s none-noted)
 ok-none n s h k = (

@@ -30,7 +30,8 @@ whole s l =
       item = getD l 6 0;
       first = getD l 7 0;
       far = getD l 8 0;
-      codes = drop 9 l;
+      quote = getD l 9 0;
+      codes = drop 10 l;
     }
 
 -- the state at another row

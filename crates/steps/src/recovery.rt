@@ -35,7 +35,7 @@ impl State {
         ends: &[u32],
         events: &mut [u32],
         errors: &mut [u32],
-        notes: &mut [usize; 67],
+        notes: &mut [usize; 68],
     ) -> Self
         requires { ⌜ Whence (now src) (now ids) (now ends) self (now notes) (now events) (now errors) × (from ≤ self .pos) × (self .full ≡ 0 → (4 ≤ at) × (at ≤ self .ev)) ⌝ }
         ensures { λ r. ⌜ ((sc : List ℕ) → Wf (source (now (src .entry)) (now (ids .entry)) (now (ends .entry))) (bufs (now (events .entry)) (now (errors .entry)) sc) (whole self (now (notes .entry))) → Shuts (P.finish optional kind (length (now (ids .entry)) - from)) at (source (now (src .entry)) (now (ids .entry)) (now (ends .entry))) (whole self (now (notes .entry))) (whole r (now (notes .exit))) (bufs (now (events .entry)) (now (errors .entry)) sc) (bufs (now (events .exit)) (now (errors .exit)) sc)) ⌝ }
@@ -52,7 +52,7 @@ impl State {
         ids: &[u32],
         ends: &[u32],
         errors: &mut [u32],
-        notes: &mut [usize; 67],
+        notes: &mut [usize; 68],
     ) -> Self
         requires { ⌜ Rows (source (now src) (now ids) (now ends)) × Ok (length (now ids)) (whole self (now notes)) × (getD (now notes) 5 0 ≤ length (now errors)) ⌝ }
         ensures { λ r. ⌜ Errors (tells optional) (source (now (src .entry)) (now (ids .entry)) (now (ends .entry))) (whole self (now (notes .entry))) (whole r (now (notes .exit))) (now (errors .entry)) (now (errors .exit)) × (r .mode ≡ self .mode) ⌝ }
@@ -78,7 +78,7 @@ impl State {
         ends: &[u32],
         events: &mut [u32],
         errors: &mut [u32],
-        notes: &mut [usize; 67],
+        notes: &mut [usize; 68],
         sets: &[[u64; 2]; 55],
     ) -> Self
         requires { ⌜ Whence (now src) (now ids) (now ends) self (now notes) (now events) (now errors) × Tabled (now sets) ⌝ }
@@ -113,7 +113,7 @@ impl State {
         ends: &[u32],
         events: &mut [u32],
         errors: &mut [u32],
-        notes: &mut [usize; 67],
+        notes: &mut [usize; 68],
         sets: &[[u64; 2]; 55],
     ) -> Self
         requires { ⌜ Whence (now src) (now ids) (now ends) self (now notes) (now events) (now errors) × (set < 55) × Tabled (now sets) ⌝ }
@@ -164,7 +164,7 @@ fn shown(kind: u32, mode: u8) -> u32
 }
 
 // Where no error of the item is pending, the set's names are entered first.
-fn first_names(set: usize, at: usize, notes: &mut [usize; 67])
+fn first_names(set: usize, at: usize, notes: &mut [usize; 68])
     requires { ⌜ Coded (now notes) × (set < 55) × (at ≤ 65536) ⌝ }
     ensures { λ _. ⌜ ((x : Source) (s : Whole) → Ok (length (x .ids)) (beside (now (notes .entry)) s) → Peeked (x .ids) (s .pos) at → Plain (λ a. P.first-names (a .chosen) (setOf set) a) x (beside (now (notes .entry)) s) (beside (now (notes .exit)) s)) ⌝ }
 {

@@ -10,7 +10,7 @@ use Rattle.desk.proofs.Between.{idles, more, item-goes, settle-asks}
 X = "(source ({args} .src .now) ({args} .ids .now) ({args} .ends .now))"
 L = "({args} .notes .now)"
 T = f"({{trivia}} .ensures .0 ({{args}} .src .now) {L} ({{pre}} .1 .0))"
-U = f"({{tell}} .ensures {X} ({{at-hand}} .last .1 .1 .1 .1 .1 .1 .1 .0) ({{at-hand}} .ensures .wf))"
+U = f"({{tell}} .ensures {X} ({{at-hand}} .last .1 .1 .1 .1 .1 .1 .1 .1 .0) ({{at-hand}} .ensures .wf))"
 ASKS = f"(settle-asks {X} ({{at-hand}} .ensures) (λ sc. {{tell}} .ensures {X} sc))"
 READY = f"(more (length ({{args}} .ids .now)) (whole ({{args}} .d .state) {L}) (sym ({{over}} .ensures) ∙ {{if1}} .left))"
 ANS = {
@@ -19,7 +19,7 @@ ANS = {
     "at-hand-requires": f"({{pre}} .0, {T} .did ({{args}} .errors .now) ({{args}} .scratch .now) ({{pre}} .1) .wf, {{pre}} .3)",
     "tell-requires": "let v = {at-hand} .ensures .wf in ((v .0 .2 .events, v .1 .events), v .0 .2 .since, omega (arith, v .0 .2 .errors, v .1 .errors))",
     "settle-requires": f"({ASKS}, {U} .wf .0 .1)",
-    "same-length": "{tell} .kept .1 .1 .1 .0 ∙ {at-hand} .kept .1 .1 .1 .1 .1 .0 ∙ {trivia} .kept .1 .1 .1 .0",
+    "same-length": "{tell} .kept .1 .1 .1 .0 ∙ {at-hand} .kept .1 .1 .1 .1 .1 .1 .0 ∙ {trivia} .kept .1 .1 .1 .0",
     "returns-2": f"item-goes {X} _ _ _ _ _ _ _ _ _ _ _ _ _ _ ({{pre}} .0) ({{pre}} .1) ({{pre}} .2) {READY} {T} ({{at-hand}} .ensures) {U}"
     " ({settle} .ensures .0) ({settle} .ensures .1) ({settle} .ensures .2) ({settle} .kept .1 .0)",
 }

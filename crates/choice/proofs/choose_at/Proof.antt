@@ -65,14 +65,17 @@ cast-e c = search needs
 id-at-requires : tie.Need-id-at-requires
 id-at-requires c κs = search needs
 
+element-copy-out-quote : tie.Need-element-copy-out-quote
+element-copy-out-quote c = search needs
+
 sub-form-of : tie.Need-sub-form-of
-sub-form-of c = omega (arith, c .before .before .before .before .before .before .before .before .start-of .ensures, c .before .before .before .before .before .before .before .end-of .ensures, forward (c .before .before .before .before .before .before .before .before .before .before .before .before .before .pre .0) (c .before .before .before .before .before .before .before .before .before .before .before .before .before .args .at) (c .before .before .before .before .before .before .before .before .before .before .before .before .before .pre .4), within (c .before .before .before .before .before .before .before .before .before .before .before .before .before .pre .0) (c .before .before .before .before .before .before .before .before .before .before .before .before .before .args .at) (c .before .before .before .before .before .before .before .before .before .before .before .before .before .pre .4))
+sub-form-of c = omega (arith, c .before .before .before .before .before .before .before .before .before .start-of .ensures, c .before .before .before .before .before .before .before .before .end-of .ensures, forward (c .before .before .before .before .before .before .before .before .before .before .before .before .before .before .pre .0) (c .before .before .before .before .before .before .before .before .before .before .before .before .before .before .args .at) (c .before .before .before .before .before .before .before .before .before .before .before .before .before .before .pre .4), within (c .before .before .before .before .before .before .before .before .before .before .before .before .before .before .pre .0) (c .before .before .before .before .before .before .before .before .before .before .before .before .before .before .args .at) (c .before .before .before .before .before .before .before .before .before .before .before .before .before .before .pre .4))
 
 part-form-of-start : tie.Need-part-form-of-start
-part-form-of-start c = omega (arith, c .before .before .before .before .before .before .before .before .start-of .ensures, c .before .before .before .before .before .before .before .end-of .ensures, forward (c .before .before .before .before .before .before .before .before .before .before .before .before .before .pre .0) (c .before .before .before .before .before .before .before .before .before .before .before .before .before .args .at) (c .before .before .before .before .before .before .before .before .before .before .before .before .before .pre .4), within (c .before .before .before .before .before .before .before .before .before .before .before .before .before .pre .0) (c .before .before .before .before .before .before .before .before .before .before .before .before .before .args .at) (c .before .before .before .before .before .before .before .before .before .before .before .before .before .pre .4))
+part-form-of-start c = omega (arith, c .before .before .before .before .before .before .before .before .before .start-of .ensures, c .before .before .before .before .before .before .before .before .end-of .ensures, forward (c .before .before .before .before .before .before .before .before .before .before .before .before .before .before .pre .0) (c .before .before .before .before .before .before .before .before .before .before .before .before .before .before .args .at) (c .before .before .before .before .before .before .before .before .before .before .before .before .before .before .pre .4), within (c .before .before .before .before .before .before .before .before .before .before .before .before .before .before .pre .0) (c .before .before .before .before .before .before .before .before .before .before .before .before .before .before .args .at) (c .before .before .before .before .before .before .before .before .before .before .before .before .before .before .pre .4))
 
 part-form-of-end : tie.Need-part-form-of-end
-part-form-of-end c = omega (arith, c .before .before .before .before .before .before .before .before .start-of .ensures, c .before .before .before .before .before .before .before .end-of .ensures, forward (c .before .before .before .before .before .before .before .before .before .before .before .before .before .pre .0) (c .before .before .before .before .before .before .before .before .before .before .before .before .before .args .at) (c .before .before .before .before .before .before .before .before .before .before .before .before .before .pre .4), within (c .before .before .before .before .before .before .before .before .before .before .before .before .before .pre .0) (c .before .before .before .before .before .before .before .before .before .before .before .before .before .args .at) (c .before .before .before .before .before .before .before .before .before .before .before .before .before .pre .4))
+part-form-of-end c = omega (arith, c .before .before .before .before .before .before .before .before .before .start-of .ensures, c .before .before .before .before .before .before .before .before .end-of .ensures, forward (c .before .before .before .before .before .before .before .before .before .before .before .before .before .before .pre .0) (c .before .before .before .before .before .before .before .before .before .before .before .before .before .before .args .at) (c .before .before .before .before .before .before .before .before .before .before .before .before .before .before .pre .4), within (c .before .before .before .before .before .before .before .before .before .before .before .before .before .before .pre .0) (c .before .before .before .before .before .before .before .before .before .before .before .before .before .before .args .at) (c .before .before .before .before .before .before .before .before .before .before .before .before .before .before .pre .4))
 
 form-of-requires : tie.Need-form-of-requires
 form-of-requires c κs = search needs
@@ -84,13 +87,13 @@ named-requires : tie.Need-named-requires
 named-requires c κs = search needs
 
 record-requires : tie.Need-record-requires
-record-requires c κs = (c .before .before .before .before .before .before .before .before .before .before .before .before .before .before .before .before .before .before .before .before .before .pre .1 .2 .errors, c .before .before .before .before .before .before .before .before .before .before .before .before .before .before .before .before .before .before .before .before .before .pre .2, omega (arith, c .before .before .before .named .ensures .0, c .before .before .before .before .spelled .ensures .spelt .few), c .before .before .before .before .spelled .ensures .spelt .long, c .before .before .before .before .before .before .before .before .before .before .before .before .before .before .before .before .before .before .before .before .before .pre .1 .1)
+record-requires c κs = (c .before .before .before .before .before .before .before .before .before .before .before .before .before .before .before .before .before .before .before .before .before .before .pre .1 .2 .errors, c .before .before .before .before .before .before .before .before .before .before .before .before .before .before .before .before .before .before .before .before .before .before .pre .2, omega (arith, c .before .before .before .named .ensures .0, c .before .before .before .before .spelled .ensures .spelt .few), c .before .before .before .before .spelled .ensures .spelt .long, c .before .before .before .before .before .before .before .before .before .before .before .before .before .before .before .before .before .before .before .before .before .before .pre .1 .1)
 
 same-length-2 : tie.Need-same-length-2
 same-length-2 c = search needs
 
 returns-2 : tie.Need-returns-2
-returns-2 c = λ s z w. chose-new (c .before .before .before .before .before .before .before .before .before .before .before .before .before .before .before .before .before .before .before .before .before .before .before .before .pre .0) (c .before .before .before .before .before .before .before .before .before .before .before .before .before .before .before .before .before .before .before .before .before .before .before .before .args .at) (c .before .before .before .before .before .before .before .before .before .before .before .before .before .before .before .before .before .before .before .before .before .before .before .before .pre .4) (beside (c .before .before .before .before .before .before .before .before .before .before .before .before .before .before .before .before .before .before .before .before .before .before .before .before .args .notes .now) s) (c .before .before .before .before .before .before .before .before .before .before .before .before .before .before .before .before .before .before .before .before .before .before .before .before .args .errors .now) (w .2) (c .before .before .before .before .before .before .before .before .before .before .before .before .before .before .before .before .before .before .before .before .before .before .before .before .pre .2) (c .before .before .before .before .before .before .before .before .before .before .before .before .before .before .before .before .before .before .before .start-of .ensures) (c .before .before .before .before .before .before .before .before .before .before .before .before .before .before .before .before .before .before .end-of .ensures) (c .before .before .before .before .before .before .before .before .before .before .before .before .before .before .before .before .before .before .before .before .before .before .before .before .args .expected) (namesIn (beside (c .before .before .before .before .before .before .before .before .before .before .before .before .before .before .before .before .before .before .before .before .before .before .before .before .args .notes .now) s)) (c .before .before .before .before .before .before .before .before .before .before .before .id-at .ensures) (c .before .before .before .before .before .before .before .before .before .form-of .ensures) (c .before .before .before .before .before .before .named .ensures .1 (c .before .before .before .before .before .before .before .spelled .result .names) ∙ ap (λ (l : List ℕ). names-of (c .before .before .before .before .before .before .before .before .before .form-of .result) (choiceOf (c .before .before .before .before .before .before .before .before .before .before .before .before .before .before .before .before .before .before .before .before .before .before .before .before .args .expected) l)) (c .before .before .before .before .before .before .before .spelled .ensures .names)) (sym (length-take-le (c .before .before .before .before .before .before .named .result) (c .before .before .before .before .before .before .before .spelled .result .names) (omega (arith, c .before .before .before .before .before .before .named .ensures .0, c .before .before .before .before .before .before .before .spelled .ensures .spelt .few, c .before .before .before .before .before .before .before .spelled .ensures .spelt .long)))) (c .before .before .before .before .before .before .before .before .before .before .before .before .before .before .before .before .before .before .before .before .before .before .before .before .pre .3) (c .before .before .«record» .ensures s z) (sym (c .before .before .before .before .before .before .before .before .before .before .before .before .if1 .left) ∙ c .before .before .before .before .before .before .before .before .before .before .before .before .before .pending .ensures)
+returns-2 c = λ s z w. chose-new (c .before .before .before .before .before .before .before .before .before .before .before .before .before .before .before .before .before .before .before .before .before .before .before .before .before .pre .0) (c .before .before .before .before .before .before .before .before .before .before .before .before .before .before .before .before .before .before .before .before .before .before .before .before .before .args .at) (c .before .before .before .before .before .before .before .before .before .before .before .before .before .before .before .before .before .before .before .before .before .before .before .before .before .pre .4) (beside (c .before .before .before .before .before .before .before .before .before .before .before .before .before .before .before .before .before .before .before .before .before .before .before .before .before .args .notes .now) s) (c .before .before .before .before .before .before .before .before .before .before .before .before .before .before .before .before .before .before .before .before .before .before .before .before .before .args .errors .now) (w .2) (c .before .before .before .before .before .before .before .before .before .before .before .before .before .before .before .before .before .before .before .before .before .before .before .before .before .pre .2) (c .before .before .before .before .before .before .before .before .before .before .before .before .before .before .before .before .before .before .before .before .start-of .ensures) (c .before .before .before .before .before .before .before .before .before .before .before .before .before .before .before .before .before .before .before .end-of .ensures) (c .before .before .before .before .before .before .before .before .before .before .before .before .before .before .before .before .before .before .before .before .before .before .before .before .before .args .expected) (namesIn (beside (c .before .before .before .before .before .before .before .before .before .before .before .before .before .before .before .before .before .before .before .before .before .before .before .before .before .args .notes .now) s)) (c .before .before .before .before .before .before .before .before .before .before .before .before .id-at .ensures) (c .before .before .before .before .before .before .before .before .before .form-of .ensures) (c .before .before .before .before .before .before .named .ensures .1 (c .before .before .before .before .before .before .before .spelled .result .names) ∙ ap (λ (l : List ℕ). names-of (c .before .before .before .before .before .before .before .before .before .form-of .result) (choiceOf (c .before .before .before .before .before .before .before .before .before .before .before .before .before .before .before .before .before .before .before .before .before .before .before .before .before .args .expected) l)) (c .before .before .before .before .before .before .before .spelled .ensures .names)) (sym (length-take-le (c .before .before .before .before .before .before .named .result) (c .before .before .before .before .before .before .before .spelled .result .names) (omega (arith, c .before .before .before .before .before .before .named .ensures .0, c .before .before .before .before .before .before .before .spelled .ensures .spelt .few, c .before .before .before .before .before .before .before .spelled .ensures .spelt .long)))) (c .before .before .before .before .before .before .before .before .before .before .before .before .before .before .before .before .before .before .before .before .before .before .before .before .before .pre .3) (c .before .before .«record» .ensures s z) (sym (c .before .before .before .before .before .before .before .before .before .before .before .before .before .if1 .left) ∙ c .before .before .before .before .before .before .before .before .before .before .before .before .before .before .pending .ensures)
 
 pub choose-at-spec : {M : Type 1} → statement M
 choose-at-spec =
@@ -110,6 +113,7 @@ choose-at-spec =
     cast-a
     cast-e
     id-at-requires
+    element-copy-out-quote
     sub-form-of
     part-form-of-start
     part-form-of-end

@@ -3,8 +3,7 @@ use Prim.Native.Nat.{_+_, _-_, _≤_}
 use mathlib.Core.Path.{_≡_, refl, sym, _∙_}
 use native.Mathlib.Omega.{arith}
 use lib.ListN.{length}
-use Rattle.definition.specs.Run as P
-use Rattle.notes.specs.Means.{limits, source, bufs}
+use Rattle.notes.specs.Means.{source, bufs}
 use Rattle.desk.specs.Items.{tally, Goes}
 use Rattle.desk.proofs.Between.{items-none, idles, goes-as, goes-then}
 use borrow.Author.Needs.{needs}
@@ -16,10 +15,10 @@ use Rattle.desk.proofs.items.item.Reads as item-reads
 use Rattle.desk.proofs.items.over.Reads as over-reads
 
 abbrev Inv-loop : tie.InvT-loop
-Inv-loop d₀ src ids ends events₀ errors₀ scratch₀ notes₀ table sets n₀ d events errors scratch notes n = Goes (P.items limits (length ids - n)) (source src ids ends) (tally d₀ notes₀) (tally d notes) (bufs events₀ errors₀ scratch₀) (bufs events errors scratch) × (n ≤ length ids) × (length events ≡ length events₀) × (length errors ≡ length errors₀) × (length scratch ≡ length scratch₀)
+Inv-loop d₀ depth src ids ends events₀ errors₀ scratch₀ notes₀ table sets n₀ d events errors scratch notes n = Goes depth (length ids - n) (source src ids ends) (tally d₀ notes₀) (tally d notes) (bufs events₀ errors₀ scratch₀) (bufs events errors scratch) × (n ≤ length ids) × (length events ≡ length events₀) × (length errors ≡ length errors₀) × (length scratch ≡ length scratch₀)
 
 abbrev μ-loop : tie.MeasureT-loop
-μ-loop d₀ src ids ends events₀ errors₀ scratch₀ notes₀ table sets n₀ d events errors scratch notes n = n
+μ-loop d₀ depth src ids ends events₀ errors₀ scratch₀ notes₀ table sets n₀ d events errors scratch notes n = n
 
 loop-holds : tie.Need-loop-holds Inv-loop μ-loop
 loop-holds c = (goes-as 0 (length (c .before .before .before .before .before .before .args .ids .now) - length (c .before .before .before .before .before .before .args .ids .now)) (omega arith) (items-none (c .before .before .before .before .before .before .pre .1) (c .before .before .before .before .before .before .pre .2)), omega arith, refl, refl, refl)
@@ -49,7 +48,7 @@ loop-less : tie.Need-loop-less Inv-loop μ-loop
 loop-less c = omega arith
 
 loop-again : tie.Need-loop-again Inv-loop μ-loop
-loop-again c = let N = length (c .before .before .before .before .before .before .before .before .before .before .before .before .before .before .before .before .before .before .before .before .before .args .ids .now) in let n = c .before .before .before .before .before .before .before .before .before .before .before .before .before .before .loop .n in let i = c .before .before .before .before .before .before .before .before .before .before .before .before .before .before .loop .inv in (goes-as (N - n + 1) (N - (n - 1)) (omega (arith, i .1, c .before .before .before .before .before .before .before .before .before .before .before .before .before .loop-test .taken)) (goes-then (N - n) 1 (i .0) (c .before .before .before .before .before .before .item .ensures)), omega (arith, i .1), c .before .before .before .before .before .before .item .kept .1 .1 .1 .1 .0 ∙ i .2, c .before .before .before .before .before .before .item .kept .1 .1 .1 .1 .1 .0 ∙ i .3, c .before .before .before .before .before .before .item .kept .1 .1 .1 .1 .1 .1 .0 ∙ i .4)
+loop-again c = let N = length (c .before .before .before .before .before .before .before .before .before .before .before .before .before .before .before .before .before .before .before .before .before .args .ids .now) in let n = c .before .before .before .before .before .before .before .before .before .before .before .before .before .before .loop .n in let i = c .before .before .before .before .before .before .before .before .before .before .before .before .before .before .loop .inv in (goes-as (N - n + 1) (N - (n - 1)) (omega (arith, i .1, c .before .before .before .before .before .before .before .before .before .before .before .before .before .loop-test .taken)) (goes-then (N - n) 1 (i .0) (c .before .before .before .before .before .before .item .ensures)), omega (arith, i .1), c .before .before .before .before .before .before .item .kept .1 .1 .1 .1 .1 .0 ∙ i .2, c .before .before .before .before .before .before .item .kept .1 .1 .1 .1 .1 .1 .0 ∙ i .3, c .before .before .before .before .before .before .item .kept .1 .1 .1 .1 .1 .1 .1 .0 ∙ i .4)
 
 same-length-4 : tie.Need-same-length-4 Inv-loop μ-loop
 same-length-4 c = c .before .loop .inv .2

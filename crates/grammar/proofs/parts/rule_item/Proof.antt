@@ -21,7 +21,7 @@ same-length-3 : tie.Need-same-length-3
 same-length-3 c = search needs
 
 returns : tie.Need-returns
-returns c = is-item (c .before .before .before .before .before .before .exec .ensures)
+returns c = λ L e. is-item L e (c .before .before .before .before .before .before .exec .ensures)
 
 pub rule-item-spec : {M : Type 1} → statement M
 rule-item-spec = tie.close (tie.spec exec-requires same-length same-length-2 same-length-3 returns)
