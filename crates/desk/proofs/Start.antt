@@ -5,6 +5,7 @@ use mathlib.Core.List.{List, []}
 use mathlib.Core.Bool.{false}
 use native.Mathlib.Omega.{arith}
 use lib.ListN.{length}
+use Rattle.shapes.specs.Shapes.{EVENT}
 use Rattle.definition.specs.Run as P
 use Rattle.definition.specs.Render.{Source, used}
 use Rattle.definition.proofs.Buffer.{buffer-none}
@@ -14,7 +15,7 @@ use Rattle.notes.proofs.Rooms.{exceeds-none}
 use Rattle.desk.specs.Items.{Tally, tally, blank, clean, pastOf, Between, Goes}
 
 module _ (x : Source) (fuel evcap ercap : ℕ) (ev er sc : List ℕ) (none : (i : ℕ) → bitAt sc i ≡ false) where
-  start-means : Means (pastOf (evcap + 4) ercap x (P.start (x .ids) fuel)) x (tally (blank fuel evcap) (clean ercap) .state) (bufs ev er sc) (P.start (x .ids) fuel)
+  start-means : Means (pastOf (evcap + EVENT) ercap x (P.start (x .ids) fuel)) x (tally (blank fuel evcap) (clean ercap) .state) (bufs ev er sc) (P.start (x .ids) fuel)
   unfolding recorded
   start-means =
       record {
@@ -28,14 +29,14 @@ module _ (x : Source) (fuel evcap ercap : ℕ) (ev er sc : List ℕ) (none : (i 
         cache = record { expr = λ p h. none (2 * p); term = λ p h. none (2 * p + 1); below = λ i h. none i; above = λ i h. none i };
       }
 
-  pub starts : Between (evcap + 4) ercap x (tally (blank fuel evcap) (clean ercap)) (bufs ev er sc) (P.start (x .ids) fuel)
+  pub starts : Between (evcap + EVENT) ercap x (tally (blank fuel evcap) (clean ercap)) (bufs ev er sc) (P.start (x .ids) fuel)
   unfolding overOf
   starts =
       record {
-        stands = record { over = sym (exceeds-none (evcap + 4) ercap (used limits x ([], [])) (omega arith) (omega arith)); means = λ z. start-means };
+        stands = record { over = sym (exceeds-none (evcap + EVENT) ercap (used limits x ([], [])) (omega arith) (omega arith)); means = λ z. start-means };
         count = λ z. refl;
         few = λ z y. ((λ o. refl), omega arith);
       }
 
-  pub reads : {r : Tally} {b′ : Bufs} → Goes (P.items limits (length (x .ids))) x (tally (blank fuel evcap) (clean ercap)) r (bufs ev er sc) b′ → Between (evcap + 4) ercap x r b′ (P.read limits (x .ids) fuel)
-  reads g = g .does (evcap + 4) ercap (P.start (x .ids) fuel) starts
+  pub reads : {r : Tally} {b′ : Bufs} → Goes (P.items limits (length (x .ids))) x (tally (blank fuel evcap) (clean ercap)) r (bufs ev er sc) b′ → Between (evcap + EVENT) ercap x r b′ (P.read limits (x .ids) fuel)
+  reads g = g .does (evcap + EVENT) ercap (P.start (x .ids) fuel) starts

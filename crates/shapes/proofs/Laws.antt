@@ -1,15 +1,18 @@
 -- Events and records in a list of numbers: how long they are, read back, and passed over.
-use Prim.Native.Nat.{ℕ, _+_, _*_, _≤_, min}
+use Prim.Native.Nat.{ℕ, _+_, _*_, _≤_, _<_, min}
 use mathlib.Core.Path.{_≡_, refl, ap, ap₂, sym, _∙_}
+use mathlib.Core.Bool.{Bool, true, false}
 use mathlib.Core.List.{List, [], _∷_, _++_, append-assoc}
 use native.Mathlib.Omega.{arith}
-use native.Mathlib.Nat.{min-eq-right}
-use lib.ListN.{length, getD, drop, length-append}
-use lib.Seq.{drop-append-seam, getD-append-add}
-use Rattle.shapes.specs.Shapes.{EVENT, Entry, numbers, flat, entries, HEAD, COUNT, Rec, flat-records, next-record}
+use native.Mathlib.Nat.{min-eq-left, min-eq-right, min-le-left, le-of-lt}
+use borrow.Author.Tests.{ltb-true, ltb-false}
+use lib.Dec.{ltb}
+use lib.ListN.{length, getD, drop, length-append, drop-of-length-le}
+use lib.Seq.{drop-append-seam, drop-length, drop-drop, getD-append-add, getD-drop}
+use Rattle.shapes.specs.Shapes.{EVENT, Entry, event, flat, entries, HEAD, COUNT, Rec, flat-records, next-record}
 
-pub numbers-length : (e : Entry) → length (numbers e) ≡ EVENT
-numbers-length e = refl
+pub event-length : (sort kind start end : ℕ) → length (event sort kind start end) ≡ EVENT
+event-length sort kind start end = refl
 
 pub flat-length : (es : List Entry) → length (flat es) ≡ EVENT * length es
 flat-length [] = refl
@@ -19,7 +22,30 @@ pub entries-flat : (es : List Entry) → entries (flat es) ≡ es
 entries-flat [] = refl
 entries-flat (e ∷ es) = ap (λ (l : List Entry). e ∷ l) (entries-flat es)
 
--- a record that stands behind p, with others behind it: what stands behind the next place are the others
+-- THE NEXT RECORD, of any list
+drop-least : (l : List ℕ) (n : ℕ) → drop (min (length l) n) l ≡ drop n l
+drop-least l n = go (ltb (length l) n) refl
+  where
+    go : (t : Bool) → ltb (length l) n ≡ t → drop (min (length l) n) l ≡ drop n l
+    go true e =
+        let h : length l ≤ n = le-of-lt (ltb-true (length l) n e) in
+        ap (λ (k : ℕ). drop k l) (min-eq-left h) ∙ drop-length l ∙ sym (drop-of-length-le l h)
+    go false e = ap (λ (k : ℕ). drop k l) (min-eq-right (ltb-false (length l) n e))
+
+module _ (l : List ℕ) (at : ℕ) where
+  pub next-within : next-record l at ≤ length l
+  next-within = min-le-left (length l) (at + HEAD + getD l (at + COUNT) 0)
+
+  pub next-past : at + HEAD ≤ length l → at + HEAD ≤ next-record l at
+  next-past h = omega arith
+
+  -- from it on stands what stands behind the head and the names
+  pub next-rest : drop (next-record l at) l ≡ drop (HEAD + getD (drop at l) COUNT 0) (drop at l)
+  next-rest =
+      let n : at + HEAD + getD l (at + COUNT) 0 ≡ at + (HEAD + getD (drop at l) COUNT 0) = omega (arith, getD-drop at l COUNT 0) in
+      drop-least l (at + HEAD + getD l (at + COUNT) 0) ∙ ap (λ (k : ℕ). drop k l) n ∙ sym (drop-drop (HEAD + getD (drop at l) COUNT 0) at l)
+
+-- A record that stands behind p, with others behind it: what stands behind the next place are the others
 module _ (p : List ℕ) (q : Rec) (qs : List Rec) where
   abbrev here : List ℕ
   here = p ++ (q .0 ∷ q .1 ∷ q .2 ∷ length (q .3) ∷ q .3)

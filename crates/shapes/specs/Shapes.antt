@@ -9,11 +9,18 @@ use lib.ListN.{length, getD}
 abbrev pub EVENT : ℕ
 EVENT = 4
 
+-- where its kind and its end stand in it
+abbrev pub KIND : ℕ
+KIND = 1
+
+abbrev pub END : ℕ
+END = 3
+
 abbrev pub Entry : Type 0
 Entry = ℕ × ℕ × ℕ × ℕ
 
-abbrev pub numbers : Entry → List ℕ
-numbers e = e .0 ∷ e .1 ∷ e .2 ∷ e .3 ∷ []
+abbrev pub event : ℕ → ℕ → ℕ → ℕ → List ℕ
+event sort kind start end = sort ∷ kind ∷ start ∷ end ∷ []
 
 abbrev pub flat : List Entry → List ℕ
 flat [] = []
