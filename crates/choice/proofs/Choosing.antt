@@ -11,17 +11,17 @@ use lib.Dec.{T, ltb, leb, eqb}
 use lib.ListN.{length, getD, take, drop, set, length-append}
 use lib.Seq.{paste, take-paste, length-paste, length-take-le, take-add, drop-at}
 use Rattle.kinds.specs.Kinds as k
+use Rattle.shapes.specs.Shapes.{EVENT, event, HEAD, Rec, flat-records}
 use Rattle.definition.specs.Run as P
 use Rattle.definition.specs.Run.{Event, Choice, Limits, wanted, unwanted}
-use Rattle.definition.specs.Buffer.{four}
-use Rattle.definition.specs.Render.{Source, Rec, starts-at, ends-at, id-at, text-at, record-of, records, flat-records, form-of, names-of, said, held, used}
+use Rattle.definition.specs.Render.{Source, starts-at, ends-at, id-at, text-at, record-of, records, form-of, names-of, said, held, used}
 use Rattle.notes.specs.Whole.{Whole, beside, resting}
 use Rattle.notes.specs.Bits.{ifb}
 use Rattle.notes.specs.Change.{withEr, withFull, withWants}
 use Rattle.notes.specs.Means.{bufs, Past, Rows, Apart, recorded, Chosen, wantOf, unwantOf, namesIn, Means, Stands, overOf}
 use Rattle.notes.specs.Did.{Placed, Ok, Sound, Coded, Wf, Counted, Errors}
 use Rattle.choice.specs.Choice.{choiceOf, scan, Noted, Pends, Chose}
-use Rattle.notes.proofs.Lists.{stored, take-four, length-four}
+use Rattle.notes.proofs.Lists.{stored, take-event, length-event}
 use Rattle.notes.proofs.Cells.{long, new-er, no-wants}
 use Rattle.notes.proofs.Core.{blank, sound}
 use Rattle.notes.proofs.Rooms.{flat-append, said-is, held-is, fits, first-of, spill, full-first, exceeds-none, exceeds-errors}
@@ -33,10 +33,10 @@ module _ (s : Whole) (start end form count : ℕ) (names er : List ℕ) (c : cou
   abbrev numbers : List ℕ
   numbers = start ∷ end ∷ form ∷ count ∷ take count names
 
-  size : length numbers ≡ 4 + count
+  size : length numbers ≡ HEAD + count
   size = omega (arith, length-take-le count names c)
 
-  pub record-full : s .er ≤ s .ercap → s .ercap - s .er < count + 4 → Noted numbers s (withFull 8 s) er er
+  pub record-full : s .er ≤ s .ercap → s .ercap - s .er < count + HEAD → Noted numbers s (withFull 8 s) er er
   record-full h l =
       record {
         is = refl;
@@ -47,26 +47,26 @@ module _ (s : Whole) (start end form count : ℕ) (names er : List ℕ) (c : cou
         long = refl;
       }
 
-  record-written : s .er ≤ s .ercap → count + 4 ≤ s .ercap - s .er → s .ercap ≤ length er → (er′ : List ℕ) → er′ ≡ paste (stored er (s .er) start end form count) (s .er + 4) names count → Noted numbers s (withFull 0 (withEr (s .er + 4 + count) s)) er er′
+  record-written : s .er ≤ s .ercap → count + HEAD ≤ s .ercap - s .er → s .ercap ≤ length er → (er′ : List ℕ) → er′ ≡ paste (stored er (s .er) start end form count) (s .er + HEAD) names count → Noted numbers s (withFull 0 (withEr (s .er + HEAD + count) s)) er er′
   record-written h f l er′ e =
-      let q = length-four er (s .er) start end form count in
+      let q = length-event er (s .er) start end form count in
       record {
         is = refl;
         filled = ap (λ (b : Bool). ifb b 8 0) (sym (le-ltb (s .ercap) (s .er + length numbers) (omega (arith, size))));
         wrote = λ y.
-            ap (take (s .er + 4 + count)) e
-            ∙ take-paste (stored er (s .er) start end form count) (s .er + 4) names count (omega (arith, q)) c
-            ∙ ap (λ (t : List ℕ). t ++ take count names) (take-four er (s .er) start end form count (omega arith))
-            ∙ append-assoc (take (s .er) er) (four start end form count) (take count names);
+            ap (take (s .er + HEAD + count)) e
+            ∙ take-paste (stored er (s .er) start end form count) (s .er + HEAD) names count (omega (arith, q)) c
+            ∙ ap (λ (t : List ℕ). t ++ take count names) (take-event er (s .er) start end form count (omega arith))
+            ∙ append-assoc (take (s .er) er) (event start end form count) (take count names);
         fits = omega arith;
         grows = omega arith;
-        long = ap length e ∙ length-paste (stored er (s .er) start end form count) (s .er + 4) names count (omega (arith, q)) c ∙ q;
+        long = ap length e ∙ length-paste (stored er (s .er) start end form count) (s .er + HEAD) names count (omega (arith, q)) c ∙ q;
       }
 
 -- the same where the number of the records' numbers is noted
-pub record-noted : (l : List ℕ) (s : Whole) → Coded l → (start end form count : ℕ) (names er : List ℕ) → count ≤ length names → getD l 4 0 ≤ getD l 5 0 → count + 4 ≤ getD l 5 0 - getD l 4 0 → getD l 5 0 ≤ length er → (er′ : List ℕ) → er′ ≡ paste (stored er (getD l 4 0) start end form count) (getD l 4 0 + 4) names count → Noted (start ∷ end ∷ form ∷ count ∷ take count names) (beside l s) (withFull 0 (beside (set l 4 (getD l 4 0 + 4 + count)) s)) er er′
+pub record-noted : (l : List ℕ) (s : Whole) → Coded l → (start end form count : ℕ) (names er : List ℕ) → count ≤ length names → getD l 4 0 ≤ getD l 5 0 → count + HEAD ≤ getD l 5 0 - getD l 4 0 → getD l 5 0 ≤ length er → (er′ : List ℕ) → er′ ≡ paste (stored er (getD l 4 0) start end form count) (getD l 4 0 + HEAD) names count → Noted (start ∷ end ∷ form ∷ count ∷ take count names) (beside l s) (withFull 0 (beside (set l 4 (getD l 4 0 + HEAD + count)) s)) er er′
 record-noted l s w start end form count names er c h f g er′ e =
-    subst (λ (v : Whole). Noted (start ∷ end ∷ form ∷ count ∷ take count names) (beside l s) (withFull 0 v) er er′) (sym (new-er l s (long l (w .long)) (getD l 4 0 + 4 + count))) (record-written (beside l s) start end form count names er c h f g er′ e)
+    subst (λ (v : Whole). Noted (start ∷ end ∷ form ∷ count ∷ take count names) (beside l s) (withFull 0 v) er er′) (sym (new-er l s (long l (w .long)) (getD l 4 0 + HEAD + count))) (record-written (beside l s) start end form count names er c h f g er′ e)
 
 -- PENDING ERRORS
 neither : (b c : Bool) → (elim b [ true ↦ true | false ↦ c ]) ≡ false → (b ≡ false) × (c ≡ false)
@@ -231,7 +231,7 @@ furthest-in {n} {pos} {first} {far} {w} {u} {r} v q z = go (leb u w) q
     go false p = let h : first < u = v .unwant-since (λ y. z (p ∙ y)) in omega (arith, v .unwant-in)
 
 -- one moment more, at which the events fit
-spilled : (p : Past) (x : Source) (o : List Event) (es : List (ℕ × Choice)) → records (p .limits) x o [] ≡ p .records → 4 * suc (length o) ≤ p .event-room → ifb (ltb (p .error-room) (length (flat-records (p .records ++ recorded (p .limits) x es)))) 8 0 ≡ spill p x o es
+spilled : (p : Past) (x : Source) (o : List Event) (es : List (ℕ × Choice)) → records (p .limits) x o [] ≡ p .records → EVENT * suc (length o) ≤ p .event-room → ifb (ltb (p .error-room) (length (flat-records (p .records ++ recorded (p .limits) x es)))) 8 0 ≡ spill p x o es
 spilled p x o es q f = ap (λ (i : ℕ). ifb (ltb (p .error-room) i) 8 0) taken ∙ go (ltb (p .error-room) (used (p .limits) x (o, es) .1)) refl
   where
     taken : length (flat-records (p .records ++ recorded (p .limits) x es)) ≡ said (p .limits) x o + held (p .limits) x es

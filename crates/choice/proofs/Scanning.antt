@@ -9,11 +9,13 @@ use native.Mathlib.Nat.{add-zero}
 use borrow.Author.Tests.{ne-eqb, eq-eqb, eqb-true, eqb-false}
 use lib.Dec.{eqb}
 use lib.ListN.{length, getD, drop, length-drop}
-use lib.Seq.{drop-append-seam, getD-drop, drop-drop}
+use lib.Seq.{drop-append-seam, getD-drop}
 use Rattle.definition.specs.Run as P
 use Rattle.definition.specs.Run.{Choice, Limits}
-use Rattle.definition.specs.Render.{Source, starts-at, ends-at, record-of, flat-records}
+use Rattle.definition.specs.Render.{Source, starts-at, ends-at, record-of}
 use Rattle.notes.specs.Means.{recorded, Rows, Apart}
+use Rattle.shapes.proofs.Laws.{next-rest}
+use Rattle.shapes.specs.Shapes.{HEAD, COUNT, flat-records, next-record}
 use Rattle.choice.specs.Choice.{scan}
 use Rattle.choice.proofs.Records.{own}
 
@@ -27,7 +29,7 @@ module _ (s e : ℕ) where
   scan-pass (suc k) [] = refl
   scan-pass (suc k) (a ∷ l) = scan-pass k l
 
-  scan-head : (l : List ℕ) → 4 ≤ length l → scan s e 0 l ≡ either (eqb (getD l 0 0) s && eqb (getD l 1 0) e) (scan s e 0 (drop (getD l 3 0 + 4) l))
+  scan-head : (l : List ℕ) → HEAD ≤ length l → scan s e 0 l ≡ either (eqb (getD l 0 0) s && eqb (getD l 1 0) e) (scan s e 0 (drop (getD l 3 0 + HEAD) l))
   unfolding scan
   scan-head [] h = absurd (omega arith)
   scan-head (a ∷ []) h = absurd (omega arith)
@@ -35,7 +37,7 @@ module _ (s e : ℕ) where
   scan-head (a ∷ b ∷ f ∷ []) h = absurd (omega arith)
   scan-head (a ∷ b ∷ f ∷ n ∷ l) h = ap (either (eqb a s && eqb b e)) (scan-pass n l ∙ ap (λ (i : ℕ). scan s e 0 (drop i (a ∷ b ∷ f ∷ n ∷ l))) (sym (add-four n)))
 
-  scan-few : (l : List ℕ) → length l < 4 → scan s e 0 l ≡ false
+  scan-few : (l : List ℕ) → length l < HEAD → scan s e 0 l ≡ false
   unfolding scan
   scan-few [] h = refl
   scan-few (a ∷ []) h = refl
@@ -45,23 +47,23 @@ module _ (s e : ℕ) where
 
   -- the records from a place on, as the loop looks at them
   module _ (l : List ℕ) (at : ℕ) where
-    scan-at : at + 4 ≤ length l → scan s e 0 (drop at l) ≡ either (eqb (getD l at 0) s && eqb (getD l (at + 1) 0) e) (scan s e 0 (drop (at + getD l (at + 3) 0 + 4) l))
+    scan-at : at + HEAD ≤ length l → scan s e 0 (drop at l) ≡ either (eqb (getD l at 0) s && eqb (getD l (at + 1) 0) e) (scan s e 0 (drop (next-record l at) l))
     scan-at h =
-        let n : at + (getD (drop at l) 3 0 + 4) ≡ at + getD l (at + 3) 0 + 4 = omega (arith, getD-drop at l 3 0) in
+        let n : getD (drop at l) 3 0 + HEAD ≡ HEAD + getD (drop at l) COUNT 0 = omega arith in
         scan-head (drop at l) (omega (arith, length-drop at l))
-        ∙ ap₂ (λ (i j : ℕ). either (eqb i s && eqb j e) (scan s e 0 (drop (getD (drop at l) 3 0 + 4) (drop at l)))) (getD-drop at l 0 0 ∙ ap (λ (i : ℕ). getD l i 0) (add-zero at)) (getD-drop at l 1 0)
-        ∙ ap (λ (t : List ℕ). either (eqb (getD l at 0) s && eqb (getD l (at + 1) 0) e) (scan s e 0 t)) (drop-drop (getD (drop at l) 3 0 + 4) at l ∙ ap (λ (i : ℕ). drop i l) n)
+        ∙ ap₂ (λ (i j : ℕ). either (eqb i s && eqb j e) (scan s e 0 (drop (getD (drop at l) 3 0 + HEAD) (drop at l)))) (getD-drop at l 0 0 ∙ ap (λ (i : ℕ). getD l i 0) (add-zero at)) (getD-drop at l 1 0)
+        ∙ ap (λ (t : List ℕ). either (eqb (getD l at 0) s && eqb (getD l (at + 1) 0) e) (scan s e 0 t)) (ap (λ (i : ℕ). drop i (drop at l)) n ∙ sym (next-rest l at))
 
-    pub scan-hit : at + 4 ≤ length l → getD l at 0 ≡ s → getD l (at + 1) 0 ≡ e → true ≡ scan s e 0 (drop at l)
-    scan-hit h p q = ap₂ (λ (b c : Bool). either (b && c) (scan s e 0 (drop (at + getD l (at + 3) 0 + 4) l))) (sym (eq-eqb _ _ p)) (sym (eq-eqb _ _ q)) ∙ sym (scan-at h)
+    pub scan-hit : at + HEAD ≤ length l → getD l at 0 ≡ s → getD l (at + 1) 0 ≡ e → true ≡ scan s e 0 (drop at l)
+    scan-hit h p q = ap₂ (λ (b c : Bool). either (b && c) (scan s e 0 (drop (next-record l at) l))) (sym (eq-eqb _ _ p)) (sym (eq-eqb _ _ q)) ∙ sym (scan-at h)
 
-    pub scan-start : at + 4 ≤ length l → (getD l at 0 ≡ s → ⊥) → scan s e 0 (drop at l) ≡ scan s e 0 (drop (at + getD l (at + 3) 0 + 4) l)
-    scan-start h p = scan-at h ∙ ap (λ (b : Bool). either (b && eqb (getD l (at + 1) 0) e) (scan s e 0 (drop (at + getD l (at + 3) 0 + 4) l))) (ne-eqb _ _ p)
+    pub scan-start : at + HEAD ≤ length l → (getD l at 0 ≡ s → ⊥) → scan s e 0 (drop at l) ≡ scan s e 0 (drop (next-record l at) l)
+    scan-start h p = scan-at h ∙ ap (λ (b : Bool). either (b && eqb (getD l (at + 1) 0) e) (scan s e 0 (drop (next-record l at) l))) (ne-eqb _ _ p)
 
-    pub scan-end : at + 4 ≤ length l → getD l at 0 ≡ s → (getD l (at + 1) 0 ≡ e → ⊥) → scan s e 0 (drop at l) ≡ scan s e 0 (drop (at + getD l (at + 3) 0 + 4) l)
-    scan-end h p q = scan-at h ∙ ap₂ (λ (b c : Bool). either (b && c) (scan s e 0 (drop (at + getD l (at + 3) 0 + 4) l))) (eq-eqb _ _ p) (ne-eqb _ _ q)
+    pub scan-end : at + HEAD ≤ length l → getD l at 0 ≡ s → (getD l (at + 1) 0 ≡ e → ⊥) → scan s e 0 (drop at l) ≡ scan s e 0 (drop (next-record l at) l)
+    scan-end h p q = scan-at h ∙ ap₂ (λ (b c : Bool). either (b && c) (scan s e 0 (drop (next-record l at) l))) (eq-eqb _ _ p) (ne-eqb _ _ q)
 
-    pub scan-out : length l < at + 4 → scan s e 0 (drop at l) ≡ false
+    pub scan-out : length l < at + HEAD → scan s e 0 (drop at l) ≡ false
     scan-out h = scan-few (drop at l) (omega (arith, length-drop at l))
 
 -- the records of pending errors

@@ -5,8 +5,9 @@ use mathlib.Core.List.{List, [], _∷_, _++_}
 use mathlib.Core.Bool.{Bool, true, false, _&&_}
 use lib.Dec.{eqb, ltb}
 use lib.ListN.{length, take}
+use Rattle.shapes.specs.Shapes.{flat-records}
 use Rattle.definition.specs.Run.{Choice, wanted, unwanted}
-use Rattle.definition.specs.Render.{Source, flat-records}
+use Rattle.definition.specs.Render.{Source}
 use Rattle.notes.specs.Whole.{Whole}
 use Rattle.notes.specs.Bits.{ifb}
 use Rattle.notes.specs.Change.{withEr, withFull}

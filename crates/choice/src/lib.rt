@@ -11,6 +11,11 @@ use notes::names::QUOTE;
 use notes::names::UNWANT;
 use notes::names::WANT;
 use notes::rows::start_of;
+use shapes::record::END;
+use shapes::record::FORM;
+use shapes::record::HEAD;
+use shapes::record::next_record;
+use shapes::full;
 ghost use mathlib.Core.Path.{_≡_};
 ghost use mathlib.Core.List.{List, _∷_, []};
 ghost use Prim.Native.Nat.{ℕ, _+_, _-_, _≤_, _<_};
@@ -122,14 +127,13 @@ pub fn pending(start: u32, end: u32, records: &[u32]) -> bool
     ensures { λ r. ⌜ r ≡ scan start end 0 (now (records .entry)) ⌝ }
 {
     let mut at = 0;
-    while at + 4 <= records.len() {
+    while at + HEAD <= records.len() {
         if records[at] == start {
-            if records[at + 1] == end {
+            if records[at + END] == end {
                 return true;
             }
         }
-        let names = records[at + 3] as usize;
-        at = at + names + 4;
+        at = next_record(records, at);
     }
     false
 }
@@ -248,15 +252,15 @@ pub fn record(
     ensures { λ r. ⌜ ((s : Whole) → s .full ≡ 0 → Noted (start ∷ end ∷ form ∷ count ∷ take count names) (beside (now (notes .entry)) s) (withFull r (beside (now (notes .exit)) s)) (now (errors .entry)) (now (errors .exit))) ⌝ }
 {
     let at = notes[ER];
-    if notes[ERCAP] - at < count + 4 {
-        return 8;
+    if notes[ERCAP] - at < count + HEAD {
+        return full::ERRORS;
     }
     errors[at] = start;
-    errors[at + 1] = end;
-    errors[at + 2] = form;
-    errors[at + 3] = count as u32;
-    spell(names, count, at + 4, errors);
-    notes[ER] = at + 4 + count;
+    errors[at + END] = end;
+    errors[at + FORM] = form;
+    errors[at + shapes::record::COUNT] = count as u32;
+    spell(names, count, at + HEAD, errors);
+    notes[ER] = at + HEAD + count;
     0
 }
 

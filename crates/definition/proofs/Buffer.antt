@@ -7,11 +7,13 @@ use lib.ListN.{length, set, length-set, length-append}
 use native.Mathlib.Omega.{arith}
 use Rattle.kinds.specs.Kinds as kinds
 use Rattle.kinds.specs.Sets.{kindOf, trivial}
+use Rattle.shapes.specs.Sort as Sort
+use Rattle.shapes.specs.Shapes.{EVENT, KIND, END, Entry, event, flat}
 use Rattle.definition.specs.Prog.{Prog, Production}
 use Rattle.definition.specs.Grammar.{rule-decl}
 use Rattle.definition.specs.Run.{State, Reader, Limits, Event, opened, leaf, closed, bad, Mode, ok, failed, stopped, next, past, trivia-out, trivia, seek-out, take, turn, charge, begin, finish, nodes, exec, run, read, Choice, stray, Next, end, other, hit, sought, seek, errors, rule-keywords, read-rule, stray-item, item-at, flush, again, item}
-use Rattle.definition.specs.Render.{Source, starts-at, ends-at, span-end, bads, Quad, flat, render, inside}
-use Rattle.definition.specs.Buffer.{four, patch, buffered, buffer}
+use Rattle.definition.specs.Render.{Source, starts-at, ends-at, span-end, bads, render, inside}
+use Rattle.definition.specs.Buffer.{patch, buffered, buffer}
 use Rattle.definition.specs.Open.{Nest, Adds, Open}
 use Rattle.definition.proofs.Gap.{gap-out}
 use Rattle.definition.proofs.Induct.{exec-kept, run-kept}
@@ -24,31 +26,31 @@ module _ (x : Source) where
   unfolding buffered
   buffer-none = refl
 
-  pub buffer-opened : (n : ℕ) (o : List Event) → buffer x (opened n ∷ o) ≡ buffer x o ++ four 1 0 (starts-at x n) (starts-at x n)
+  pub buffer-opened : (n : ℕ) (o : List Event) → buffer x (opened n ∷ o) ≡ buffer x o ++ event Sort.BEGIN 0 (starts-at x n) (starts-at x n)
   unfolding buffered
   buffer-opened n o = refl
 
-  pub buffer-leaf : (a n : ℕ) (o : List Event) → buffer x (leaf a n ∷ o) ≡ buffer x o ++ four 2 a (starts-at x n) (ends-at x n)
+  pub buffer-leaf : (a n : ℕ) (o : List Event) → buffer x (leaf a n ∷ o) ≡ buffer x o ++ event Sort.TOKEN a (starts-at x n) (ends-at x n)
   unfolding buffered
   buffer-leaf a n o = refl
 
-  pub buffer-bad : (n : ℕ) (c : Choice) (o : List Event) → buffer x (bad n c ∷ o) ≡ buffer x o ++ four 4 (bads o) (starts-at x n) (ends-at x n)
+  pub buffer-bad : (n : ℕ) (c : Choice) (o : List Event) → buffer x (bad n c ∷ o) ≡ buffer x o ++ event Sort.ERROR (bads o) (starts-at x n) (ends-at x n)
   unfolding buffered
   buffer-bad n c o = refl
 
-four-more : (l q : List ℕ) (n : ℕ) → length q ≡ 4 → length l ≡ 4 * n → length (l ++ q) ≡ 4 * suc n
-four-more l q n h k = length-append l q ∙ omega arith
+event-more : (l q : List ℕ) (n : ℕ) → length q ≡ EVENT → length l ≡ EVENT * n → length (l ++ q) ≡ EVENT * suc n
+event-more l q n h k = length-append l q ∙ omega arith
 
-buffered-length : (x : Source) (st : List (ℕ × ℕ)) (o : List Event) → length (buffered x st o) ≡ 4 * length o
+buffered-length : (x : Source) (st : List (ℕ × ℕ)) (o : List Event) → length (buffered x st o) ≡ EVENT * length o
 unfolding buffered
 buffered-length x st [] = refl
-buffered-length x [] (opened n ∷ es) = four-more (buffered x [] es) _ (length es) refl (buffered-length x [] es)
-buffered-length x (t ∷ st) (opened n ∷ es) = four-more (buffered x st es) _ (length es) refl (buffered-length x st es)
-buffered-length x st (leaf a n ∷ es) = four-more (buffered x st es) _ (length es) refl (buffered-length x st es)
-buffered-length x st (closed a n m ∷ es) = four-more (buffered x ((a, span-end x n m) ∷ st) es) _ (length es) refl (buffered-length x ((a, span-end x n m) ∷ st) es)
-buffered-length x st (bad n c ∷ es) = four-more (buffered x st es) _ (length es) refl (buffered-length x st es)
+buffered-length x [] (opened n ∷ es) = event-more (buffered x [] es) _ (length es) refl (buffered-length x [] es)
+buffered-length x (t ∷ st) (opened n ∷ es) = event-more (buffered x st es) _ (length es) refl (buffered-length x st es)
+buffered-length x st (leaf a n ∷ es) = event-more (buffered x st es) _ (length es) refl (buffered-length x st es)
+buffered-length x st (closed a n m ∷ es) = event-more (buffered x ((a, span-end x n m) ∷ st) es) _ (length es) refl (buffered-length x ((a, span-end x n m) ∷ st) es)
+buffered-length x st (bad n c ∷ es) = event-more (buffered x st es) _ (length es) refl (buffered-length x st es)
 
-pub buffer-length : (x : Source) (o : List Event) → length (buffer x o) ≡ 4 * length o
+pub buffer-length : (x : Source) (o : List Event) → length (buffer x o) ≡ EVENT * length o
 buffer-length x o = buffered-length x [] o
 
 -- CLOSING
@@ -61,23 +63,23 @@ set-after : (l q : List ℕ) (i a : ℕ) → set (l ++ q) (length l + i) a ≡ l
 set-after [] q i a = ap (λ (j : ℕ). set q j a) (native.Mathlib.Nat.zero-add i)
 set-after (y ∷ l) q i a = ap (λ (j : ℕ). set (y ∷ l ++ q) j a) (native.Mathlib.Nat.suc-add (length l) i) ∙ ap (λ (t : List ℕ). y ∷ t) (set-after l q i a)
 
-patch-before : (p a e : ℕ) (l q : List ℕ) → 4 ≤ p → p ≤ length l → patch p a e (l ++ q) ≡ patch p a e l ++ q
+patch-before : (p a e : ℕ) (l q : List ℕ) → EVENT ≤ p → p ≤ length l → patch p a e (l ++ q) ≡ patch p a e l ++ q
 patch-before p a e l q h g =
-    ap (λ (t : List ℕ). set t (p - 1) e) (set-before l q (p - 3) a (omega (arith, h, g)))
-    ∙ set-before (set l (p - 3) a) q (p - 1) e (omega (arith, h, g, length-set l (p - 3) a))
+    ap (λ (t : List ℕ). set t (p - EVENT + END) e) (set-before l q (p - EVENT + KIND) a (omega (arith, h, g)))
+    ∙ set-before (set l (p - EVENT + KIND) a) q (p - EVENT + END) e (omega (arith, h, g, length-set l (p - EVENT + KIND) a))
 
 -- the provisional event is the last
-patch-last : (k a e s : ℕ) (l : List ℕ) → length l ≡ 4 * k → patch (4 * suc k) a e (l ++ four 1 0 s s) ≡ l ++ four 1 a s e
+patch-last : (k a e s : ℕ) (l : List ℕ) → length l ≡ EVENT * k → patch (EVENT * suc k) a e (l ++ event Sort.BEGIN 0 s s) ≡ l ++ event Sort.BEGIN a s e
 patch-last k a e s l h =
-    let i₁ : 4 * suc k - 3 ≡ length l + 1 = omega (arith, h) in
-    let i₂ : 4 * suc k - 1 ≡ length l + 3 = omega (arith, h) in
-    ap₂ (λ (i j : ℕ). set (set (l ++ four 1 0 s s) i a) j e) i₁ i₂
-    ∙ ap (λ (t : List ℕ). set t (length l + 3) e) (set-after l (four 1 0 s s) 1 a)
-    ∙ set-after l (four 1 a s s) 3 e
+    let i₁ : EVENT * suc k - EVENT + KIND ≡ length l + KIND = omega (arith, h) in
+    let i₂ : EVENT * suc k - EVENT + END ≡ length l + END = omega (arith, h) in
+    ap₂ (λ (i j : ℕ). set (set (l ++ event Sort.BEGIN 0 s s) i a) j e) i₁ i₂
+    ∙ ap (λ (t : List ℕ). set t (length l + END) e) (set-after l (event Sort.BEGIN 0 s s) KIND a)
+    ∙ set-after l (event Sort.BEGIN a s s) END e
 
 module _ (x : Source) (t : ℕ × ℕ) (n : ℕ) (before : List Event) where
   abbrev spot : ℕ
-  spot = 4 * suc (length before)
+  spot = EVENT * suc (length before)
 
   abbrev all : List Event → List Event
   all inner = inner ++ (opened n ∷ before)
@@ -94,29 +96,29 @@ module _ (x : Source) (t : ℕ × ℕ) (n : ℕ) (before : List Event) where
   reaches [] [] p = sym (patch-last (length before) (t .0) (t .1) (starts-at x n) (buffered x [] before) (buffered-length x [] before))
   reaches (u ∷ st) [] p = absurd (omega (arith, p))
   reaches [] (opened m ∷ w) p = absurd p
-  reaches (u ∷ st) (opened m ∷ w) p = one-more st (st ++ (t ∷ [])) w (four 1 (u .0) (starts-at x m) (u .1)) (reaches st w p)
-  reaches st (leaf a m ∷ w) p = one-more st (st ++ (t ∷ [])) w (four 2 a (starts-at x m) (ends-at x m)) (reaches st w p)
-  reaches st (closed a m k ∷ w) p = one-more ((a, span-end x m k) ∷ st) (((a, span-end x m k) ∷ st) ++ (t ∷ [])) w (four 3 a (starts-at x m) (span-end x m k)) (reaches ((a, span-end x m k) ∷ st) w p)
-  reaches st (bad m c ∷ w) p = one-more st (st ++ (t ∷ [])) w (four 4 (bads (all w)) (starts-at x m) (ends-at x m)) (reaches st w p)
+  reaches (u ∷ st) (opened m ∷ w) p = one-more st (st ++ (t ∷ [])) w (event Sort.BEGIN (u .0) (starts-at x m) (u .1)) (reaches st w p)
+  reaches st (leaf a m ∷ w) p = one-more st (st ++ (t ∷ [])) w (event Sort.TOKEN a (starts-at x m) (ends-at x m)) (reaches st w p)
+  reaches st (closed a m k ∷ w) p = one-more ((a, span-end x m k) ∷ st) (((a, span-end x m k) ∷ st) ++ (t ∷ [])) w (event Sort.END a (starts-at x m) (span-end x m k)) (reaches ((a, span-end x m k) ∷ st) w p)
+  reaches st (bad m c ∷ w) p = one-more st (st ++ (t ∷ [])) w (event Sort.ERROR (bads (all w)) (starts-at x m) (ends-at x m)) (reaches st w p)
 
 pub buffer-closed : (x : Source) (a n m j : ℕ) (inner before : List Event) → Nest 0 inner 0 → let o : List Event = inner ++ (opened j ∷ before) in
-    buffer x (closed a n m ∷ o) ≡ patch (4 * suc (length before)) a (span-end x n m) (buffer x o) ++ four 3 a (starts-at x n) (span-end x n m)
+    buffer x (closed a n m ∷ o) ≡ patch (EVENT * suc (length before)) a (span-end x n m) (buffer x o) ++ event Sort.END a (starts-at x n) (span-end x n m)
 unfolding buffered
-buffer-closed x a n m j inner before p = ap (λ (l : List ℕ). l ++ four 3 a (starts-at x n) (span-end x n m)) (reaches x (a, span-end x n m) j before [] inner p)
+buffer-closed x a n m j inner before p = ap (λ (l : List ℕ). l ++ event Sort.END a (starts-at x n) (span-end x n m)) (reaches x (a, span-end x n m) j before [] inner p)
 
 -- FINISHED
 module _ (x : Source) where
-  quad-on : (l : List ℕ) (q : Quad) (z : List Quad) → l ++ flat (q ∷ z) ≡ (l ++ four (q .0) (q .1) (q .2) (q .3)) ++ flat z
-  quad-on l q z = sym (append-assoc l (four (q .0) (q .1) (q .2) (q .3)) (flat z))
+  entry-on : (l : List ℕ) (q : Entry) (z : List Entry) → l ++ flat (q ∷ z) ≡ (l ++ event (q .0) (q .1) (q .2) (q .3)) ++ flat z
+  entry-on l q z = sym (append-assoc l (event (q .0) (q .1) (q .2) (q .3)) (flat z))
 
-  finished : (st : List (ℕ × ℕ)) (o : List Event) (z : List Quad) (g : ℕ) → Nest (length st) o g → flat (render x st o z) ≡ buffered x st o ++ flat z
+  finished : (st : List (ℕ × ℕ)) (o : List Event) (z : List Entry) (g : ℕ) → Nest (length st) o g → flat (render x st o z) ≡ buffered x st o ++ flat z
   unfolding buffered
   finished st [] z g p = refl
   finished [] (opened n ∷ es) z g p = absurd p
-  finished (t ∷ st) (opened n ∷ es) z g p = finished st es ((1, t .0, starts-at x n, t .1) ∷ z) g p ∙ quad-on (buffered x st es) (1, t .0, starts-at x n, t .1) z
-  finished st (leaf a n ∷ es) z g p = finished st es ((2, a, starts-at x n, ends-at x n) ∷ z) g p ∙ quad-on (buffered x st es) (2, a, starts-at x n, ends-at x n) z
-  finished st (closed a n m ∷ es) z g p = finished ((a, span-end x n m) ∷ st) es ((3, a, starts-at x n, span-end x n m) ∷ z) g p ∙ quad-on (buffered x ((a, span-end x n m) ∷ st) es) (3, a, starts-at x n, span-end x n m) z
-  finished st (bad n c ∷ es) z g p = finished st es ((4, bads es, starts-at x n, ends-at x n) ∷ z) g p ∙ quad-on (buffered x st es) (4, bads es, starts-at x n, ends-at x n) z
+  finished (t ∷ st) (opened n ∷ es) z g p = finished st es ((Sort.BEGIN, t .0, starts-at x n, t .1) ∷ z) g p ∙ entry-on (buffered x st es) (Sort.BEGIN, t .0, starts-at x n, t .1) z
+  finished st (leaf a n ∷ es) z g p = finished st es ((Sort.TOKEN, a, starts-at x n, ends-at x n) ∷ z) g p ∙ entry-on (buffered x st es) (Sort.TOKEN, a, starts-at x n, ends-at x n) z
+  finished st (closed a n m ∷ es) z g p = finished ((a, span-end x n m) ∷ st) es ((Sort.END, a, starts-at x n, span-end x n m) ∷ z) g p ∙ entry-on (buffered x ((a, span-end x n m) ∷ st) es) (Sort.END, a, starts-at x n, span-end x n m) z
+  finished st (bad n c ∷ es) z g p = finished st es ((Sort.ERROR, bads es, starts-at x n, ends-at x n) ∷ z) g p ∙ entry-on (buffered x st es) (Sort.ERROR, bads es, starts-at x n, ends-at x n) z
 
   pub buffer-finished : (o : List Event) → Nest 0 o 0 → buffer x o ≡ flat (inside x o)
   buffer-finished o p = sym (finished [] o [] 0 p ∙ append-nil (buffered x [] o))
@@ -219,24 +221,24 @@ run-adds d o a = run-kept (stepped Adding adding) d o a
 -- CLOSING, as the code meets it: o is what stood written when the node's opening had been, b what stands when its body has run. The opening
 -- ends at 4 * length o.
 pub buffer-closes : (x : Source) (a n m j : ℕ) (before o b : List Event) → o ≡ opened j ∷ before → Adds o b →
-    buffer x (closed a n m ∷ b) ≡ patch (4 * length o) a (span-end x n m) (buffer x b) ++ four 3 a (starts-at x n) (span-end x n m)
+    buffer x (closed a n m ∷ b) ≡ patch (EVENT * length o) a (span-end x n m) (buffer x b) ++ event Sort.END a (starts-at x n) (span-end x n m)
 buffer-closes x a n m j before o b e p =
     let q : p .new ++ (opened j ∷ before) ≡ b = ap (λ (l : List Event). p .new ++ l) (sym e) ∙ p .joins in
-    let l : 4 * suc (length before) ≡ 4 * length o = ap (λ (l : List Event). 4 * length l) (sym e) in
+    let l : EVENT * suc (length before) ≡ EVENT * length o = ap (λ (l : List Event). EVENT * length l) (sym e) in
     ap (λ (l : List Event). buffer x (closed a n m ∷ l)) (sym q)
     ∙ buffer-closed x a n m j (p .new) before (p .nest 0)
-    ∙ ap₂ (λ (i : ℕ) (l : List Event). patch i a (span-end x n m) (buffer x l) ++ four 3 a (starts-at x n) (span-end x n m)) l q
+    ∙ ap₂ (λ (i : ℕ) (l : List Event). patch i a (span-end x n m) (buffer x l) ++ event Sort.END a (starts-at x n) (span-end x n m)) l q
 
-pub buffer-shut : (x : Source) (a n m p : ℕ) (o : List Event) → Open p o → buffer x (closed a n m ∷ o) ≡ patch p a (span-end x n m) (buffer x o) ++ four 3 a (starts-at x n) (span-end x n m)
-buffer-shut x a n m p o w = buffer-closes x a n m (w .row) (w .before) (opened (w .row) ∷ w .before) o refl (w .added) ∙ ap (λ (i : ℕ). patch i a (span-end x n m) (buffer x o) ++ four 3 a (starts-at x n) (span-end x n m)) (sym (w .place))
+pub buffer-shut : (x : Source) (a n m p : ℕ) (o : List Event) → Open p o → buffer x (closed a n m ∷ o) ≡ patch p a (span-end x n m) (buffer x o) ++ event Sort.END a (starts-at x n) (span-end x n m)
+buffer-shut x a n m p o w = buffer-closes x a n m (w .row) (w .before) (opened (w .row) ∷ w .before) o refl (w .added) ∙ ap (λ (i : ℕ). patch i a (span-end x n m) (buffer x o) ++ event Sort.END a (starts-at x n) (span-end x n m)) (sym (w .place))
 
 -- a body that adds leaves its node's opening open
-pub begun-open : (d p : ℕ) (s : State) (b : List Event) → p ≡ 4 * length ((begin d s) .out) → Adds ((begin d s) .out) b → Open p b
-begun-open d p s b e w = record { row = length ((trivia s) .rest); before = (trivia s) .out; added = subst (λ (l : List Event). Adds l b) (begin-out d s) w; place = e ∙ ap (λ (l : List Event). 4 * length l) (begin-out d s) }
+pub begun-open : (d p : ℕ) (s : State) (b : List Event) → p ≡ EVENT * length ((begin d s) .out) → Adds ((begin d s) .out) b → Open p b
+begun-open d p s b e w = record { row = length ((trivia s) .rest); before = (trivia s) .out; added = subst (λ (l : List Event). Adds l b) (begin-out d s) w; place = e ∙ ap (λ (l : List Event). EVENT * length l) (begin-out d s) }
 
 -- a node: what the buffer holds when it is closed, by what it held when its body f had run
 pub buffer-node : (x : Source) (d : ℕ) (o : Bool) (a : ℕ) (f : Reader) → ((s : State) → Adding s (f s)) → (s : State) → let t : State = begin d s in let u : State = f t in let n : ℕ = length (t .rest) in let k : ℕ = closing (u .mode) a in let e : ℕ = span-end x n (length (u .rest)) in
-    buffer x ((nodes d o a f s) .out) ≡ patch (4 * length (t .out)) k e (buffer x (u .out)) ++ four 3 k (starts-at x n) e
+    buffer x ((nodes d o a f s) .out) ≡ patch (EVENT * length (t .out)) k e (buffer x (u .out)) ++ event Sort.END k (starts-at x n) e
 buffer-node x d o a f F s =
     let t : State = begin d s in
     let u : State = f t in
@@ -250,16 +252,16 @@ module _ (x : Source) (a : List Event) where
   grown [] [] p = ([], sym (append-nil (buffered x [] a)))
   grown (u ∷ st) [] p = absurd (omega (arith, p))
   grown [] (opened m ∷ w) p = absurd p
-  grown (u ∷ st) (opened m ∷ w) p = let g = grown st w p in let l : List ℕ = four 1 (u .0) (starts-at x m) (u .1) in (g .0 ++ l, ap (λ (i : List ℕ). i ++ l) (g .1) ∙ append-assoc (buffered x [] a) (g .0) l)
-  grown st (leaf k m ∷ w) p = let g = grown st w p in let l : List ℕ = four 2 k (starts-at x m) (ends-at x m) in (g .0 ++ l, ap (λ (i : List ℕ). i ++ l) (g .1) ∙ append-assoc (buffered x [] a) (g .0) l)
-  grown st (closed k m j ∷ w) p = let g = grown ((k, span-end x m j) ∷ st) w p in let l : List ℕ = four 3 k (starts-at x m) (span-end x m j) in (g .0 ++ l, ap (λ (i : List ℕ). i ++ l) (g .1) ∙ append-assoc (buffered x [] a) (g .0) l)
-  grown st (bad m c ∷ w) p = let g = grown st w p in let l : List ℕ = four 4 (bads (w ++ a)) (starts-at x m) (ends-at x m) in (g .0 ++ l, ap (λ (i : List ℕ). i ++ l) (g .1) ∙ append-assoc (buffered x [] a) (g .0) l)
+  grown (u ∷ st) (opened m ∷ w) p = let g = grown st w p in let l : List ℕ = event Sort.BEGIN (u .0) (starts-at x m) (u .1) in (g .0 ++ l, ap (λ (i : List ℕ). i ++ l) (g .1) ∙ append-assoc (buffered x [] a) (g .0) l)
+  grown st (leaf k m ∷ w) p = let g = grown st w p in let l : List ℕ = event Sort.TOKEN k (starts-at x m) (ends-at x m) in (g .0 ++ l, ap (λ (i : List ℕ). i ++ l) (g .1) ∙ append-assoc (buffered x [] a) (g .0) l)
+  grown st (closed k m j ∷ w) p = let g = grown ((k, span-end x m j) ∷ st) w p in let l : List ℕ = event Sort.END k (starts-at x m) (span-end x m j) in (g .0 ++ l, ap (λ (i : List ℕ). i ++ l) (g .1) ∙ append-assoc (buffered x [] a) (g .0) l)
+  grown st (bad m c ∷ w) p = let g = grown st w p in let l : List ℕ = event Sort.ERROR (bads (w ++ a)) (starts-at x m) (ends-at x m) in (g .0 ++ l, ap (λ (i : List ℕ). i ++ l) (g .1) ∙ append-assoc (buffered x [] a) (g .0) l)
 
   pub buffer-grows : (b : List Event) → Adds a b → (q : List ℕ) × (buffer x b ≡ buffer x a ++ q)
   buffer-grows b p = let g = grown [] (p .new) (p .nest 0) in (g .0, ap (buffer x) (sym (p .joins)) ∙ g .1)
 
-  pub buffer-back : (b : List Event) → Adds a b → lib.ListN.take (4 * length a) (buffer x b) ≡ buffer x a
-  buffer-back b p = let g = buffer-grows b p in ap (lib.ListN.take (4 * length a)) (g .1) ∙ lib.Seq.take-at (buffer x a) (g .0) (4 * length a) (buffered-length x [] a)
+  pub buffer-back : (b : List Event) → Adds a b → lib.ListN.take (EVENT * length a) (buffer x b) ≡ buffer x a
+  buffer-back b p = let g = buffer-grows b p in ap (lib.ListN.take (EVENT * length a)) (g .1) ∙ lib.Seq.take-at (buffer x a) (g .0) (EVENT * length a) (buffered-length x [] a)
 
 -- items and the whole reading, at every moment between items
 errors-added : (c : List (ℕ × Choice)) (o : List Event) → Adds o (errors c o)

@@ -9,8 +9,10 @@ use lib.ListN.{length, getD, take, drop, length-append}
 use native.Mathlib.Nat.{suc-add, zero-add, add-zero, add-suc}
 use native.Mathlib.Omega.{arith}
 use Rattle.kinds.specs.Kinds as k
+use Rattle.shapes.specs.Sort as Sort
+use Rattle.shapes.specs.Shapes.{Entry, Rec}
 use Rattle.definition.specs.Run.{State, Limits, Event, opened, leaf, closed, bad, Choice, items, start, read}
-use Rattle.definition.specs.Render.{Source, ends-at, starts-at, id-at, text-at, span-end, Quad, Rec, bads, render, form-of, names-of, record-of, records, inside}
+use Rattle.definition.specs.Render.{Source, ends-at, starts-at, id-at, text-at, span-end, bads, render, form-of, names-of, record-of, records, inside}
 use Rattle.definition.specs.Remaining.{shifts, shift-records}
 use Rattle.definition.specs.Open.{Nest}
 use Rattle.definition.proofs.Every.{never}
@@ -60,20 +62,20 @@ bads-append (closed a n m ∷ w) q = bads-append w q
 bads-append (bad n c ∷ w) q = omega (arith, bads-append w q)
 
 -- what was written stays behind
-pub render-keeps : (x : Source) (st : List (ℕ × ℕ)) (w : List Event) (l l′ : List Quad) → render x st w (l ++ l′) ≡ render x st w l ++ l′
+pub render-keeps : (x : Source) (st : List (ℕ × ℕ)) (w : List Event) (l l′ : List Entry) → render x st w (l ++ l′) ≡ render x st w l ++ l′
 render-keeps x st [] l l′ = refl
 render-keeps x [] (opened n ∷ w) l l′ = render-keeps x [] w l l′
-render-keeps x (t ∷ st) (opened n ∷ w) l l′ = render-keeps x st w ((1, t .0, starts-at x n, t .1) ∷ l) l′
-render-keeps x st (leaf a n ∷ w) l l′ = render-keeps x st w ((2, a, starts-at x n, ends-at x n) ∷ l) l′
-render-keeps x st (closed a n m ∷ w) l l′ = render-keeps x ((a, span-end x n m) ∷ st) w ((3, a, starts-at x n, span-end x n m) ∷ l) l′
-render-keeps x st (bad n c ∷ w) l l′ = render-keeps x st w ((4, bads w, starts-at x n, ends-at x n) ∷ l) l′
+render-keeps x (t ∷ st) (opened n ∷ w) l l′ = render-keeps x st w ((Sort.BEGIN, t .0, starts-at x n, t .1) ∷ l) l′
+render-keeps x st (leaf a n ∷ w) l l′ = render-keeps x st w ((Sort.TOKEN, a, starts-at x n, ends-at x n) ∷ l) l′
+render-keeps x st (closed a n m ∷ w) l l′ = render-keeps x ((a, span-end x n m) ∷ st) w ((Sort.END, a, starts-at x n, span-end x n m) ∷ l) l′
+render-keeps x st (bad n c ∷ w) l l′ = render-keeps x st w ((Sort.ERROR, bads w, starts-at x n, ends-at x n) ∷ l) l′
 
 nil-of : {A : Type 0} (l : List A) → length l ≡ 0 → l ≡ []
 nil-of [] e = refl
 nil-of (x ∷ l) e = absurd (omega (arith, e))
 
 -- what is nested comes behind what was written
-render-behind : (x : Source) (st : List (ℕ × ℕ)) (w q : List Event) (l : List Quad) → Nest (length st) w 0 → (z : List Quad) × (render x st (w ++ q) l ≡ render x [] q z)
+render-behind : (x : Source) (st : List (ℕ × ℕ)) (w q : List Event) (l : List Entry) → Nest (length st) w 0 → (z : List Entry) × (render x st (w ++ q) l ≡ render x [] q z)
 render-behind x st [] q l p = (l, ap (λ (s : List (ℕ × ℕ)). render x s q l) (nil-of st p))
 render-behind x [] (opened n ∷ w) q l p = absurd p
 render-behind x (t ∷ st) (opened n ∷ w) q l p = render-behind x st w q _ p
@@ -81,7 +83,7 @@ render-behind x st (leaf a n ∷ w) q l p = render-behind x st w q _ p
 render-behind x st (closed a n m ∷ w) q l p = render-behind x ((a, span-end x n m) ∷ st) w q _ p
 render-behind x st (bad n c ∷ w) q l p = render-behind x st w q _ p
 
-pub inside-append : (x : Source) (w q : List Event) → Nest 0 w 0 → (z : List Quad) × (inside x (w ++ q) ≡ inside x q ++ z)
+pub inside-append : (x : Source) (w q : List Event) → Nest 0 w 0 → (z : List Entry) × (inside x (w ++ q) ≡ inside x q ++ z)
 inside-append x w q p = let b = render-behind x [] w q [] p in (b .0, b .1 ∙ render-keeps x [] q [] (b .0))
 
 records-append : (x : Source) (L : Limits) (w q : List Event) (l : List Rec) → records L x (w ++ q) l ≡ records L x q (records L x w l)
@@ -155,16 +157,16 @@ module _ (pre a e : List ℕ) (B : Before pre a e) (y : Source) where
       ∙ ap₂ (λ (i j : ℕ). let f = form-of L (id-at y n) (text-at y n) c in let z : Rec = (i, j, f, names-of f c) in z) (starts-later n l) (ends-later n l)
 
   -- events of the rows left, behind the events q
-  shown : (w q : List Event) (st : List (ℕ × ℕ)) (l : List Quad) → Ins N w → Nest (length st) w 0 → render x (ups P st) (w ++ q) (shifts P (bads q) l) ≡ render x [] q (shifts P (bads q) (render y st w l))
+  shown : (w q : List Event) (st : List (ℕ × ℕ)) (l : List Entry) → Ins N w → Nest (length st) w 0 → render x (ups P st) (w ++ q) (shifts P (bads q) l) ≡ render x [] q (shifts P (bads q) (render y st w l))
   shown [] q st l i p = ap (λ (s : List (ℕ × ℕ)). render x (ups P s) q (shifts P (bads q) l)) (nil-of st p)
   shown (opened n ∷ w) q [] l i p = absurd p
-  shown (opened n ∷ w) q (t ∷ st) l i p = ap (λ (s : ℕ). render x (ups P st) (w ++ q) ((1, t .0, s, P + t .1) ∷ shifts P (bads q) l)) (starts-later n (i .0)) ∙ shown w q st ((1, t .0, starts-at y n, t .1) ∷ l) (i .1) p
+  shown (opened n ∷ w) q (t ∷ st) l i p = ap (λ (s : ℕ). render x (ups P st) (w ++ q) ((Sort.BEGIN, t .0, s, P + t .1) ∷ shifts P (bads q) l)) (starts-later n (i .0)) ∙ shown w q st ((Sort.BEGIN, t .0, starts-at y n, t .1) ∷ l) (i .1) p
   shown (leaf k n ∷ w) q st l i p = ap₂ (λ (s z : ℕ). render x (ups P st) (w ++ q) ((2, k, s, z) ∷ shifts P (bads q) l)) (starts-later n (i .0)) (ends-later n (i .0)) ∙ shown w q st ((2, k, starts-at y n, ends-at y n) ∷ l) (i .1) p
   shown (closed k n m ∷ w) q st l i p = ap₂ (λ (s z : ℕ). render x ((k, z) ∷ ups P st) (w ++ q) ((3, k, s, z) ∷ shifts P (bads q) l)) (starts-later n (i .0 .0)) (span-later n m (i .0 .0) (i .0 .1)) ∙ shown w q ((k, span-end y n m) ∷ st) ((3, k, starts-at y n, span-end y n m) ∷ l) (i .1) p
   shown (bad n h ∷ w) q st l i p =
-      ap (λ (j : ℕ). render x (ups P st) (w ++ q) ((4, j, starts-at x n, ends-at x n) ∷ shifts P (bads q) l)) (bads-append w q)
-      ∙ ap₂ (λ (s z : ℕ). render x (ups P st) (w ++ q) ((4, bads w + bads q, s, z) ∷ shifts P (bads q) l)) (starts-later n (i .0)) (ends-later n (i .0))
-      ∙ shown w q st ((4, bads w, starts-at y n, ends-at y n) ∷ l) (i .1) p
+      ap (λ (j : ℕ). render x (ups P st) (w ++ q) ((Sort.ERROR, j, starts-at x n, ends-at x n) ∷ shifts P (bads q) l)) (bads-append w q)
+      ∙ ap₂ (λ (s z : ℕ). render x (ups P st) (w ++ q) ((Sort.ERROR, bads w + bads q, s, z) ∷ shifts P (bads q) l)) (starts-later n (i .0)) (ends-later n (i .0))
+      ∙ shown w q st ((Sort.ERROR, bads w, starts-at y n, ends-at y n) ∷ l) (i .1) p
 
   pub inside-later : (w q : List Event) → Ins N w → Nest 0 w 0 → inside x (w ++ q) ≡ inside x q ++ shifts P (bads q) (inside y w)
   inside-later w q i p = shown w q [] [] i p ∙ render-keeps x [] q [] (shifts P (bads q) (inside y w))

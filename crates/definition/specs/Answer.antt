@@ -6,9 +6,11 @@ use lib.Dec.{eqb, ltb}
 use lib.ListN.{length, replicate}
 use Rattle.kinds.specs.Kinds as k
 use Rattle.kinds.specs.Sets.{isId}
+use Rattle.shapes.specs.Refusal as Refusal
+use Rattle.shapes.specs.Shapes.{flat, flat-records}
 pub use Rattle.definition.specs.Run.{any}
 use Rattle.definition.specs.Run.{Limits, State, read}
-use Rattle.definition.specs.Render.{Source, Reading, rendered, moments, over, flat, flat-records}
+use Rattle.definition.specs.Render.{Source, Reading, rendered, moments, over}
 
 -- "Input: source bytes; three equally long lists of 32-bit numbers (token id, start, end); fuel, any 32-bit number; scratch; room for events;
 -- room for errors." The last three as they are lent; "Rooms are counted in 32-bit numbers", scratch in "words of 64 bits".
@@ -47,12 +49,12 @@ abbrev pub grounds : Desk → List (Bool × ℕ)
 grounds d =
     let n = length (d .ids) in
     let z = length (d .bytes) in
-    (ltb 1048576 z || ltb 65536 (max n (max (length (d .starts)) (length (d .ends)))), 1)
-    ∷ (not (eqb n (length (d .starts)) && eqb n (length (d .ends))), 2)
-    ∷ (any no-id (d .ids), 3)
-    ∷ (not (tile 0 z (d .starts) (d .ends)), 4)
-    ∷ (any elsewhere (d .ids), 5)
-    ∷ (ltb (length (d .scratch)) (words n), 6)
+    (ltb 1048576 z || ltb 65536 (max n (max (length (d .starts)) (length (d .ends)))), Refusal.LONG)
+    ∷ (not (eqb n (length (d .starts)) && eqb n (length (d .ends))), Refusal.UNEQUAL)
+    ∷ (any no-id (d .ids), Refusal.ID)
+    ∷ (not (tile 0 z (d .starts) (d .ends)), Refusal.TILES)
+    ∷ (any elsewhere (d .ids), Refusal.IMPORT)
+    ∷ (ltb (length (d .scratch)) (words n), Refusal.SCRATCH)
     ∷ []
 
 -- the first that applies; 0 where none does
@@ -109,7 +111,7 @@ filled w l = w ++ replicate (length l - length w) 0
 
 -- "The reader's 7 and 8 leave events, errors and scratch all zero; every other refusal leaves all as lent."
 abbrev pub as-lent : ℕ → Bool
-as-lent n = ltb n 7
+as-lent n = ltb n Refusal.EVENTS
 
 -- "An answer returns outcome, rows covered, counts of events and error records, fuel left"
 abbrev pub left-by : Desk → Answer → After

@@ -6,26 +6,20 @@ use mathlib.Core.Bool.{Bool, true, false, _&&_}
 use lib.Dec.{eqb, leb}
 use lib.ListN.{length, replicate}
 use Rattle.kinds.specs.Kinds as k
-use Rattle.definition.specs.Render.{Quad, flat}
-
--- the events, four numbers each; what is left over is none
-abbrev pub quads : List ℕ → List Quad
-quads [] = []
-quads (a ∷ []) = []
-quads (a ∷ b ∷ []) = []
-quads (a ∷ b ∷ c ∷ []) = []
-quads (a ∷ b ∷ c ∷ d ∷ l) = (a, b, c, d) ∷ quads l
+use Rattle.shapes.specs.Sort as Sort
+use Rattle.shapes.specs.Refusal as Refusal
+use Rattle.shapes.specs.Shapes.{EVENT, Entry, flat, entries}
 
 -- refusal 9: "event numbers not a multiple of 4, or a sort outside 1..4"
-abbrev pub sorts : List Quad → Bool
+abbrev pub sorts : List Entry → Bool
 sorts [] = true
-sorts (e ∷ es) = leb 1 (e .0) && leb (e .0) 4 && sorts es
+sorts (e ∷ es) = leb Sort.BEGIN (e .0) && leb (e .0) Sort.ERROR && sorts es
 
 abbrev pub well-formed : List ℕ → Bool
-well-formed l = eqb (length l % 4) 0 && sorts (quads l)
+well-formed l = eqb (length l % EVENT) 0 && sorts (entries l)
 
 -- an ERROR begin is of sort 1, an ERROR end of sort 3
-abbrev pub error-of : ℕ → Quad → Bool
+abbrev pub error-of : ℕ → Entry → Bool
 error-of s e = eqb (e .0) s && eqb (e .1) k.ERROR
 
 abbrev pub Span : Type 0
@@ -37,7 +31,7 @@ pub data Mark : Type 0 where
   opens : Span → Mark
   joins : Span → Mark
   closes : Mark
-  keeps : Quad → Mark
+  keeps : Entry → Mark
 
 -- an ERROR end, with what follows it
 abbrev pub ended : List Mark → List Mark
@@ -48,14 +42,14 @@ ended (closes ∷ ms) = closes ∷ closes ∷ ms
 ended (keeps e ∷ ms) = closes ∷ keeps e ∷ ms
 
 -- e is an ERROR begin, or an ERROR end, or neither
-abbrev pub marked : Bool → Bool → Quad → List Mark → List Mark
+abbrev pub marked : Bool → Bool → Entry → List Mark → List Mark
 marked true t e ms = opens (e .2, e .3) ∷ ms
 marked false true e ms = ended ms
 marked false false e ms = keeps e ∷ ms
 
-abbrev pub marks : List Quad → List Mark
+abbrev pub marks : List Entry → List Mark
 marks [] = []
-marks (e ∷ es) = marked (error-of 1 e) (error-of 3 e) e (marks es)
+marks (e ∷ es) = marked (error-of Sort.BEGIN e) (error-of Sort.END e) e (marks es)
 
 -- refusal 10: "an ERROR end with none open, or an ERROR begin never closed"; h are open
 abbrev pub paired : List Mark → ℕ → Bool
@@ -81,24 +75,24 @@ reach (closes ∷ ms) zero z = z
 reach (closes ∷ ms) (suc h) z = reach ms h z
 reach (keeps e ∷ ms) h z = reach ms h z
 
-abbrev pub error-event : ℕ → Span → Quad
+abbrev pub error-event : ℕ → Span → Entry
 error-event s z = (s, k.ERROR, z .0, z .1)
 
 -- the finished list; st has the spans of the nodes that are open. An end with none open is refused, and its clause is never met
-abbrev pub merge : List Mark → List Span → List Quad
+abbrev pub merge : List Mark → List Span → List Entry
 merge [] st = []
-merge (opens y ∷ ms) st = error-event 1 (reach ms 0 y) ∷ merge ms (reach ms 0 y ∷ st)
+merge (opens y ∷ ms) st = error-event Sort.BEGIN (reach ms 0 y) ∷ merge ms (reach ms 0 y ∷ st)
 merge (joins y ∷ ms) st = merge ms st
 merge (closes ∷ ms) [] = merge ms []
-merge (closes ∷ ms) (z ∷ st) = error-event 3 z ∷ merge ms st
+merge (closes ∷ ms) (z ∷ st) = error-event Sort.END z ∷ merge ms st
 merge (keeps e ∷ ms) st = e ∷ merge ms st
 
-abbrev pub finished : List ℕ → List Quad
-finished l = merge (marks (quads l)) []
+abbrev pub finished : List ℕ → List Entry
+finished l = merge (marks (entries l)) []
 
 pub data Merged : Type 0 where
   unmerged : ℕ → Merged
-  merged : List Quad → Merged
+  merged : List Entry → Merged
 
 -- n where t does not hold
 abbrev pub refusing : ℕ → Bool → Merged → Merged
@@ -107,7 +101,7 @@ refusing n false m = unmerged n
 
 -- "The merger checks 9, 10, then 7 for its finished list"; room is the length of what is lent
 abbrev pub merger : List ℕ → ℕ → Merged
-merger l room = refusing 9 (well-formed l) (refusing 10 (paired (marks (quads l)) 0) (refusing 7 (leb (4 * length (finished l)) room) (merged (finished l))))
+merger l room = refusing Refusal.MALFORMED (well-formed l) (refusing Refusal.UNPAIRED (paired (marks (entries l)) 0) (refusing Refusal.EVENTS (leb (EVENT * length (finished l)) room) (merged (finished l))))
 
 -- THE PUBLIC ANSWER: "A refusal returns its number and zeros" and leaves all as lent; "the merger: its count of events", and "cells past the
 -- finished lists [..] are zero". The number is 0 where nothing is refused.
@@ -118,7 +112,7 @@ pub record Returned : Type 0 where
 
 abbrev pub returned : List ℕ → Merged → Returned
 returned room (unmerged n) = record { number = n; count = 0; room = room }
-returned room (merged es) = record { number = 0; count = length es; room = flat es ++ replicate (length room - 4 * length es) 0 }
+returned room (merged es) = record { number = 0; count = length es; room = flat es ++ replicate (length room - EVENT * length es) 0 }
 
 -- of the event numbers and the room, as lent
 abbrev pub merging : List ℕ → List ℕ → Returned

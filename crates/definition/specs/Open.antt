@@ -3,6 +3,7 @@ use Prim.Native.Nat.{ℕ, zero, suc, _*_}
 use mathlib.Core.List.{List, [], _∷_, _++_}
 use mathlib.Core.Path.{_≡_}
 use lib.ListN.{length}
+use Rattle.shapes.specs.Shapes.{EVENT}
 use Rattle.definition.specs.Run.{Event, opened, leaf, closed, bad}
 
 -- h nodes are still to be opened before w, from the last event to the first; g are after it
@@ -25,4 +26,4 @@ pub record Open (p : ℕ) (o : List Event) : Type 0 where
   pub row : ℕ
   pub before : List Event
   pub added : Adds (opened row ∷ before) o
-  pub place : p ≡ 4 * suc (length before)
+  pub place : p ≡ EVENT * suc (length before)

@@ -9,8 +9,10 @@ use lib.Dec.{eqb}
 use lib.ListN.{length, getD, drop}
 use Rattle.kinds.specs.Kinds as k
 use Rattle.kinds.specs.Sets.{kindOf, pick, trivial}
+use Rattle.shapes.specs.Sort as Sort
+use Rattle.shapes.specs.Shapes.{Entry, Rec}
 use Rattle.definition.specs.Run.{State, Limits, Mode, ok, failed, stopped, rule-keywords, start, items}
-use Rattle.definition.specs.Render.{Source, starts-at, ends-at, span-end, Reading, Quad, Rec, inside, records}
+use Rattle.definition.specs.Render.{Source, starts-at, ends-at, span-end, Reading, inside, records}
 use Rattle.definition.specs.Answer.{Desk, source-of}
 
 -- "not stopped"
@@ -31,7 +33,7 @@ abbrev pub place : Desk → State → ℕ
 place d s = getD (0 ∷ d .ends) (rows-before d s) 0
 
 -- what it has written inside SOURCE_FILE, and the error records
-abbrev pub written : Desk → State → List Quad
+abbrev pub written : Desk → State → List Entry
 written d s = inside (source-of d) (s .out)
 
 abbrev pub recorded : Limits → Desk → State → List Rec
@@ -56,10 +58,10 @@ remaining d s scratch events errors =
     }
 
 -- "places and record numbers shifted": by p places and c records
-abbrev pub shift : ℕ → ℕ → Quad → Quad
-shift p c q = (q .0, elim (eqb (q .0) 4) as (λ _. ℕ) [ true ↦ q .1 + c | false ↦ q .1 ], p + q .2, p + q .3)
+abbrev pub shift : ℕ → ℕ → Entry → Entry
+shift p c q = (q .0, elim (eqb (q .0) Sort.ERROR) as (λ _. ℕ) [ true ↦ q .1 + c | false ↦ q .1 ], p + q .2, p + q .3)
 
-abbrev pub shifts : ℕ → ℕ → List Quad → List Quad
+abbrev pub shifts : ℕ → ℕ → List Entry → List Entry
 shifts p c [] = []
 shifts p c (q ∷ l) = shift p c q ∷ shifts p c l
 
@@ -68,15 +70,15 @@ shift-records p [] = []
 shift-records p (q ∷ l) = (p + q .0, p + q .1, q .2, q .3) ∷ shift-records p l
 
 -- a list "inside SOURCE_FILE", z the source's length
-abbrev pub in-file : ℕ → List Quad → List Quad
-in-file z l = (1, k.SOURCE-FILE, 0, z) ∷ l ++ ((3, k.SOURCE-FILE, 0, z) ∷ [])
+abbrev pub in-file : ℕ → List Entry → List Entry
+in-file z l = (Sort.BEGIN, k.SOURCE-FILE, 0, z) ∷ l ++ ((Sort.END, k.SOURCE-FILE, 0, z) ∷ [])
 
 -- r is the desk's reading, r′ that of the remaining rows where the reader stands at s
 pub record Continued (L : Limits) (d : Desk) (s : State) (r r′ : Reading) : Type 0 where
   pub outcome : r .outcome ≡ r′ .outcome
   pub covered : r .covered ≡ rows-before d s + r′ .covered
   pub left : r .left ≡ r′ .left
-  pub inner : List Quad
+  pub inner : List Entry
   pub alone : r′ .events ≡ in-file (length (d .bytes) - place d s) inner
   pub events : r .events ≡ in-file (length (d .bytes)) (written d s ++ shifts (place d s) (length (recorded L d s)) inner)
   pub errors : r .errors ≡ recorded L d s ++ shift-records (place d s) (r′ .errors)
@@ -93,20 +95,20 @@ Solid (i ∷ []) = trivial i ≡ false
 Solid (i ∷ j ∷ js) = Solid (j ∷ js)
 
 -- the events of the rows j, before the rows r
-abbrev pub tokens : Source → List ℕ → List ℕ → List Quad
+abbrev pub tokens : Source → List ℕ → List ℕ → List Entry
 tokens x [] r = []
-tokens x (i ∷ j) r = let n = suc (length (j ++ r)) in (2, kindOf i, starts-at x n, ends-at x n) ∷ tokens x j r
+tokens x (i ∷ j) r = let n = suc (length (j ++ r)) in (Sort.TOKEN, kindOf i, starts-at x n, ends-at x n) ∷ tokens x j r
 
 -- "one error, one ERROR node": the run j before the rows r, c records before it
 abbrev pub junk-error : Source → List ℕ → List ℕ → Rec
 junk-error x j r = let n = length (j ++ r) in (starts-at x n, ends-at x n, 10, [])
 
-abbrev pub junk-events : Source → ℕ → List ℕ → List ℕ → List Quad
+abbrev pub junk-events : Source → ℕ → List ℕ → List ℕ → List Entry
 junk-events x c j r =
     let n = length (j ++ r) in
     let a = starts-at x n in
     let z = span-end x n (length r) in
-    (4, c, a, ends-at x n) ∷ (1, k.ERROR, a, z) ∷ tokens x j r ++ ((3, k.ERROR, a, z) ∷ [])
+    (Sort.ERROR, c, a, ends-at x n) ∷ (Sort.BEGIN, k.ERROR, a, z) ∷ tokens x j r ++ ((Sort.END, k.ERROR, a, z) ∷ [])
 
 -- v is where the reader stands behind the run: not stopped, with the fuel that it had
 pub record Junk (L : Limits) (d : Desk) (s v : State) (j r : List ℕ) : Type 0 where

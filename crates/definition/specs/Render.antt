@@ -1,4 +1,4 @@
--- A reading in document 01's numbers ("Rows, events, error records"): events of four numbers, error records, the forms, and the rooms taken.
+-- A reading in document 01's numbers ("Rows, events, error records"): events, error records, the forms, and the rooms taken.
 use Prim.Native.Nat.{ℕ, zero, suc, _-_, _+_, _*_}
 use mathlib.Core.List.{List, [], _∷_, _++_, map, foldl}
 use mathlib.Core.Bool.{true, false}
@@ -6,6 +6,10 @@ use lib.Dec.{eqb, ltb}
 use lib.ListN.{length, getD, take, drop}
 use Rattle.kinds.specs.Kinds as k
 use Rattle.utf8.specs.Utf8.{utf8}
+use Rattle.shapes.specs.Sort as Sort
+use Rattle.shapes.specs.Refusal as Refusal
+use Rattle.shapes.specs.Outcome as Outcome
+use Rattle.shapes.specs.Shapes.{EVENT, Entry, HEAD, Rec}
 use Rattle.definition.specs.Run.{State, Draft, Limits, Event, opened, leaf, closed, bad, Choice, wanted, unwanted, stray, Mode, ok, failed, stopped, spent, deep}
 
 -- source bytes, and the rows' ids and ends; a row starts where the one before ends
@@ -71,22 +75,6 @@ names-of f stray = []
 
 -- EVENTS AND RECORDS
 
--- "An event is four numbers: sort (1 begin, 2 token, 3 end, 4 error), kind or error record index (from 0), start, end."
-abbrev pub Quad : Type 0
-Quad = ℕ × ℕ × ℕ × ℕ
-
--- "An error record is start, end, form, count of names, then the names."
-abbrev pub Rec : Type 0
-Rec = ℕ × ℕ × ℕ × List ℕ
-
-abbrev pub flat : List Quad → List ℕ
-flat [] = []
-flat (e ∷ es) = e .0 ∷ e .1 ∷ e .2 ∷ e .3 ∷ flat es
-
-abbrev pub flat-records : List Rec → List ℕ
-flat-records [] = []
-flat-records (e ∷ es) = e .0 ∷ e .1 ∷ e .2 ∷ length (e .3) ∷ e .3 ++ flat-records es
-
 -- the errors that stand written, the last first, and how many they are
 abbrev pub faults : List Event → List (ℕ × Choice)
 faults [] = []
@@ -100,13 +88,13 @@ bads es = length (faults es)
 
 -- written from the last event to the first: the stack holds kind and end of the nodes whose closing was met, so that a begin has them "at both
 -- events"; l is what stands behind. An error's index is how many records are before
-abbrev pub render : Source → List (ℕ × ℕ) → List Event → List Quad → List Quad
+abbrev pub render : Source → List (ℕ × ℕ) → List Event → List Entry → List Entry
 render x st [] l = l
 render x [] (opened n ∷ es) l = render x [] es l
-render x (t ∷ st) (opened n ∷ es) l = render x st es ((1, t .0, starts-at x n, t .1) ∷ l)
-render x st (leaf a n ∷ es) l = render x st es ((2, a, starts-at x n, ends-at x n) ∷ l)
-render x st (closed a n m ∷ es) l = render x ((a, span-end x n m) ∷ st) es ((3, a, starts-at x n, span-end x n m) ∷ l)
-render x st (bad n c ∷ es) l = render x st es ((4, bads es, starts-at x n, ends-at x n) ∷ l)
+render x (t ∷ st) (opened n ∷ es) l = render x st es ((Sort.BEGIN, t .0, starts-at x n, t .1) ∷ l)
+render x st (leaf a n ∷ es) l = render x st es ((Sort.TOKEN, a, starts-at x n, ends-at x n) ∷ l)
+render x st (closed a n m ∷ es) l = render x ((a, span-end x n m) ∷ st) es ((Sort.END, a, starts-at x n, span-end x n m) ∷ l)
+render x st (bad n c ∷ es) l = render x st es ((Sort.ERROR, bads es, starts-at x n, ends-at x n) ∷ l)
 
 abbrev pub record-of : Limits → Source → ℕ → Choice → Rec
 record-of L x n c = let f = form-of L (id-at x n) (text-at x n) c in (starts-at x n, ends-at x n, f, names-of f c)
@@ -115,7 +103,7 @@ abbrev pub records : Limits → Source → List Event → List Rec → List Rec
 records L x es l = foldl (λ l e. record-of L x (e .0) (e .1) ∷ l) l (faults es)
 
 -- what is written inside SOURCE_FILE
-abbrev pub inside : Source → List Event → List Quad
+abbrev pub inside : Source → List Event → List Entry
 inside x o = render x [] o []
 
 -- "outcome, rows covered, counts of events and error records, fuel left", with the lists themselves
@@ -123,15 +111,15 @@ pub record Reading : Type 0 where
   pub outcome : ℕ
   pub covered : ℕ
   pub left : ℕ
-  pub events : List Quad
+  pub events : List Entry
   pub errors : List Rec
 
 -- "Outcome 0 is done, 1 out of fuel, 2 too deep."
 abbrev pub outcome-of : Mode → ℕ
-outcome-of ok = 0
-outcome-of failed = 0
-outcome-of (stopped spent) = 1
-outcome-of (stopped deep) = 2
+outcome-of ok = Outcome.DONE
+outcome-of failed = Outcome.DONE
+outcome-of (stopped spent) = Outcome.SPENT
+outcome-of (stopped deep) = Outcome.DEEP
 
 abbrev pub rendered : Limits → Source → State → Reading
 rendered L x s =
@@ -140,14 +128,14 @@ rendered L x s =
       covered = length (x .ids) - length (s .rest);
       left = s .fuel;
       events =
-          (1, k.SOURCE-FILE, 0, length (x .bytes)) ∷ inside x (s .out) ++ ((3, k.SOURCE-FILE, 0, length (x .bytes)) ∷ []);
+          (Sort.BEGIN, k.SOURCE-FILE, 0, length (x .bytes)) ∷ inside x (s .out) ++ ((Sort.END, k.SOURCE-FILE, 0, length (x .bytes)) ∷ []);
       errors = records L x (s .out) [];
     }
 
 -- ROOMS: what a draft takes, the SOURCE_FILE begin event with it. "A record takes its room when it is chosen"
 
 abbrev pub size-of : Limits → Source → ℕ → Choice → ℕ
-size-of L x n c = 4 + length (names-of (form-of L (id-at x n) (text-at x n) c) c)
+size-of L x n c = HEAD + length (names-of (form-of L (id-at x n) (text-at x n) c) c)
 
 -- the records of errors, and of those that stand written
 abbrev pub held : Limits → Source → List (ℕ × Choice) → ℕ
@@ -158,15 +146,15 @@ abbrev pub said : Limits → Source → List Event → ℕ
 said L x es = held L x (faults es)
 
 abbrev pub used : Limits → Source → Draft → ℕ × ℕ
-used L x d = (4 * suc (length (d .0)), said L x (d .0) + held L x (d .1))
+used L x d = (EVENT * suc (length (d .0)), said L x (d .0) + held L x (d .1))
 
 -- the last moment is the SOURCE_FILE end event's
 abbrev pub moments : Limits → Source → State → List (ℕ × ℕ)
-moments L x s = (4 * suc (suc (length (s .out))), said L x (s .out)) ∷ map (used L x) (s .drafts)
+moments L x s = (EVENT * suc (suc (length (s .out))), said L x (s .out)) ∷ map (used L x) (s .drafts)
 
 -- 7 where the events exceed their room, else 8 where the records do, else 0
 abbrev pub exceeds : ℕ → ℕ → ℕ × ℕ → ℕ
-exceeds e r m = elim (ltb e (m .0)) [ true ↦ 7 | false ↦ elim (ltb r (m .1)) [ true ↦ 8 | false ↦ 0 ] ]
+exceeds e r m = elim (ltb e (m .0)) [ true ↦ Refusal.EVENTS | false ↦ elim (ltb r (m .1)) [ true ↦ Refusal.ERRORS | false ↦ 0 ] ]
 
 -- "the event list would at some moment exceed its room, 8 not before": the oldest such moment decides, and it stands last
 abbrev pub over : ℕ → ℕ → List (ℕ × ℕ) → ℕ

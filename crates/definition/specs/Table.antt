@@ -6,8 +6,8 @@ use mathlib.Core.Bool.{Bool, true, false, _&&_, _||_}
 use lib.Dec.{eqb}
 use lib.ListN.{length, replicate, take, drop}
 use Rattle.kinds.specs.Kinds as k
+use Rattle.shapes.specs.Shapes.{EVENT, flat}
 use Rattle.definition.specs.Run.{base}
-use Rattle.definition.specs.Render.{flat}
 use Rattle.definition.specs.Answer.{Desk, words, After, after, filled}
 use Rattle.definition.specs.Merge.{Merged, unmerged, merged, merger}
 use Rattle.definition.specs.Spelled.{spelled}
@@ -65,14 +65,14 @@ agrees c a =
 abbrev full : Case → After → Bool
 full c a =
     same (results a) (7 ∷ replicate 5 0)
-    && same (a .events) (replicate (4 * c .events - 4) 0)
+    && same (a .events) (replicate (EVENT * c .events - EVENT) 0)
     && same (a .errors) (replicate 8 0)
     && same (a .scratch) (0 ∷ [])
 
 -- each file with room for just its events, and with four numbers less
 abbrev all : List Case → Bool
 all [] = true
-all (c ∷ cs) = agrees c (after base (desk c (4 * c .events) 8)) && full c (after base (desk c (4 * c .events - 4) 8)) && all cs
+all (c ∷ cs) = agrees c (after base (desk c (EVENT * c .events) 8)) && full c (after base (desk c (EVENT * c .events - EVENT) 8)) && all cs
 
 abbrev rule-ids : List ℕ → List ℕ
 rule-ids l = k.RULE-KW ∷ k.WHITESPACE ∷ k.IDENT ∷ k.L-BRACE ∷ k.CONDITION-KW ∷ k.COLON ∷ k.TRUE-KW ∷ l
@@ -148,12 +148,12 @@ merges l (merged es) = same l (flat es)
 -- the event e among the first n
 abbrev holds : List ℕ → ℕ → List ℕ → Bool
 holds e zero l = false
-holds e (suc n) l = same e (take 4 l) || holds e n (drop 4 l)
+holds e (suc n) l = same e (take EVENT l) || holds e n (drop EVENT l)
 
 abbrev pub table : Bool
 table =
     all (P1 ∷ P2 ∷ P3 ∷ P4 ∷ P5 ∷ P6 ∷ P7 ∷ P8 ∷ [])
-    && same ((after base (desk P4 24 8)) .events) whole-4
-    && merges whole-4 (merger whole-4 24)
-    && holds (1 ∷ k.ERROR ∷ 22 ∷ 43 ∷ []) 29 ((after base (desk P8 116 8)) .events)
+    && same ((after base (desk P4 (EVENT * 6) 8)) .events) whole-4
+    && merges whole-4 (merger whole-4 (EVENT * 6))
+    && holds (1 ∷ k.ERROR ∷ 22 ∷ 43 ∷ []) 29 ((after base (desk P8 (EVENT * 29) 8)) .events)
     && merges one-error (merger two-errors 8)

@@ -10,8 +10,9 @@ use borrow.Author.Tests.{lt-ltb, le-ltb}
 use lib.Dec.{ltb}
 use lib.ListN.{length, getD, take, replicate}
 use lib.Seq.{length-take-le}
+use Rattle.shapes.specs.Shapes.{EVENT, flat, flat-records}
 use Rattle.definition.specs.Run as P
-use Rattle.definition.specs.Render.{Source, Reading, rendered, used, moments, exceeds, over, flat, flat-records}
+use Rattle.definition.specs.Render.{Source, Reading, rendered, used, moments, exceeds, over}
 use Rattle.definition.specs.Answer.{Desk, After, Answer, refused, given, first-of, grounds, refusal, exceeded, answer, as-lent, refusing, blank, left-by, after, source-of}
 use Rattle.notes.proofs.Rooms.{exceeds-events}
 use Rattle.notes.proofs.Rooms as rooms
@@ -70,14 +71,14 @@ module _ (L : P.Limits) (d : Desk) where
       sym (all-zero n h) ∙ ap (left-by d) (sym (picked n _ (λ z. omega (arith, h, z)))) ∙ ap (λ (m : ℕ). left-by d (pick m (given (rendered L (source-of d) (reading L (source-of d) (d .fuel)))))) i ∙ read-so e
 
   -- a room that has no place for the SOURCE_FILE begin event
-  module _ (h : length (d .events) < 4) where
+  module _ (h : length (d .events) < EVENT) where
     abbrev E : ℕ
     E = length (d .events)
 
     abbrev R : ℕ
     R = length (d .errors)
 
-    seven-first : (v : ℕ) (m : ℕ × ℕ) → (v ≡ 0) ⊎ (v ≡ 7) → 4 ≤ m .0 → rooms.first-of v (exceeds E R m) ≡ 7
+    seven-first : (v : ℕ) (m : ℕ × ℕ) → (v ≡ 0) ⊎ (v ≡ 7) → EVENT ≤ m .0 → rooms.first-of v (exceeds E R m) ≡ 7
     seven-first v m (inl z) k = ap (λ (w : ℕ). rooms.first-of w (exceeds E R m)) z ∙ exceeds-events E R m (omega (arith, h, k))
     seven-first v m (inr z) k = ap (λ (w : ℕ). rooms.first-of w (exceeds E R m)) z
 
@@ -127,11 +128,11 @@ module _ (L : P.Limits) (d : Desk) where
         q : Finished L (source-of d) (d .fuel) (tally r l) ev er
         q = f .finished h
 
-        count : (r .state .ev + 4) / 4 ≡ length (rendered L (source-of d) (reading L (source-of d) (d .fuel)) .events)
+        count : (r .state .ev + EVENT) / EVENT ≡ length (rendered L (source-of d) (reading L (source-of d) (d .fuel)) .events)
         count = omega (arith, q .event-count)
 
-        events : take (r .state .ev + 4) ev ++ replicate (length ev - (r .state .ev + 4)) 0 ≡ left-by d (given (rendered L (source-of d) (reading L (source-of d) (d .fuel)))) .events
-        events = laid _ ev (r .state .ev + 4) (d .events) (q .events) (q .event-fits) i
+        events : take (r .state .ev + EVENT) ev ++ replicate (length ev - (r .state .ev + EVENT)) 0 ≡ left-by d (given (rendered L (source-of d) (reading L (source-of d) (d .fuel)))) .events
+        events = laid _ ev (r .state .ev + EVENT) (d .events) (q .events) (q .event-fits) i
 
         errors : take (getD l 4 0) er ++ replicate (length er - getD l 4 0) 0 ≡ left-by d (given (rendered L (source-of d) (reading L (source-of d) (d .fuel)))) .errors
         errors = laid _ er (getD l 4 0) (d .errors) (q .errors) (q .error-fits) j

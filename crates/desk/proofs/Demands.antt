@@ -8,15 +8,18 @@ use native.Mathlib.Omega.{arith}
 use lib.Dec.{leb}
 use lib.ListN.{length, take, replicate, length-append}
 use Rattle.kinds.specs.Kinds as kinds
+use Rattle.shapes.specs.Sort as Sort
+use Rattle.shapes.specs.Refusal as Refusal
+use Rattle.shapes.specs.Shapes.{EVENT, flat, entries, flat-records}
 use Rattle.definition.specs.Prog.{RULE-DECL}
 use Rattle.definition.specs.Ford.{Res, Ford, rules, star, nt, strip, Accepts}
 use Rattle.definition.specs.Run as P
 use Rattle.definition.specs.Run.{Limits}
-use Rattle.definition.specs.Render.{Reading, inside, flat, flat-records}
+use Rattle.definition.specs.Render.{Reading, inside}
 use Rattle.definition.specs.Answer.{Desk, After, Answer, given, refusal, exceeded, answer, source-of, words, refusing, blank, filled, left-by, after}
 use Rattle.definition.specs.Remaining.{Running, standing, remaining, Continued}
 use Rattle.theorems.proofs.Answered.{number-of, given-is, answered}
-use Rattle.definition.specs.Merge.{quads, marks, finished, merged, merger}
+use Rattle.definition.specs.Merge.{marks, finished, merged, merger}
 use Rattle.definition.specs.Merge as M
 use Rattle.theorems.proofs.Joined.{Orderly, flat-length, never-9-or-10, read-in-order}
 use Rattle.theorems.proofs.Demands as theorems
@@ -39,7 +42,7 @@ two-events L d n =
     let g = answered L d n in
     let t : P.State = P.read L (d .ids) (d .fuel) in
     let w = ap (λ (a : After). a .event-count) (ap (left-by d) (g .1)) ∙ ap (λ (r : Reading). length (r .events)) (given-is L d (g .0) (g .1) .whole) in
-    omega (arith, w, length-append (inside (source-of d) (t .out)) ((3, kinds.SOURCE-FILE, 0, length (d .bytes)) ∷ []))
+    omega (arith, w, length-append (inside (source-of d) (t .out)) ((Sort.END, kinds.SOURCE-FILE, 0, length (d .bytes)) ∷ []))
 
 result-is : (L : Limits) (d : Desk) (r : D.Reading) (ev er sc : List ℕ) → Promised L d r ev er sc → answered-of ((after L d) .number) (after L d) ≡ r
 unfolding answered-of
@@ -104,17 +107,17 @@ module _ (L : Limits) (d : Desk) {o c e k f : ℕ} {ev er sc : List ℕ} (p : Pr
   read-scratch = ap (λ (a : After). a .scratch) left
 
   -- what is handed on to the merger, the first e events: never refused 9 or 10, and the ERROR nodes that it joins stand in their order
-  pub read-list : take (4 * e) ev ≡ flat (read-given .0 .events)
+  pub read-list : take (EVENT * e) ev ≡ flat (read-given .0 .events)
   read-list =
       let w : List ℕ = flat (read-given .0 .events) in
-      let n : 4 * e ≡ length w = omega (arith, ap (λ (a : After). a .event-count) left, flat-length (read-given .0 .events)) in
+      let n : EVENT * e ≡ length w = omega (arith, ap (λ (a : After). a .event-count) left, flat-length (read-given .0 .events)) in
       ap₂ take n read-events ∙ take-whole w (replicate (length (d .events) - length w) 0)
 
-  pub read-merges : (room : ℕ) → let l : List ℕ = take (4 * e) ev in merger l room ≡ M.refusing 7 (leb (4 * length (finished l)) room) (merged (finished l))
-  read-merges room = subst (λ (l : List ℕ). merger l room ≡ M.refusing 7 (leb (4 * length (finished l)) room) (merged (finished l))) (sym read-list) (never-9-or-10 L d (read-given .0) (read-given .1) room)
+  pub read-merges : (room : ℕ) → let l : List ℕ = take (EVENT * e) ev in merger l room ≡ M.refusing Refusal.EVENTS (leb (EVENT * length (finished l)) room) (merged (finished l))
+  read-merges room = subst (λ (l : List ℕ). merger l room ≡ M.refusing Refusal.EVENTS (leb (EVENT * length (finished l)) room) (merged (finished l))) (sym read-list) (never-9-or-10 L d (read-given .0) (read-given .1) room)
 
-  pub read-orderly : Orderly (marks (quads (take (4 * e) ev)))
-  read-orderly = subst (λ (l : List ℕ). Orderly (marks (quads l))) (sym read-list) (read-in-order L d (read-given .0) (read-given .1))
+  pub read-orderly : Orderly (marks (entries (take (EVENT * e) ev)))
+  read-orderly = subst (λ (l : List ℕ). Orderly (marks (entries l))) (sym read-list) (read-in-order L d (read-given .0) (read-given .1))
 
   -- DEMAND 2: "If the reader was not stopped, the error list is empty exactly when the PEG accepts every item."
   pub read-accepts : o ≡ 0 → (k ≡ 0) ↔ Accepts (d .ids)

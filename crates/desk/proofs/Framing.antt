@@ -12,10 +12,12 @@ use lib.Dec.{eqb, ltb}
 use lib.ListN.{length, getD, take, drop, set, replicate, length-append, length-drop}
 use lib.Seq.{take-append-add, take-append-le, length-take-le}
 use Rattle.kinds.specs.Kinds as k
+use Rattle.shapes.specs.Sort as Sort
+use Rattle.shapes.specs.Shapes.{EVENT, Entry, event, flat, Rec, flat-records}
 use Rattle.definition.specs.Run as P
 use Rattle.definition.specs.Run.{Mode, ok, failed, stopped}
-use Rattle.definition.specs.Buffer.{four, buffer}
-use Rattle.definition.specs.Render.{Source, Quad, Rec, inside, rendered, outcome-of, said, held, records, used, moments, exceeds, over, flat, flat-records}
+use Rattle.definition.specs.Buffer.{buffer}
+use Rattle.definition.specs.Render.{Source, inside, rendered, outcome-of, said, held, records, used, moments, exceeds, over}
 use Rattle.definition.proofs.Buffer.{buffer-length, buffer-read}
 use Rattle.notes.specs.Whole.{Whole}
 use Rattle.notes.specs.Bits.{ifb, bitAt}
@@ -76,83 +78,83 @@ none-chosen : (L : P.Limits) (x : Source) (fuel : ℕ) → reading L x fuel .cho
 none-chosen L x fuel = items-chosen L (length (x .ids)) (P.start (x .ids) fuel) refl
 
 -- events one after another
-flat-end : (a : List Quad) (q : Quad) → flat (a ++ (q ∷ [])) ≡ flat a ++ four (q .0) (q .1) (q .2) (q .3)
+flat-end : (a : List Entry) (q : Entry) → flat (a ++ (q ∷ [])) ≡ flat a ++ event (q .0) (q .1) (q .2) (q .3)
 flat-end [] q = refl
 flat-end (e ∷ a) q = ap (λ (l : List ℕ). e .0 ∷ e .1 ∷ e .2 ∷ e .3 ∷ l) (flat-end a q)
 
-flat-length : (a : List Quad) → length (flat a) ≡ 4 * length a
+flat-length : (a : List Entry) → length (flat a) ≡ EVENT * length a
 flat-length [] = refl
 flat-length (e ∷ a) = omega (arith, flat-length a)
 
 module _ (L : P.Limits) (x : Source) (fuel evcap R : ℕ) {d : Tally} {t : Whole} {ev₁ ev₂ er sc : List ℕ}
-    (B : Between L (evcap + 4) R x d (bufs ev₁ er sc) (reading L x fuel)) (w : Wf x (bufs ev₁ er sc) (d .state)) (put : Put (four 3 k.SOURCE-FILE 0 (length (x .bytes))) (d .state) t ev₁ ev₂) where
+    (B : Between L (evcap + EVENT) R x d (bufs ev₁ er sc) (reading L x fuel)) (w : Wf x (bufs ev₁ er sc) (d .state)) (put : Put (event Sort.END k.SOURCE-FILE 0 (length (x .bytes))) (d .state) t ev₁ ev₂) where
   a : P.State
   a = reading L x fuel
 
   -- which room is exceeded first
-  pub exceeded : t .full ≡ over (evcap + 4) R (moments L x (reading L x fuel))
+  pub exceeded : t .full ≡ over (evcap + EVENT) R (moments L x (reading L x fuel))
   unfolding overOf
   exceeded = go (ℕ-discrete (d .state .full) 0)
     where
-      past : d .state .full ≡ over (evcap + 4) R (map (used L x) (reading L x fuel .drafts))
+      past : d .state .full ≡ over (evcap + EVENT) R (map (used L x) (reading L x fuel .drafts))
       past = B .stands .over
 
       last : ℕ × ℕ
-      last = (4 * suc (suc (length (reading L x fuel .out))), said L x (reading L x fuel .out))
+      last = (EVENT * suc (suc (length (reading L x fuel .out))), said L x (reading L x fuel .out))
 
       goal : ℕ → Type 0
-      goal v = t .full ≡ first-of v (exceeds (evcap + 4) R last)
+      goal v = t .full ≡ first-of v (exceeds (evcap + EVENT) R last)
 
-      go : Dec (d .state .full ≡ 0) → goal (over (evcap + 4) R (map (used L x) (reading L x fuel .drafts)))
+      go : Dec (d .state .full ≡ 0) → goal (over (evcap + EVENT) R (map (used L x) (reading L x fuel .drafts)))
       go (no n) = put .stuck n ∙ past ∙ sym (full-first _ _ (λ z. n (past ∙ z)))
-      go (yes z) = subst goal (sym z ∙ past) (fits (decLt (d .state .evcap) (d .state .ev + 4)))
+      go (yes z) = subst goal (sym z ∙ past) (fits (decLt (d .state .evcap) (d .state .ev + EVENT)))
         where
-          m : Means (pastOf L (evcap + 4) R x (reading L x fuel)) x (d .state) (bufs ev₁ er sc) (reading L x fuel)
+          m : Means (pastOf L (evcap + EVENT) R x (reading L x fuel)) x (d .state) (bufs ev₁ er sc) (reading L x fuel)
           m = B .stands .means z
 
-          room : evcap + 4 ≡ d .state .evcap + 4
+          room : evcap + EVENT ≡ d .state .evcap + EVENT
           room = m .written .room
 
           wide : R ≡ d .state .ercap
           wide = m .chosen .room
 
-          many : d .state .ev ≡ 4 * length (reading L x fuel .out)
+          many : d .state .ev ≡ EVENT * length (reading L x fuel .out)
           many = ev-count w m
 
           told : said L x (reading L x fuel .out) ≤ R
           told = omega (arith, er-count w m, wide, w .0 .2 .errors)
 
-          fits : Dec (d .state .evcap < d .state .ev + 4) → goal 0
-          fits (yes h) = put .filled z ∙ ap (λ (c : Bool). ifb c 7 0) (lt-ltb (d .state .evcap) (d .state .ev + 4) h) ∙ sym (exceeds-events (evcap + 4) R last (omega (arith, h, room, many)))
-          fits (no h) = put .filled z ∙ ap (λ (c : Bool). ifb c 7 0) (le-ltb (d .state .evcap) (d .state .ev + 4) (omega (arith, h))) ∙ sym (exceeds-none (evcap + 4) R last (omega (arith, h, room, many)) told)
+          fits : Dec (d .state .evcap < d .state .ev + EVENT) → goal 0
+          fits (yes h) = put .filled z ∙ ap (λ (c : Bool). ifb c 7 0) (lt-ltb (d .state .evcap) (d .state .ev + EVENT) h) ∙ sym (exceeds-events (evcap + EVENT) R last (omega (arith, h, room, many)))
+          fits (no h) = put .filled z ∙ ap (λ (c : Bool). ifb c 7 0) (le-ltb (d .state .evcap) (d .state .ev + EVENT) (omega (arith, h))) ∙ sym (exceeds-none (evcap + EVENT) R last (omega (arith, h, room, many)) told)
 
   -- the finished lists, where none is
   module _ (z : t .full ≡ 0) where
-    m : Means (pastOf L (evcap + 4) R x (reading L x fuel)) x (d .state) (bufs ev₁ er sc) (reading L x fuel)
+    m : Means (pastOf L (evcap + EVENT) R x (reading L x fuel)) x (d .state) (bufs ev₁ er sc) (reading L x fuel)
     m = B .stands .means (put .room z)
 
-    inner : take (t .ev) ev₂ ≡ flat (inside x (reading L x fuel .out)) ++ four 3 k.SOURCE-FILE 0 (length (x .bytes))
-    inner = put .wrote z ∙ ap (λ (l : List ℕ). l ++ four 3 k.SOURCE-FILE 0 (length (x .bytes))) (m .written .is ∙ buffer-read x L (x .ids) fuel)
+    inner : take (t .ev) ev₂ ≡ flat (inside x (reading L x fuel .out)) ++ event Sort.END k.SOURCE-FILE 0 (length (x .bytes))
+    inner = put .wrote z ∙ ap (λ (l : List ℕ). l ++ event Sort.END k.SOURCE-FILE 0 (length (x .bytes))) (m .written .is ∙ buffer-read x L (x .ids) fuel)
 
     fits : t .ev ≤ length ev₂
     fits = omega (arith, put .fits, w .1 .events, put .long)
 
-    events-are : (first rest : List ℕ) → first ≡ four 1 k.SOURCE-FILE 0 (length (x .bytes)) → take (t .ev + 4) (first ++ (ev₂ ++ rest)) ≡ flat (rendered L x (reading L x fuel) .events)
+    events-are : (first rest : List ℕ) → first ≡ event Sort.BEGIN k.SOURCE-FILE 0 (length (x .bytes)) → take (t .ev + EVENT) (first ++ (ev₂ ++ rest)) ≡ flat (rendered L x (reading L x fuel) .events)
     events-are first rest e =
-        ap (λ (l : List ℕ). take (t .ev + 4) (l ++ (ev₂ ++ rest))) e
-        ∙ ap (λ (n : ℕ). take n (four 1 k.SOURCE-FILE 0 (length (x .bytes)) ++ (ev₂ ++ rest))) (add-comm (t .ev) 4)
-        ∙ take-append-add (four 1 k.SOURCE-FILE 0 (length (x .bytes))) (ev₂ ++ rest) (t .ev)
-        ∙ ap (λ (l : List ℕ). four 1 k.SOURCE-FILE 0 (length (x .bytes)) ++ l)
-        (take-append-le (t .ev) ev₂ rest fits ∙ inner ∙ sym (flat-end (inside x (reading L x fuel .out)) (3, k.SOURCE-FILE, 0, length (x .bytes))))
+        ap (λ (l : List ℕ). take (t .ev + EVENT) (l ++ (ev₂ ++ rest))) e
+        ∙ ap (λ (n : ℕ). take n (event Sort.BEGIN k.SOURCE-FILE 0 (length (x .bytes)) ++ (ev₂ ++ rest))) (add-comm (t .ev) EVENT)
+        ∙ take-append-add (event Sort.BEGIN k.SOURCE-FILE 0 (length (x .bytes))) (ev₂ ++ rest) (t .ev)
+        ∙ ap (λ (l : List ℕ). event Sort.BEGIN k.SOURCE-FILE 0 (length (x .bytes)) ++ l)
+        (take-append-le (t .ev) ev₂ rest fits ∙ inner ∙ sym (flat-end (inside x (reading L x fuel .out)) (Sort.END, k.SOURCE-FILE, 0, length (x .bytes))))
 
     records-are : take (d .state .er) er ≡ flat-records (records L x (reading L x fuel .out) [])
     unfolding recorded
     records-are = m .chosen .is ∙ ap (λ (c : List (ℕ × P.Choice)). flat-records (records L x (reading L x fuel .out) [] ++ recorded L x c)) (none-chosen L x fuel) ∙ ap flat-records (append-nil (records L x (reading L x fuel .out) []))
 
-    many-events : t .ev + 4 ≡ 4 * length (rendered L x (reading L x fuel) .events)
+    many-events : t .ev + EVENT ≡ EVENT * length (rendered L x (reading L x fuel) .events)
     many-events =
         let i = inside x (reading L x fuel .out) in
-        omega (arith, put .more z, ev-count w m, sym (flat-length i) ∙ ap length (sym (buffer-read x L (x .ids) fuel)) ∙ buffer-length x (reading L x fuel .out), length-append i ((3, k.SOURCE-FILE, 0, length (x .bytes)) ∷ []))
+        omega (arith, put .more z, ev-count w m, sym (flat-length i) ∙ ap length (sym (buffer-read x L (x .ids) fuel)) ∙ buffer-length x (reading L x fuel .out), length-append i ((Sort.END, k.SOURCE-FILE, 0, length (x .bytes)) ∷ []))
 
     covered : d .state .pos ≡ length (x .ids) - length (reading L x fuel .rest)
     covered = omega (arith, ap length (m .rest) ∙ length-drop (d .state .pos) (x .ids), w .0 .0 .here)
@@ -160,7 +162,7 @@ module _ (L : P.Limits) (x : Source) (fuel evcap R : ℕ) {d : Tally} {t : Whole
     field : {A : Type 0} (f : Whole → A) → f t ≡ f (withEv (t .ev) (withFull (t .full) (d .state)))
     field f = ap f (put .is)
 
-    pub finished : (first rest : List ℕ) → first ≡ four 1 k.SOURCE-FILE 0 (length (x .bytes)) → Finished L x fuel (record { state = t; before = d .before }) (first ++ (ev₂ ++ rest)) er
+    pub finished : (first rest : List ℕ) → first ≡ event Sort.BEGIN k.SOURCE-FILE 0 (length (x .bytes)) → Finished L x fuel (record { state = t; before = d .before }) (first ++ (ev₂ ++ rest)) er
     finished first rest e =
         record {
           events = events-are first rest e;
@@ -175,34 +177,34 @@ module _ (L : P.Limits) (x : Source) (fuel evcap R : ℕ) {d : Tally} {t : Whole
         }
 
 -- all items, from nothing on: xs are the events with the begin event, whose other cells are lent, and l₀ the list of notes
-module _ (L : P.Limits) (x : Source) (fuel : ℕ) (xs er₀ sc₀ l₀ : List ℕ) {d₀ : Desk} (e : d₀ ≡ blank fuel (length xs - 4)) (n : l₀ ≡ replicate 68 0) where
+module _ (L : P.Limits) (x : Source) (fuel : ℕ) (xs er₀ sc₀ l₀ : List ℕ) {d₀ : Desk} (e : d₀ ≡ blank fuel (length xs - EVENT)) (n : l₀ ≡ replicate 68 0) where
   abbrev first : Tally
   first = tally d₀ (set (set l₀ 5 (length er₀)) 9 (L .quote))
 
-  begins : first ≡ tally (blank fuel (length xs - 4)) (clean (length er₀) (L .quote))
+  begins : first ≡ tally (blank fuel (length xs - EVENT)) (clean (length er₀) (L .quote))
   begins = λ i. tally (e i) (set (set (n i) 5 (length er₀)) 9 (L .quote))
 
-  pub opens : 2 * (length (x .ids) + 1) ≤ 64 * length sc₀ → Wf x (bufs (midOf 4 (length xs - 4) xs) er₀ sc₀) (first .state) × Settled (first .state)
+  pub opens : 2 * (length (x .ids) + 1) ≤ 64 * length sc₀ → Wf x (bufs (midOf EVENT (length xs - EVENT) xs) er₀ sc₀) (first .state) × Settled (first .state)
   opens i =
-      subst (λ (c : Tally). Wf x (bufs (midOf 4 (length xs - 4) xs) er₀ sc₀) (c .state) × Settled (c .state)) (sym begins)
-      (blank-wf x fuel (length xs - 4) (length er₀) (L .quote) (midOf 4 (length xs - 4) xs) er₀ sc₀ (omega (arith, mid-len 4 (length xs) xs (le-refl (length xs)))) (le-refl (length er₀)) i, (refl, refl))
+      subst (λ (c : Tally). Wf x (bufs (midOf EVENT (length xs - EVENT) xs) er₀ sc₀) (c .state) × Settled (c .state)) (sym begins)
+      (blank-wf x fuel (length xs - EVENT) (length er₀) (L .quote) (midOf EVENT (length xs - EVENT) xs) er₀ sc₀ (omega (arith, mid-len EVENT (length xs) xs (le-refl (length xs)))) (le-refl (length er₀)) i, (refl, refl))
 
-  pub frames : {depth : ℕ} {d : Tally} {t : Whole} {ev₁ ev₂ er sc : List ℕ} → sc₀ ≡ replicate (length sc₀) 0 → 4 ≤ length xs → (E : ℕ) → length xs ≡ E → take 4 xs ≡ four 1 k.SOURCE-FILE 0 (length (x .bytes)) → L .depth ≡ depth →
-      Goes depth (length (x .ids)) x first d (bufs (midOf 4 (length xs - 4) xs) er₀ sc₀) (bufs ev₁ er sc) → Put (four 3 k.SOURCE-FILE 0 (length (x .bytes))) (d .state) t ev₁ ev₂ →
-      Framed L x fuel E (length er₀) (record { state = t; before = d .before }) (putMid 4 (length xs - 4) xs ev₂) er
+  pub frames : {depth : ℕ} {d : Tally} {t : Whole} {ev₁ ev₂ er sc : List ℕ} → sc₀ ≡ replicate (length sc₀) 0 → EVENT ≤ length xs → (E : ℕ) → length xs ≡ E → take EVENT xs ≡ event Sort.BEGIN k.SOURCE-FILE 0 (length (x .bytes)) → L .depth ≡ depth →
+      Goes depth (length (x .ids)) x first d (bufs (midOf EVENT (length xs - EVENT) xs) er₀ sc₀) (bufs ev₁ er sc) → Put (event Sort.END k.SOURCE-FILE 0 (length (x .bytes))) (d .state) t ev₁ ev₂ →
+      Framed L x fuel E (length er₀) (record { state = t; before = d .before }) (putMid EVENT (length xs - EVENT) xs ev₂) er
   frames {depth} {d} {t} {ev₁} {ev₂} {er} {sc} none h E whole front deep g put =
       record {
-        full = exceeded L x fuel (length xs - 4) (length er₀) B (g .wf) put ∙ ap (λ (n : ℕ). over n (length er₀) (moments L x (reading L x fuel))) room;
-        finished = λ z. finished L x fuel (length xs - 4) (length er₀) B (g .wf) put z (take 4 xs) (postOf 4 (length xs - 4) xs) front;
+        full = exceeded L x fuel (length xs - EVENT) (length er₀) B (g .wf) put ∙ ap (λ (n : ℕ). over n (length er₀) (moments L x (reading L x fuel))) room;
+        finished = λ z. finished L x fuel (length xs - EVENT) (length er₀) B (g .wf) put z (take EVENT xs) (postOf EVENT (length xs - EVENT) xs) front;
       }
     where
-      room : length xs - 4 + 4 ≡ E
+      room : length xs - EVENT + EVENT ≡ E
       room = omega (arith, h, whole)
 
-      B : Between L (length xs - 4 + 4) (length er₀) x d (bufs ev₁ er sc) (reading L x fuel)
+      B : Between L (length xs - EVENT + EVENT) (length er₀) x d (bufs ev₁ er sc) (reading L x fuel)
       B =
-          reads L x fuel (length xs - 4) (length er₀) (midOf 4 (length xs - 4) xs) er₀ sc₀ (λ i. ap (λ (l : List ℕ). bitAt l i) none ∙ no-bits (length sc₀) i) deep
-          (subst (λ (c : Tally). Goes depth (length (x .ids)) x c d (bufs (midOf 4 (length xs - 4) xs) er₀ sc₀) (bufs ev₁ er sc)) begins g)
+          reads L x fuel (length xs - EVENT) (length er₀) (midOf EVENT (length xs - EVENT) xs) er₀ sc₀ (λ i. ap (λ (l : List ℕ). bitAt l i) none ∙ no-bits (length sc₀) i) deep
+          (subst (λ (c : Tally). Goes depth (length (x .ids)) x c d (bufs (midOf EVENT (length xs - EVENT) xs) er₀ sc₀) (bufs ev₁ er sc)) begins g)
 
 -- outcomes by the code's mode
 pub done : (m : ℕ) → m < 2 → 0 ≡ outcomeOf m

@@ -11,10 +11,11 @@ use lib.ListN.{length, getD, drop, drop-of-length-le, length-append}
 use lib.Seq.{drop-cons}
 use Rattle.kinds.specs.Sets.{pick}
 use Rattle.kinds.specs.Answers.{isSome}
+use Rattle.shapes.specs.Shapes.{Rec}
 use Rattle.definition.specs.Grammar.{rule-decl}
 use Rattle.definition.specs.Run as P
 use Rattle.definition.specs.Run.{Choice, Limits, Next, end, other, hit}
-use Rattle.definition.specs.Render.{Source, Rec, records}
+use Rattle.definition.specs.Render.{Source, records}
 use Rattle.notes.specs.Whole.{Whole}
 use Rattle.notes.specs.Means.{Bufs, Past, Means, Stands, Apart, recorded, overOf}
 use Rattle.notes.specs.Did.{Wf, Did, Below, Distinct}

@@ -7,9 +7,11 @@ use native.Mathlib.Omega.{arith}
 use lib.ListN.{length, getD, take, replicate, length-replicate, length-drop}
 use lib.Seq.{take-take}
 use Rattle.kinds.specs.Kinds as k
+use Rattle.shapes.specs.Sort as Sort
+use Rattle.shapes.specs.Shapes.{EVENT, event}
 use Rattle.definition.specs.Run as P
 use Rattle.definition.specs.Run.{opened}
-use Rattle.definition.specs.Buffer.{four, buffer}
+use Rattle.definition.specs.Buffer.{buffer}
 use Rattle.definition.specs.Open.{Open}
 use Rattle.definition.specs.Render.{Source, starts-at}
 use Rattle.definition.proofs.Buffer.{buffer-opened, adding}
@@ -45,14 +47,14 @@ pub any : (x : Source) (s : Whole) (ev : List ℕ) → Ok (length (x .ids)) s �
 any x s ev w h = lent x s ev (replicate (s .ercap) 0) w h (omega (arith, length-replicate {A = ℕ} (s .ercap) 0))
 
 module _ (x : Source) {s s₁ : Whole} {ev ev₁ : List ℕ} (st : ℕ) (l : Lines (x .ids) (x .ends)) (w : Ok (length (x .ids)) s) (h : s .evcap ≤ length ev) (q : st ≡ getD (0 ∷ x .ends) (s .pos) 0)
-    (u : Put (four 1 0 st st) s s₁ ev ev₁) where
+    (u : Put (event Sort.BEGIN 0 st st) s s₁ ev ev₁) where
   junk-opens : (er sc : List ℕ) → Wf x (bufs ev er sc) s → Did opens x s s₁ (bufs ev er sc) (bufs ev₁ er sc)
   junk-opens er sc v =
       writes u (λ a. opened (length (a .rest))) (λ a. tt) v
       (λ p a m.
       let e : length (x .ids) - length (a .rest) ≡ s .pos = ap (λ (r : List ℕ). length (x .ids) - length r) (m .rest) ∙ row (s .pos) (x .ids) (w .0 .here) in
       let z : starts-at x (length (a .rest)) ≡ st = start-is x (length (a .rest)) (s .pos) e (omega (arith, l .level, w .0 .here)) ∙ sym q in
-      buffer-opened x (length (a .rest)) (a .out) ∙ ap (λ (i : ℕ). buffer x (a .out) ++ four 1 0 i i) z)
+      buffer-opened x (length (a .rest)) (a .out) ∙ ap (λ (i : ℕ). buffer x (a .out) ++ event Sort.BEGIN 0 i i) z)
 
   place : s₁ .pos ≡ s .pos
   place = ap (λ (y : Whole). y .pos) (u .is)
@@ -65,7 +67,7 @@ module _ (x : Source) {s s₁ : Whole} {ev ev₁ : List ℕ} (st : ℕ) (l : Lin
     on : Did skips x s₁ s₂ (bufs ev₁ (replicate (s₁ .ercap) 0) (enough x)) (bufs ev₂ (replicate (s₁ .ercap) 0) (enough x))
     on = y .did (replicate (s₁ .ercap) 0) (enough x) (any x s₁ ev₁ (junk-skip .0) (junk-skip .1))
 
-    pub junk-shut : ((s₂ .ev ≤ s₂ .evcap) × (s₂ .evcap ≤ length ev₂)) × (s₂ .pos ≤ length (x .ends)) × (s .pos ≤ s₂ .pos) × (s₂ .full ≡ 0 → (4 ≤ s₁ .ev) × (s₁ .ev ≤ s₂ .ev))
+    pub junk-shut : ((s₂ .ev ≤ s₂ .evcap) × (s₂ .evcap ≤ length ev₂)) × (s₂ .pos ≤ length (x .ends)) × (s .pos ≤ s₂ .pos) × (s₂ .full ≡ 0 → (EVENT ≤ s₁ .ev) × (s₁ .ev ≤ s₂ .ev))
     junk-shut = ((y .ok .2 .events, y .fits), omega (arith, y .ok .0 .here, l .level), omega (arith, on .ahead, place), λ z. (omega (arith, u .more (on .room z)), y .grows))
 
     module _ {r : Whole} {ev₃ : List ℕ} (e : (er sc : List ℕ) → Wf x (bufs ev₂ er sc) s₂ → Shuts (shutA k.ERROR (length (x .ids) - s .pos)) (s₁ .ev) x s₂ r (bufs ev₂ er sc) (bufs ev₃ er sc)) where

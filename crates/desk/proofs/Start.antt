@@ -5,6 +5,7 @@ use mathlib.Core.List.{List, []}
 use mathlib.Core.Bool.{false}
 use native.Mathlib.Omega.{arith}
 use lib.ListN.{length}
+use Rattle.shapes.specs.Shapes.{EVENT}
 use Rattle.definition.specs.Run as P
 use Rattle.definition.specs.Run.{Limits}
 use Rattle.definition.specs.Render.{Source, used}
@@ -15,7 +16,7 @@ use Rattle.notes.proofs.Rooms.{exceeds-none}
 use Rattle.desk.specs.Items.{Tally, tally, blank, clean, pastOf, Between, Goes}
 
 module _ (L : Limits) (x : Source) (fuel evcap ercap : ℕ) (ev er sc : List ℕ) (none : (i : ℕ) → bitAt sc i ≡ false) where
-  start-means : Means (pastOf L (evcap + 4) ercap x (P.start (x .ids) fuel)) x (tally (blank fuel evcap) (clean ercap (L .quote)) .state) (bufs ev er sc) (P.start (x .ids) fuel)
+  start-means : Means (pastOf L (evcap + EVENT) ercap x (P.start (x .ids) fuel)) x (tally (blank fuel evcap) (clean ercap (L .quote)) .state) (bufs ev er sc) (P.start (x .ids) fuel)
   unfolding recorded
   start-means =
       record {
@@ -29,14 +30,14 @@ module _ (L : Limits) (x : Source) (fuel evcap ercap : ℕ) (ev er sc : List ℕ
         cache = record { expr = λ p h. none (2 * p); term = λ p h. none (2 * p + 1); below = λ i h. none i; above = λ i h. none i };
       }
 
-  pub starts : Between L (evcap + 4) ercap x (tally (blank fuel evcap) (clean ercap (L .quote))) (bufs ev er sc) (P.start (x .ids) fuel)
+  pub starts : Between L (evcap + EVENT) ercap x (tally (blank fuel evcap) (clean ercap (L .quote))) (bufs ev er sc) (P.start (x .ids) fuel)
   unfolding overOf
   starts =
       record {
-        stands = record { over = sym (exceeds-none (evcap + 4) ercap (used L x ([], [])) (omega arith) (omega arith)); means = λ z. start-means };
+        stands = record { over = sym (exceeds-none (evcap + EVENT) ercap (used L x ([], [])) (omega arith) (omega arith)); means = λ z. start-means };
         count = λ z. refl;
         few = λ z y. ((λ o. refl), omega arith);
       }
 
-  pub reads : {depth : ℕ} {r : Tally} {b′ : Bufs} → L .depth ≡ depth → Goes depth (length (x .ids)) x (tally (blank fuel evcap) (clean ercap (L .quote))) r (bufs ev er sc) b′ → Between L (evcap + 4) ercap x r b′ (P.read L (x .ids) fuel)
-  reads e g = g .does L (evcap + 4) ercap (P.start (x .ids) fuel) e starts
+  pub reads : {depth : ℕ} {r : Tally} {b′ : Bufs} → L .depth ≡ depth → Goes depth (length (x .ids)) x (tally (blank fuel evcap) (clean ercap (L .quote))) r (bufs ev er sc) b′ → Between L (evcap + EVENT) ercap x r b′ (P.read L (x .ids) fuel)
+  reads e g = g .does L (evcap + EVENT) ercap (P.start (x .ids) fuel) e starts

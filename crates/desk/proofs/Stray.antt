@@ -7,9 +7,10 @@ use native.Mathlib.Omega.{arith}
 use borrow.Author.Tests.{ltb-true, ltb-false}
 use lib.Dec.{ltb}
 use lib.ListN.{length, getD, length-drop}
+use Rattle.shapes.specs.Shapes.{HEAD, Rec, flat-records}
 use Rattle.definition.specs.Run as P
 use Rattle.definition.specs.Run.{Choice, bad, stray}
-use Rattle.definition.specs.Render.{Source, Rec, flat-records, used, held}
+use Rattle.definition.specs.Render.{Source, used, held}
 use Rattle.notes.specs.Whole.{Whole}
 use Rattle.notes.specs.Bits.{ifb}
 use Rattle.choice.specs.Choice as C
@@ -70,11 +71,11 @@ module _ (x : Source) (s s₁ : Whole) (before st en : ℕ) (ev er er₁ sc : Li
 
     noted-over : s₁ .full ≡ overOf p x (noted a)
     unfolding overOf
-    noted-over = u .filled ∙ go (ltb (s .ercap) (s .er + 4)) refl ∙ ap (λ (i : ℕ). first-of i (spill p x (a .out) one)) (sym z ∙ t .over)
+    noted-over = u .filled ∙ go (ltb (s .ercap) (s .er + HEAD)) refl ∙ ap (λ (i : ℕ). first-of i (spill p x (a .out) one)) (sym z ∙ t .over)
       where
-        go : (c : Bool) → ltb (s .ercap) (s .er + 4) ≡ c → _≡_ {A = ℕ} (ifb c 8 0) (spill p x (a .out) one)
-        go true i = let g : s .ercap < s .er + 4 = ltb-true (s .ercap) (s .er + 4) i in sym (exceeds-errors (p .event-room) (p .error-room) (used (p .limits) x (a .out, one)) (fits w m .0) (omega (arith, er-count w m, ap (held (p .limits) x) e, m .chosen .room)))
-        go false i = let g : s .er + 4 ≤ s .ercap = ltb-false (s .ercap) (s .er + 4) i in sym (exceeds-none (p .event-room) (p .error-room) (used (p .limits) x (a .out, one)) (fits w m .0) (omega (arith, er-count w m, ap (held (p .limits) x) e, m .chosen .room)))
+        go : (c : Bool) → ltb (s .ercap) (s .er + HEAD) ≡ c → _≡_ {A = ℕ} (ifb c 8 0) (spill p x (a .out) one)
+        go true i = let g : s .ercap < s .er + HEAD = ltb-true (s .ercap) (s .er + HEAD) i in sym (exceeds-errors (p .event-room) (p .error-room) (used (p .limits) x (a .out, one)) (fits w m .0) (omega (arith, er-count w m, ap (held (p .limits) x) e, m .chosen .room)))
+        go false i = let g : s .er + HEAD ≤ s .ercap = ltb-false (s .ercap) (s .er + HEAD) i in sym (exceeds-none (p .event-room) (p .error-room) (used (p .limits) x (a .out, one)) (fits w m .0) (omega (arith, er-count w m, ap (held (p .limits) x) e, m .chosen .room)))
 
     none : recorded (p .limits) x (a .chosen) ≡ []
     unfolding recorded

@@ -10,10 +10,12 @@ use borrow.Author.Tests.{ltb-true, ltb-false}
 use lib.Dec.{ltb}
 use lib.ListN.{length, take, drop, length-append}
 use lib.Seq.{length-take-le, take-add, drop-at}
+use Rattle.shapes.specs.Sort as Sort
+use Rattle.shapes.specs.Shapes.{EVENT, event, Rec, flat-records}
 use Rattle.definition.specs.Run as P
 use Rattle.definition.specs.Run.{Event, opened, leaf, closed, bad, Choice, Limits}
-use Rattle.definition.specs.Buffer.{four, buffer}
-use Rattle.definition.specs.Render.{Source, Rec, record-of, records, flat-records, bads, said, used, starts-at, ends-at}
+use Rattle.definition.specs.Buffer.{buffer}
+use Rattle.definition.specs.Render.{Source, record-of, records, bads, said, used, starts-at, ends-at}
 use Rattle.definition.proofs.Buffer.{buffer-bad, buffer-length}
 use Rattle.notes.specs.Whole.{Whole}
 use Rattle.notes.specs.Bits.{ifb}
@@ -62,7 +64,7 @@ module _ (L : Limits) (x : Source) where
   errors-buffer [] o h = sym (ap (λ (l : List ℕ). buffer x o ++ l) (notes-none (bads o)) ∙ append-nil (buffer x o))
   errors-buffer (e ∷ es) o h =
       let r : Rec = record-of L x (e .0) (e .1) in
-      let q = four 4 (bads o) (starts-at x (e .0)) (ends-at x (e .0)) in
+      let q = event Sort.ERROR (bads o) (starts-at x (e .0)) (ends-at x (e .0)) in
       let l = notes (suc (bads o)) 0 (flat-records (recorded L x es)) in
       errors-buffer es (bad (e .0) (e .1) ∷ o) (omega arith)
       ∙ ap (λ (k : List ℕ). k ++ l) (buffer-bad x (e .0) (e .1) o)
@@ -99,7 +101,7 @@ module _ (x : Source) (s : Whole) (before : ℕ) (d : Tally) (ev ev′ er sc : L
         errors-buffer (p .limits) x (a .chosen) (a .out) (omega (arith, n z .1))
         ∙ ap₂ (λ (i : ℕ) (l : List ℕ). buffer x (a .out) ++ notes i 0 l) c (sym (item-part (m .chosen) (w .0 .2 .since) (omega (arith, w .0 .2 .errors, w .1 .errors))))
 
-    size : s .full ≡ 0 → length q ≡ 4 * length (a .chosen)
+    size : s .full ≡ 0 → length q ≡ EVENT * length (a .chosen)
     size z = omega (arith, ap length (wrote z), length-append (buffer x (a .out)) q, buffer-length x out′, buffer-length x (a .out), errors-length (p .limits) x (a .chosen) (a .out))
 
     spills : s .full ≡ 0 → d .state .full ≡ spill p x out′ []
@@ -108,7 +110,7 @@ module _ (x : Source) (s : Whole) (before : ℕ) (d : Tally) (ev ev′ er sc : L
         m : Means p x s (bufs ev er sc) a
         m = t .means z
 
-        big : 4 * length out′ ≡ s .ev + length q
+        big : EVENT * length out′ ≡ s .ev + length q
         big = omega (arith, size z, errors-length (p .limits) x (a .chosen) (a .out), ev-count w m)
 
         same : said (p .limits) x out′ ≡ s .er

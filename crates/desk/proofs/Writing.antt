@@ -10,8 +10,10 @@ use native.Mathlib.Decide.{ℕ-discrete}
 use borrow.Author.Tests.{le-ltb, lt-ltb, ltb-true}
 use lib.Dec.{ltb}
 use lib.ListN.{length, getD, take, drop, length-append, length-drop}
-use lib.Seq.{take-take, getD-drop, drop-drop, drop-append-seam}
-use Rattle.definition.specs.Buffer.{four}
+use lib.Seq.{take-take, getD-drop, drop-append-seam}
+use Rattle.shapes.specs.Sort as Sort
+use Rattle.shapes.proofs.Laws.{next-within, next-rest}
+use Rattle.shapes.specs.Shapes.{EVENT, event, HEAD, COUNT, next-record}
 use Rattle.notes.specs.Whole.{Whole}
 use Rattle.notes.specs.Bits.{ifb}
 use Rattle.notes.specs.Change.{withEv, withFull}
@@ -25,17 +27,17 @@ notes-pass i zero l = refl
 notes-pass i (suc k) [] = refl
 notes-pass i (suc k) (a ∷ l) = notes-pass i k l
 
-notes-head : (i : ℕ) (l : List ℕ) → i < most → 4 ≤ length l → notes i 0 l ≡ four 4 i (getD l 0 0) (getD l 1 0) ++ notes (suc i) 0 (drop (getD l 3 0 + 4) l)
+notes-head : (i : ℕ) (l : List ℕ) → i < most → HEAD ≤ length l → notes i 0 l ≡ event Sort.ERROR i (getD l 0 0) (getD l 1 0) ++ notes (suc i) 0 (drop (getD l 3 0 + HEAD) l)
 unfolding notes
 notes-head i [] g h = absurd (omega arith)
 notes-head i (a ∷ []) g h = absurd (omega arith)
 notes-head i (a ∷ b ∷ []) g h = absurd (omega arith)
 notes-head i (a ∷ b ∷ f ∷ []) g h = absurd (omega arith)
 notes-head i (a ∷ b ∷ f ∷ n ∷ l) g h =
-    ap (λ (c : Bool). elim c [ true ↦ four 4 i a b ++ notes (suc i) n l | false ↦ [] ]) (lt-ltb i most g)
-    ∙ ap (λ (t : List ℕ). four 4 i a b ++ t) (notes-pass (suc i) n l ∙ ap (λ (j : ℕ). notes (suc i) 0 (drop j (a ∷ b ∷ f ∷ n ∷ l))) (sym (add-four n)))
+    ap (λ (c : Bool). elim c [ true ↦ event Sort.ERROR i a b ++ notes (suc i) n l | false ↦ [] ]) (lt-ltb i most g)
+    ∙ ap (λ (t : List ℕ). event Sort.ERROR i a b ++ t) (notes-pass (suc i) n l ∙ ap (λ (j : ℕ). notes (suc i) 0 (drop j (a ∷ b ∷ f ∷ n ∷ l))) (sym (add-four n)))
 
-notes-few : (i : ℕ) (l : List ℕ) → length l < 4 → notes i 0 l ≡ []
+notes-few : (i : ℕ) (l : List ℕ) → length l < HEAD → notes i 0 l ≡ []
 unfolding notes
 notes-few i [] h = refl
 notes-few i (a ∷ []) h = refl
@@ -49,14 +51,14 @@ notes-most i [] h = refl
 notes-most i (a ∷ []) h = refl
 notes-most i (a ∷ b ∷ []) h = refl
 notes-most i (a ∷ b ∷ f ∷ []) h = refl
-notes-most i (a ∷ b ∷ f ∷ n ∷ l) h = ap (λ (c : Bool). elim c [ true ↦ four 4 i a b ++ notes (suc i) n l | false ↦ [] ]) (le-ltb i most (omega (arith, h)))
+notes-most i (a ∷ b ∷ f ∷ n ∷ l) h = ap (λ (c : Bool). elim c [ true ↦ event Sort.ERROR i a b ++ notes (suc i) n l | false ↦ [] ]) (le-ltb i most (omega (arith, h)))
 
-notes-at : (i : ℕ) (l : List ℕ) (at : ℕ) → i < most → at + 4 ≤ length l → notes i 0 (drop at l) ≡ four 4 i (getD l at 0) (getD l (at + 1) 0) ++ notes (suc i) 0 (drop (at + getD l (at + 3) 0 + 4) l)
+notes-at : (i : ℕ) (l : List ℕ) (at : ℕ) → i < most → at + HEAD ≤ length l → notes i 0 (drop at l) ≡ event Sort.ERROR i (getD l at 0) (getD l (at + 1) 0) ++ notes (suc i) 0 (drop (next-record l at) l)
 notes-at i l at g h =
-    let n : at + (getD (drop at l) 3 0 + 4) ≡ at + getD l (at + 3) 0 + 4 = omega (arith, getD-drop at l 3 0) in
+    let n : getD (drop at l) 3 0 + HEAD ≡ HEAD + getD (drop at l) COUNT 0 = omega arith in
     notes-head i (drop at l) g (omega (arith, length-drop at l))
-    ∙ ap₂ (λ (a b : ℕ). four 4 i a b ++ notes (suc i) 0 (drop (getD (drop at l) 3 0 + 4) (drop at l))) (getD-drop at l 0 0 ∙ ap (λ (j : ℕ). getD l j 0) (add-zero at)) (getD-drop at l 1 0)
-    ∙ ap (λ (t : List ℕ). four 4 i (getD l at 0) (getD l (at + 1) 0) ++ notes (suc i) 0 t) (drop-drop (getD (drop at l) 3 0 + 4) at l ∙ ap (λ (j : ℕ). drop j l) n)
+    ∙ ap₂ (λ (a b : ℕ). event Sort.ERROR i a b ++ notes (suc i) 0 (drop (getD (drop at l) 3 0 + HEAD) (drop at l))) (getD-drop at l 0 0 ∙ ap (λ (j : ℕ). getD l j 0) (add-zero at)) (getD-drop at l 1 0)
+    ∙ ap (λ (t : List ℕ). event Sort.ERROR i (getD l at 0) (getD l (at + 1) 0) ++ notes (suc i) 0 t) (ap (λ (j : ℕ). drop j (drop at l)) n ∙ sym (next-rest l at))
 
 -- WHAT IS WRITTEN
 pub puts-none : {s : Whole} {ev : List ℕ} → s .ev ≤ s .evcap → Puts [] s s ev ev
@@ -75,31 +77,31 @@ puts-none {s} {ev} h =
     }
 
 -- one event more
-module _ {q : List ℕ} {s r t : Whole} {ev ev₁ ev₂ : List ℕ} (u : Puts q s r ev ev₁) (a b c d : ℕ) (v : Put (four a b c d) r t ev₁ ev₂) where
+module _ {q : List ℕ} {s r t : Whole} {ev ev₁ ev₂ : List ℕ} (u : Puts q s r ev ev₁) (a b c d : ℕ) (v : Put (event a b c d) r t ev₁ ev₂) where
   caps : r .evcap ≡ s .evcap
   caps = ap (λ (y : Whole). y .evcap) (u .is)
 
-  longer : length (q ++ four a b c d) ≡ length q + 4
-  longer = length-append q (four a b c d)
+  longer : length (q ++ event a b c d) ≡ length q + EVENT
+  longer = length-append q (event a b c d)
 
-  fills : s .full ≡ 0 → Dec (r .full ≡ 0) → t .full ≡ ifb (ltb (s .evcap) (s .ev + length (q ++ four a b c d))) 7 0
+  fills : s .full ≡ 0 → Dec (r .full ≡ 0) → t .full ≡ ifb (ltb (s .evcap) (s .ev + length (q ++ event a b c d))) 7 0
   fills z (yes y) =
-      let e : r .ev + 4 ≡ s .ev + length (q ++ four a b c d) = omega (arith, u .more y, longer) in
+      let e : r .ev + EVENT ≡ s .ev + length (q ++ event a b c d) = omega (arith, u .more y, longer) in
       v .filled y ∙ ap₂ (λ (i j : ℕ). ifb {A = ℕ} (ltb i j) 7 0) caps e
   fills z (no n) = v .stuck n ∙ u .filled z ∙ go (ltb (s .evcap) (s .ev + length q)) refl
     where
-      go : (e : Bool) → ltb (s .evcap) (s .ev + length q) ≡ e → _≡_ {A = ℕ} (ifb e 7 0) (ifb (ltb (s .evcap) (s .ev + length (q ++ four a b c d))) 7 0)
-      go true e = let l : s .evcap < s .ev + length q = ltb-true (s .evcap) (s .ev + length q) e in ap (λ (f : Bool). ifb f 7 0) (sym (lt-ltb (s .evcap) (s .ev + length (q ++ four a b c d)) (omega (arith, longer))))
+      go : (e : Bool) → ltb (s .evcap) (s .ev + length q) ≡ e → _≡_ {A = ℕ} (ifb e 7 0) (ifb (ltb (s .evcap) (s .ev + length (q ++ event a b c d))) 7 0)
+      go true e = let l : s .evcap < s .ev + length q = ltb-true (s .evcap) (s .ev + length q) e in ap (λ (f : Bool). ifb f 7 0) (sym (lt-ltb (s .evcap) (s .ev + length (q ++ event a b c d)) (omega (arith, longer))))
       go false e = absurd (n (u .filled z ∙ ap (λ (f : Bool). ifb f 7 0) e))
 
-  pub puts-more : Puts (q ++ four a b c d) s t ev ev₂
+  pub puts-more : Puts (q ++ event a b c d) s t ev ev₂
   puts-more =
       record {
         is = v .is ∙ ap (λ (y : Whole). withEv (t .ev) (withFull (t .full) y)) (u .is);
         stuck = λ n. v .stuck (λ z. n (u .room z)) ∙ u .stuck n;
         filled = λ z. fills z (ℕ-discrete (r .full) 0);
         room = λ z. u .room (v .room z);
-        wrote = λ z. v .wrote z ∙ ap (λ (l : List ℕ). l ++ four a b c d) (u .wrote (v .room z)) ∙ append-assoc (take (s .ev) ev) q (four a b c d);
+        wrote = λ z. v .wrote z ∙ ap (λ (l : List ℕ). l ++ event a b c d) (u .wrote (v .room z)) ∙ append-assoc (take (s .ev) ev) q (event a b c d);
         more = λ z. omega (arith, v .more z, u .more (v .room z), longer);
         fits = omega (arith, v .fits, caps);
         grows = le-trans (u .grows) (v .grows);
@@ -112,9 +114,9 @@ pub record Flushing (records : List ℕ) (before : ℕ) (s r : Whole) (ev ev′ 
   pub done : List ℕ
   pub joins : done ++ notes index 0 (drop at records) ≡ notes before 0 records
   pub puts : Puts done s r ev ev′
-  pub counted : 4 * index ≡ 4 * before + length done
+  pub counted : EVENT * index ≡ EVENT * before + length done
   pub fits : r .evcap ≤ length ev′
-  pub near : at ≤ length records + 4294967296
+  pub near : at ≤ length records
   pub low : index ≤ most
 
 pub flushing : {records : List ℕ} {before : ℕ} {s : Whole} {ev : List ℕ} → s .ev ≤ s .evcap → s .evcap ≤ length ev → before ≤ most → Flushing records before s s ev ev 0 before
@@ -124,19 +126,19 @@ module _ {records : List ℕ} {before : ℕ} {s r : Whole} {ev ev′ : List ℕ}
   pub flush-open : (r .ev ≤ r .evcap) × (r .evcap ≤ length ev′)
   flush-open = (omega (arith, f .puts .fits, ap (λ (y : Whole). y .evcap) (f .puts .is)), f .fits)
 
-  pub flush-on : {t : Whole} {ev₂ : List ℕ} → at + 4 ≤ length records → (index ≡ most → ⊥) → getD records (at + 3) 0 < 4294967296 → Put (four 4 index (getD records at 0) (getD records (at + 1) 0)) r t ev′ ev₂ → Flushing records before s t ev ev₂ (at + getD records (at + 3) 0 + 4) (index + 1)
-  flush-on {t} {ev₂} h n w v =
-      let q = four 4 index (getD records at 0) (getD records (at + 1) 0) in
+  pub flush-on : {t : Whole} {ev₂ : List ℕ} → at + HEAD ≤ length records → (index ≡ most → ⊥) → Put (event Sort.ERROR index (getD records at 0) (getD records (at + 1) 0)) r t ev′ ev₂ → Flushing records before s t ev ev₂ (next-record records at) (index + 1)
+  flush-on {t} {ev₂} h n v =
+      let q = event Sort.ERROR index (getD records at 0) (getD records (at + 1) 0) in
       record {
         done = f .done ++ q;
         joins =
-            append-assoc (f .done) q (notes (index + 1) 0 (drop (at + getD records (at + 3) 0 + 4) records))
-            ∙ ap (λ (l : List ℕ). f .done ++ l) (ap (λ (i : ℕ). q ++ notes i 0 (drop (at + getD records (at + 3) 0 + 4) records)) (native.Mathlib.Numerals.add-one index) ∙ sym (notes-at index records at (omega (arith, n, f .low)) h))
+            append-assoc (f .done) q (notes (index + 1) 0 (drop (next-record records at) records))
+            ∙ ap (λ (l : List ℕ). f .done ++ l) (ap (λ (i : ℕ). q ++ notes i 0 (drop (next-record records at) records)) (native.Mathlib.Numerals.add-one index) ∙ sym (notes-at index records at (omega (arith, n, f .low)) h))
             ∙ f .joins;
-        puts = puts-more (f .puts) 4 index (getD records at 0) (getD records (at + 1) 0) v;
+        puts = puts-more (f .puts) Sort.ERROR index (getD records at 0) (getD records (at + 1) 0) v;
         counted = omega (arith, f .counted, length-append (f .done) q);
         fits = omega (arith, f .fits, v .long, ap (λ (y : Whole). y .evcap) (v .is));
-        near = omega arith;
+        near = next-within records at;
         low = omega (arith, n, f .low);
       }
 
@@ -144,20 +146,20 @@ module _ {records : List ℕ} {before : ℕ} {s r : Whole} {ev ev′ : List ℕ}
   flush-all : notes index 0 (drop at records) ≡ [] → Flushed records before s (record { state = r; before = index }) ev ev′
   flush-all e =
       let d : f .done ≡ notes before 0 records = sym (append-nil (f .done)) ∙ ap (λ (l : List ℕ). f .done ++ l) (sym e) ∙ f .joins in
-      record { puts = subst (λ (q : List ℕ). Puts q s r ev ev′) d (f .puts); counted = f .counted ∙ ap (λ (q : List ℕ). 4 * before + length q) d }
+      record { puts = subst (λ (q : List ℕ). Puts q s r ev ev′) d (f .puts); counted = f .counted ∙ ap (λ (q : List ℕ). EVENT * before + length q) d }
 
-  pub flush-out : length records < at + 4 → Flushed records before s (record { state = r; before = index }) ev ev′
+  pub flush-out : length records < at + HEAD → Flushed records before s (record { state = r; before = index }) ev ev′
   flush-out h = flush-all (notes-few index (drop at records) (omega (arith, length-drop at records)))
 
   pub flush-most : index ≡ most → Flushed records before s (record { state = r; before = index }) ev ev′
   flush-most h = flush-all (notes-most index (drop at records) h)
 
 -- records as they stand
-pub notes-one : (i a b f : ℕ) (ns l : List ℕ) → i < most → notes i 0 (a ∷ b ∷ f ∷ length ns ∷ ns ++ l) ≡ four 4 i a b ++ notes (suc i) 0 l
+pub notes-one : (i a b f : ℕ) (ns l : List ℕ) → i < most → notes i 0 (a ∷ b ∷ f ∷ length ns ∷ ns ++ l) ≡ event Sort.ERROR i a b ++ notes (suc i) 0 l
 unfolding notes
 notes-one i a b f ns l h =
-    ap (λ (c : Bool). elim c [ true ↦ four 4 i a b ++ notes (suc i) (length ns) (ns ++ l) | false ↦ [] ]) (lt-ltb i most h)
-    ∙ ap (λ (t : List ℕ). four 4 i a b ++ t) (notes-pass (suc i) (length ns) (ns ++ l) ∙ ap (notes (suc i) 0) (drop-append-seam ns l))
+    ap (λ (c : Bool). elim c [ true ↦ event Sort.ERROR i a b ++ notes (suc i) (length ns) (ns ++ l) | false ↦ [] ]) (lt-ltb i most h)
+    ∙ ap (λ (t : List ℕ). event Sort.ERROR i a b ++ t) (notes-pass (suc i) (length ns) (ns ++ l) ∙ ap (notes (suc i) 0) (drop-append-seam ns l))
 
 pub notes-none : (i : ℕ) → notes i 0 [] ≡ []
 unfolding notes

@@ -3,9 +3,10 @@ use Prim.Native.Nat.{ℕ, _+_, _-_, _*_, _/_, _≤_}
 use mathlib.Core.Path.{_≡_}
 use mathlib.Core.List.{List, _++_}
 use lib.ListN.{length, take, replicate}
+use Rattle.shapes.specs.Shapes.{EVENT, flat, flat-records}
 use Rattle.definition.specs.Run as P
 use Rattle.definition.specs.Run.{Limits}
-use Rattle.definition.specs.Render.{Source, Reading, rendered, outcome-of, moments, over, flat, flat-records}
+use Rattle.definition.specs.Render.{Source, Reading, rendered, outcome-of, moments, over}
 use Rattle.definition.specs.Answer.{After, refusing}
 use Rattle.notes.specs.Means.{modeOf}
 use Rattle.desk.specs.declared.items.Desk.{Desk}
@@ -29,12 +30,12 @@ outcomeOf m = outcome-of (modeOf m)
 -- the answer of a state that has finished with so many numbers of error records, where the lists are as given: zeros behind them, and in scratch
 abbrev pub answering : Desk → ℕ → List ℕ → List ℕ → List ℕ → After
 answering d left ev er sc =
-    let to = d .state .ev + 4 in
+    let to = d .state .ev + EVENT in
     record {
       number = 0;
       outcome = outcomeOf (d .state .mode);
       covered = d .state .pos;
-      event-count = to / 4;
+      event-count = to / EVENT;
       error-count = d .before;
       left = d .state .fuel;
       events = take to ev ++ replicate (length ev - to) 0;
@@ -47,13 +48,13 @@ reading L x fuel = P.read L (x .ids) fuel
 
 -- the lists that a reading gives, and its numbers, E and R being the rooms
 pub record Finished (L : Limits) (x : Source) (fuel : ℕ) (r : Tally) (ev er : List ℕ) : Type 0 where
-  pub events : take (r .state .ev + 4) ev ≡ flat (rendered L x (reading L x fuel) .events)
+  pub events : take (r .state .ev + EVENT) ev ≡ flat (rendered L x (reading L x fuel) .events)
   pub errors : take (r .state .er) er ≡ flat-records (rendered L x (reading L x fuel) .errors)
-  pub event-fits : r .state .ev + 4 ≤ length ev
+  pub event-fits : r .state .ev + EVENT ≤ length ev
   pub error-fits : r .state .er ≤ length er
   pub outcome : outcomeOf (r .state .mode) ≡ rendered L x (reading L x fuel) .outcome
   pub covered : r .state .pos ≡ rendered L x (reading L x fuel) .covered
-  pub event-count : r .state .ev + 4 ≡ 4 * length (rendered L x (reading L x fuel) .events)
+  pub event-count : r .state .ev + EVENT ≡ EVENT * length (rendered L x (reading L x fuel) .events)
   pub error-count : r .before ≡ length (rendered L x (reading L x fuel) .errors)
   pub left : r .state .fuel ≡ rendered L x (reading L x fuel) .left
 

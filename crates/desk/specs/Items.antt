@@ -6,10 +6,11 @@ use mathlib.Core.Bool.{Bool, true, false}
 use lib.Dec.{eqb, leb, ltb}
 use lib.ListN.{length, take, set, replicate}
 use Rattle.kinds.specs.Kinds as k
+use Rattle.shapes.specs.Sort as Sort
+use Rattle.shapes.specs.Shapes.{EVENT, event, Rec}
 use Rattle.definition.specs.Run as P
 use Rattle.definition.specs.Run.{Limits}
-use Rattle.definition.specs.Buffer.{four}
-use Rattle.definition.specs.Render.{Source, Rec, records}
+use Rattle.definition.specs.Render.{Source, records}
 use Rattle.notes.specs.Whole.{Whole}
 use Rattle.notes.specs.Bits.{ifb}
 use Rattle.notes.specs.Change.{withEv, withFull}
@@ -34,7 +35,7 @@ most = 4294967295
 -- the error events of records, the first with index i, where k numbers are still to be passed over
 unfoldable pub notes : ℕ → ℕ → List ℕ → List ℕ
 notes i (suc k) (a ∷ l) = notes i k l
-notes i zero (a ∷ b ∷ form ∷ n ∷ l) = elim (ltb i most) [ true ↦ four 4 i a b ++ notes (suc i) n l | false ↦ [] ]
+notes i zero (a ∷ b ∷ form ∷ n ∷ l) = elim (ltb i most) [ true ↦ event Sort.ERROR i a b ++ notes (suc i) n l | false ↦ [] ]
 notes i zero (a ∷ b ∷ form ∷ []) = []
 notes i zero (a ∷ b ∷ []) = []
 notes i zero (a ∷ []) = []
@@ -56,7 +57,7 @@ pub record Puts (q : List ℕ) (s r : Whole) (ev ev′ : List ℕ) : Type 0 wher
 -- the events of the records were written, and counted
 pub record Flushed (records : List ℕ) (before : ℕ) (s : Whole) (r : Tally) (ev ev′ : List ℕ) : Type 0 where
   pub puts : Puts (notes before 0 records) s (r .state) ev ev′
-  pub counted : 4 * r .before ≡ 4 * before + length (notes before 0 records)
+  pub counted : EVENT * r .before ≡ EVENT * before + length (notes before 0 records)
 
 abbrev pub withItem : ℕ → Whole → Whole
 withItem n s = record { pos = s .pos; fuel = s .fuel; mode = s .mode; ev = s .ev; evcap = s .evcap; full = s .full; want = s .want; unwant = s .unwant; count = s .count; mask = s .mask; codes = s .codes; er = s .er; ercap = s .ercap; item = n; first = s .first; far = s .far; quote = s .quote }

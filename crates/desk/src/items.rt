@@ -12,6 +12,11 @@ use notes::names::ITEM;
 use notes::names::UNWANT;
 use notes::names::WANT;
 use notes::rows::start_of;
+use shapes::mode;
+use shapes::record::END;
+use shapes::record::HEAD;
+use shapes::record::next_record;
+use shapes::sort;
 use steps::state::State;
 ghost use mathlib.Core.Path.{_≡_};
 ghost use mathlib.Core.List.{List, []};
@@ -39,7 +44,7 @@ pub fn flush(mut s: State, before: u32, records: &[u32], events: &mut [u32]) -> 
 {
     let mut at = 0;
     let mut index = before;
-    while at + 4 <= records.len() {
+    while at + HEAD <= records.len() {
         if index == 4294967295 {
             return Desk {
                 state: s,
@@ -47,11 +52,10 @@ pub fn flush(mut s: State, before: u32, records: &[u32], events: &mut [u32]) -> 
             };
         }
         let start = records[at];
-        let end = records[at + 1];
-        let names = records[at + 3] as usize;
-        s = s.put(4, index, start, end, events);
+        let end = records[at + END];
+        s = s.put(sort::ERROR, index, start, end, events);
         index += 1;
-        at = at + names + 4;
+        at = next_record(records, at);
     }
     Desk {
         state: s,
@@ -90,7 +94,7 @@ pub fn junk(
 {
     let from = s.pos;
     let start = start_of(from, ends);
-    s = s.put(1, 0, start, start, events);
+    s = s.put(sort::BEGIN, 0, start, start, events);
     let at = s.ev;
     s = s.skip_to(set::RULE_KEYWORDS, ids, ends, events, sets);
     s.shut(kind::ERROR, from, at, ends, events)
@@ -190,8 +194,8 @@ pub fn settle(d: Desk, scratch: &mut [u64], notes: &mut [usize; 68]) -> Desk
     notes[FAR] = at;
     notes[WANT] = 0;
     notes[UNWANT] = 0;
-    if s.mode == 1 {
-        s.mode = 0;
+    if s.mode == mode::FAILED {
+        s.mode = mode::OK;
         return Desk {
             state: s,
             before: d.before,
@@ -210,7 +214,7 @@ pub fn over(s: State, ids: &[u32]) -> bool
     if s.full != 0 {
         return true;
     }
-    if s.mode != 0 {
+    if s.mode != mode::OK {
         return true;
     }
     s.pos >= ids.len()

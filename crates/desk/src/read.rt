@@ -10,10 +10,19 @@ use notes::names::ER;
 use notes::names::ERCAP;
 use notes::names::QUOTE;
 use refusals::judged;
+use shapes::event::END;
+use shapes::event::EVENT;
+use shapes::event::KIND;
+use shapes::event::START;
+use shapes::mode;
+use shapes::outcome;
+use shapes::refusal;
+use shapes::sort;
 use steps::state::State;
 ghost use mathlib.Core.Path.{_≡_};
 ghost use Prim.Native.Nat.{_+_, _*_, _≤_};
 ghost use lib.ListN.{length, replicate};
+ghost use Rattle.shapes.specs.Shapes.{EVENT};
 ghost use Rattle.definition.specs.Run as P;
 ghost use Rattle.definition.specs.Answer.{refusing, after};
 ghost use Rattle.refusals.specs.Judge.{desk};
@@ -60,7 +69,7 @@ fn blank(fuel: u32, evcap: usize) -> Desk
             ev: 0,
             evcap,
             fuel,
-            mode: 0,
+            mode: mode::OK,
             full: 0,
         },
         before: 0,
@@ -71,13 +80,13 @@ fn blank(fuel: u32, evcap: usize) -> Desk
 fn outcome(mode: u8) -> u32
     ensures { λ r. ⌜ r ≡ outcomeOf mode ⌝ }
 {
-    if mode < 2 {
-        return 0;
+    if mode < mode::SPENT {
+        return outcome::DONE;
     }
-    if mode == 2 {
-        return 1;
+    if mode == mode::SPENT {
+        return outcome::SPENT;
     }
-    2
+    outcome::DEEP
 }
 
 // SOURCE_FILE around all items, in events with room for its begin event, where scratch and notes are all zero.
@@ -92,20 +101,20 @@ fn whole(
     errors: &mut [u32],
     notes: &mut [usize; 68],
 ) -> Desk
-    requires { ⌜ Rows (source (now src) (now ids) (now ends)) × (now scratch ≡ replicate (length (now scratch)) 0) × (2 * (length (now ids) + 1) ≤ 64 * length (now scratch)) × (4 ≤ length (now events)) × (now notes ≡ replicate 68 0) ⌝ }
+    requires { ⌜ Rows (source (now src) (now ids) (now ends)) × (now scratch ≡ replicate (length (now scratch)) 0) × (2 * (length (now ids) + 1) ≤ 64 * length (now scratch)) × (EVENT ≤ length (now events)) × (now notes ≡ replicate 68 0) ⌝ }
     ensures { λ r. ⌜ Framed (limitsOf limits) (source (now (src .entry)) (now (ids .entry)) (now (ends .entry))) fuel (length (now (events .entry))) (length (now (errors .entry))) (tally r (now (notes .exit))) (now (events .exit)) (now (errors .exit)) ⌝ }
 {
     let size = src.len() as u32;
-    events[0] = 1;
-    events[1] = kind::SOURCE_FILE;
-    events[2] = 0;
-    events[3] = size;
-    let d = blank(fuel, events.len() - 4);
+    events[0] = sort::BEGIN;
+    events[KIND] = kind::SOURCE_FILE;
+    events[START] = 0;
+    events[END] = size;
+    let d = blank(fuel, events.len() - EVENT);
     notes[ERCAP] = errors.len();
     notes[QUOTE] = limits.quote;
     let table = ROWS;
     let sets = SETS;
-    let inner = &mut events[4..];
+    let inner = &mut events[EVENT..];
     let r = items(
         d,
         limits.depth,
@@ -120,7 +129,7 @@ fn whole(
         &sets,
     );
     let s = r.state;
-    let t = s.put(3, kind::SOURCE_FILE, 0, size, inner);
+    let t = s.put(sort::END, kind::SOURCE_FILE, 0, size, inner);
     Desk {
         state: t,
         before: r.before,
@@ -145,18 +154,18 @@ fn answered(
     events: &mut [u32],
     errors: &mut [u32],
 ) -> Reading
-    requires { ⌜ (d .state .ev + 4 ≤ length (now events)) × (er ≤ length (now errors)) ⌝ }
+    requires { ⌜ (d .state .ev + EVENT ≤ length (now events)) × (er ≤ length (now errors)) ⌝ }
     ensures { λ r. ⌜ afterOf r (now (events .exit)) (now (errors .exit)) (now (scratch .exit)) ≡ answering d er (now (events .entry)) (now (errors .entry)) (now (scratch .entry)) ⌝ }
 {
     let s = d.state;
     wipe(scratch);
-    let to = s.ev + 4;
+    let to = s.ev + EVENT;
     clear(&mut events[to..]);
     clear(&mut errors[er..]);
     Reading::Answered {
         outcome: outcome(s.mode),
         covered: s.pos,
-        events: to / 4,
+        events: to / EVENT,
         errors: d.before,
         left: s.fuel,
     }
@@ -180,8 +189,8 @@ pub fn read(
     if n != 0 {
         return Reading::Refused(n);
     }
-    if events.len() < 4 {
-        return spoilt(7, scratch, events, errors);
+    if events.len() < EVENT {
+        return spoilt(refusal::EVENTS, scratch, events, errors);
     }
     wipe(scratch);
     let mut notes = [0usize; 68];

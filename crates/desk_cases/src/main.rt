@@ -5,6 +5,8 @@
 use desk::read::Reading;
 use desk::read::read;
 use libc::STDOUT_FILENO;
+use shapes::event::EVENT;
+use shapes::record::next_record;
 
 fn number(n: u64) {
     io::write_all(STDOUT_FILENO, b" ");
@@ -17,10 +19,6 @@ fn figure(n: u32) {
 
 fn line_end() {
     io::write_all(STDOUT_FILENO, b"\n");
-}
-
-fn wide(n: u32) -> usize {
-    n as usize
 }
 
 // The numbers of one line, from an index on and up to another.
@@ -43,24 +41,14 @@ fn event_lines(events: &[u32], count: usize) {
         if i >= count {
             return;
         }
-        numbers(events, 4 * i, 4 * i + 4);
+        numbers(events, EVENT * i, EVENT * i + EVENT);
         i += 1;
     }
 }
 
 // The line of the record that begins there, and where the next one begins.
 fn record(errors: &[u32], at: usize) -> usize {
-    if at > 1000 {
-        return at;
-    }
-    if at + 3 >= errors.len() {
-        return at;
-    }
-    let names = wide(errors[at + 3]);
-    if names > 1000 {
-        return at;
-    }
-    let to = at + 4 + names;
+    let to = next_record(errors, at);
     io::write_all(STDOUT_FILENO, b" error");
     numbers(errors, at, to);
     to
@@ -143,7 +131,7 @@ fn lists(count: usize, noted: u32, scratch: &[u64], events: &[u32], errors: &[u3
     }
     if count < 1000000 {
         say(
-            full(0, scratch, events, 4 * count, errors, er),
+            full(0, scratch, events, EVENT * count, errors, er),
             b" rest zero\n",
             b" rest not zero\n",
         );

@@ -12,6 +12,7 @@ use lib.Dec.{eqb, T}
 use lib.ListN.{length}
 use Rattle.kinds.specs.Kinds as k
 use Rattle.kinds.specs.Sets.{idsOf}
+use Rattle.shapes.specs.Shapes.{EVENT}
 use Rattle.definition.specs.Prog.{Production, Prog, eat, unless, ifnext, opt, many, then, _⨟_, _/_, last, recover, node, memo, EXPR, TERM}
 use Rattle.definition.specs.Grammar.{grammar, kind}
 use Rattle.definition.specs.Run as P
@@ -187,7 +188,7 @@ module _ (A : Production) (p : ℕ) (known : kind A ≡ p) (o : Bool) (d : ℕ) 
   pub begun : Did (λ a. a) x s₁ s₁ (bufs ev₁ er sc) (bufs ev₁ er sc)
   begun = from x s₁ ev₁ er sc (y .events .did er sc w .wf)
 
-  pub closing : {f : P.Reader} {s₂ : Whole} {ev₂ er₂ sc₂ : List ℕ} → Did f x s₁ s₂ (bufs ev₁ er sc) (bufs ev₂ er₂ sc₂) → Rows x → (Rows x × Ok (length (x .ids)) s₂ × (s₂ .evcap ≤ length ev₂) × (s₂ .ercap ≤ length er₂)) × (s₁ .pos ≤ s₂ .pos) × (s₂ .full ≡ 0 → (4 ≤ s₁ .ev) × (s₁ .ev ≤ s₂ .ev))
+  pub closing : {f : P.Reader} {s₂ : Whole} {ev₂ er₂ sc₂ : List ℕ} → Did f x s₁ s₂ (bufs ev₁ er sc) (bufs ev₂ er₂ sc₂) → Rows x → (Rows x × Ok (length (x .ids)) s₂ × (s₂ .evcap ≤ length ev₂) × (s₂ .ercap ≤ length er₂)) × (s₁ .pos ≤ s₂ .pos) × (s₂ .full ≡ 0 → (EVENT ≤ s₁ .ev) × (s₁ .ev ≤ s₂ .ev))
   closing D l = ((l, D .wf .0, D .wf .1 .events, D .wf .1 .errors), D .ahead, λ j. let k = y .opens (D .room j) in (omega arith, D .grows))
 
   shuts : {s₂ r : Whole} {b b₃ : Bufs} → Shuts (P.finish o p (length (x .ids) - s₁ .pos)) (s₁ .ev) x s₂ r b b₃ → Shuts (P.finish o (kind A) (length (x .ids) - s₁ .pos)) (s₁ .ev) x s₂ r b b₃

@@ -5,6 +5,11 @@ use libc::STDOUT_FILENO;
 use listing::Line;
 use listing::Next;
 use merger::Merged;
+use shapes::event::END;
+use shapes::event::EVENT;
+use shapes::event::KIND;
+use shapes::event::START;
+use shapes::refusal;
 ghost use Prim.Native.Nat.{_+_, _≤_};
 ghost use lib.ListN.{length};
 
@@ -260,13 +265,13 @@ fn write_event(sort: u32, second: u32, start: u32, end: u32, errors: &[u32]) {
 
 fn write_events(events: &[u32], errors: &[u32]) {
     let mut i = 0;
-    while i < events.len() / 4 {
-        let at = i * 4;
+    while i < events.len() / EVENT {
+        let at = i * EVENT;
         write_event(
             events[at],
-            events[at + 1],
-            events[at + 2],
-            events[at + 3],
+            events[at + KIND],
+            events[at + START],
+            events[at + END],
             errors,
         );
         i += 1;
@@ -275,10 +280,10 @@ fn write_events(events: &[u32], errors: &[u32]) {
 
 // The first events of a list. Neither the reader nor the merger counts more than its room has.
 fn first_events(list: &[u32], count: usize) -> &[u32] {
-    if list.len() / 4 < count {
+    if list.len() / EVENT < count {
         return list;
     }
-    let n = count * 4;
+    let n = count * EVENT;
     &list[..n]
 }
 
@@ -287,15 +292,15 @@ fn write_merged(events: &[u32], errors: &[u32]) -> bool {
     let mut room = [0u32; 16384];
     match merger::merge(events, &mut room) {
         Merged::Malformed => {
-            write_refusal(9);
+            write_refusal(refusal::MALFORMED);
             false
         }
         Merged::Unpaired => {
-            write_refusal(10);
+            write_refusal(refusal::UNPAIRED);
             false
         }
         Merged::Full => {
-            write_refusal(7);
+            write_refusal(refusal::EVENTS);
             false
         }
         Merged::Events(n) => {
@@ -350,11 +355,11 @@ fn answer_within(t: Taken, source: &[u8], ids: &[u32], starts: &[u32], ends: &[u
     let size = t.size;
     let rows = t.rows;
     if MOST_BYTES < size {
-        write_refusal(1);
+        write_refusal(refusal::LONG);
         return;
     }
     if MOST_ROWS < rows {
-        write_refusal(1);
+        write_refusal(refusal::LONG);
         return;
     }
     answer(

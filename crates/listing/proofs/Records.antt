@@ -7,8 +7,11 @@ use native.Mathlib.Nat.{sub-zero, min-le-left, min-eq-left, min-eq-right, le-of-
 use native.Mathlib.Omega.{arith}
 use borrow.Author.Tests.{ne-eqb}
 use lib.ListN.{length, getD, take, drop, length-drop, length-take, drop-of-length-le}
-use lib.Seq.{drop-drop, drop-length, take-all, take-length, take-take}
+use lib.Seq.{drop-length, take-all, take-length, take-take}
 use Rattle.kinds.specs.Spelling.{nameText}
+use Rattle.shapes.specs.Sort as Sort
+use Rattle.shapes.proofs.Laws.{next-within, next-rest}
+use Rattle.shapes.specs.Shapes.{HEAD, FORM, COUNT, next-record}
 use Rattle.listing.proofs.Either.{either}
 use Rattle.listing.proofs.Rest.{rest, rest-is}
 use Rattle.listing.proofs.Written.{led-more}
@@ -39,20 +42,20 @@ take-twice m n l =
     (λ h. ap (λ (k : ℕ). take k l) (min-eq-right h) ∙ sym (take-take m n l h))
     (either n m)
 
-module _ (l : List ℕ) {from count n : ℕ} (f : from ≡ min (length l) 4) (c : count ≡ min (getD l 3 0) 85) (e : n ≡ min (length l - from) count) where
+module _ (l : List ℕ) {from count n : ℕ} (f : from ≡ min (length l) HEAD) (c : count ≡ min (getD l COUNT 0) 85) (e : n ≡ min (length l - from) count) where
   pub names : take (from + n - from) (drop from l) ≡ namesOf l
   unfolding namesOf
   names =
       let k : from + n - from ≡ min (length (drop from l)) count = omega (arith, e, ap (λ (m : ℕ). min m count) (length-drop from l)) in
       ap (λ (k : ℕ). take k (drop from l)) k
       ∙ take-least (drop from l) count
-      ∙ ap (λ (r : List ℕ). take count r) (ap (λ (k : ℕ). drop k l) f ∙ drop-least l 4)
-      ∙ ap (λ (k : ℕ). take k (drop 4 l)) c
-      ∙ take-twice 85 (getD l 3 0) (drop 4 l)
+      ∙ ap (λ (r : List ℕ). take count r) (ap (λ (k : ℕ). drop k l) f ∙ drop-least l HEAD)
+      ∙ ap (λ (k : ℕ). take k (drop HEAD l)) c
+      ∙ take-twice 85 (getD l COUNT 0) (drop HEAD l)
 
 pub few : (l : List ℕ) → length (namesOf l) ≤ 85
 unfolding namesOf
-few l = omega (arith, length-take 85 (take (getD l 3 0) (drop 4 l)), min-le-left 85 (length (take (getD l 3 0) (drop 4 l))))
+few l = omega (arith, length-take 85 (take (getD l COUNT 0) (drop HEAD l)), min-le-left 85 (length (take (getD l COUNT 0) (drop HEAD l))))
 
 -- i records are passed
 pub record Passing (l : List ℕ) (k at i : ℕ) : Type 0 where
@@ -64,18 +67,15 @@ pub passing : (l : List ℕ) (k : ℕ) → Passing l k 0 0
 passing l k = record { so-far = omega arith; within = omega arith; is = ap (λ (n : ℕ). recordsFrom n l) (sub-zero k) }
 
 module _ {l : List ℕ} {k at i : ℕ} (g : Passing l k at i) where
-  pub passing-on : {c n : ℕ} → i < k → c ≡ getD (rest l at) 3 0 → n ≡ min (length (rest l at)) (4 + c) → Passing l k (at + n) (i + 1)
-  passing-on {c} {n} h e f =
-      let c-is : c ≡ getD (drop at l) 3 0 = e ∙ ap (λ (r : List ℕ). getD r 3 0) (rest-is l at) in
-      let n-is : n ≡ min (length (drop at l)) (4 + getD (drop at l) 3 0) =
-      f ∙ ap (λ (r : List ℕ). min (length r) (4 + c)) (rest-is l at) ∙ ap (λ (m : ℕ). min (length (drop at l)) (4 + m)) c-is in
+  pub passing-on : {n : ℕ} → i < k → n ≡ next-record l at → Passing l k n (i + 1)
+  passing-on {n} h e =
       let one-less : suc (k - (i + 1)) ≡ k - i = omega arith in
       record {
         so-far = omega arith;
-        within = omega (arith, n-is, min-le-left (length (drop at l)) (4 + getD (drop at l) 3 0), length-drop at l, g .within);
+        within = omega (arith, e, next-within l at);
         is =
-            ap (recordsFrom (k - (i + 1)))
-            (sym (drop-drop n at l) ∙ ap (λ (m : ℕ). drop m (drop at l)) n-is ∙ drop-least (drop at l) (4 + getD (drop at l) 3 0))
+            ap (λ (m : ℕ). recordsFrom (k - (i + 1)) (drop m l)) e
+            ∙ ap (recordsFrom (k - (i + 1))) (next-rest l at)
             ∙ ap (λ (m : ℕ). recordsFrom m (drop at l)) one-less
             ∙ g .is;
       }
@@ -86,7 +86,7 @@ module _ {l : List ℕ} {k at i : ℕ} (g : Passing l k at i) where
       record { within = g .within; is = ap (λ (n : ℕ). recordsFrom n (drop at l)) none ∙ g .is }
 
 -- the pieces of an error line are those of the record
-pub error-text : (l : List ℕ) {form start end : ℕ} {ns : List ℕ} → form ≡ getD l 2 0 → start ≡ getD l 0 0 → end ≡ getD l 1 0 → ns ≡ namesOf l
+pub error-text : (l : List ℕ) {form start end : ℕ} {ns : List ℕ} → form ≡ getD l FORM 0 → start ≡ getD l 0 0 → end ≡ getD l 1 0 → ns ≡ namesOf l
     → 88 ∷ ((led 9 (map decimal (form ∷ start ∷ end ∷ [])) ++ (9 ∷ joined (map nameText ns))) ++ (10 ∷ [])) ≡ errorLine l
 unfolding errorLine
 error-text l {form} {start} {end} {ns} f s e n =
@@ -101,10 +101,10 @@ module _ (errors : List ℕ) (sort second start end : ℕ) where
   pub of-sort : (x : ℕ) → sort ≡ x → as-sort x ≡ as-sort sort
   of-sort x e = ap as-sort (sym e)
 
-  pub no-sort : (sort ≡ 1 → ⊥) → (sort ≡ 2 → ⊥) → (sort ≡ 3 → ⊥) → (sort ≡ 4 → ⊥) → as-sort sort ≡ []
+  pub no-sort : (sort ≡ Sort.BEGIN → ⊥) → (sort ≡ Sort.TOKEN → ⊥) → (sort ≡ Sort.END → ⊥) → (sort ≡ Sort.ERROR → ⊥) → as-sort sort ≡ []
   unfolding eventLine
-  no-sort a b c d = rw (ne-eqb sort 1 a, ne-eqb sort 2 b, ne-eqb sort 3 c, ne-eqb sort 4 d)
+  no-sort a b c d = rw (ne-eqb sort Sort.BEGIN a, ne-eqb sort Sort.TOKEN b, ne-eqb sort Sort.END c, ne-eqb sort Sort.ERROR d)
 
-  pub of-record : {at : ℕ} → Stands errors second at → sort ≡ 4 → errorLine (rest errors at) ≡ as-sort sort
+  pub of-record : {at : ℕ} → Stands errors second at → sort ≡ Sort.ERROR → errorLine (rest errors at) ≡ as-sort sort
   unfolding eventLine
-  of-record {at} s e = ap errorLine (rest-is errors at ∙ s .is) ∙ of-sort 4 e
+  of-record {at} s e = ap errorLine (rest-is errors at ∙ s .is) ∙ of-sort Sort.ERROR e

@@ -5,6 +5,8 @@ use mathlib.Core.Bool.{cond}
 use lib.Dec.{eqb}
 use lib.ListN.{getD, take, drop}
 use Rattle.kinds.specs.Spelling.{kindText, nameText}
+use Rattle.shapes.specs.Sort as Sort
+use Rattle.shapes.specs.Shapes.{HEAD, FORM, COUNT}
 use Rattle.listing.specs.Numbers.{decimal}
 
 -- texts, a mark in front of each
@@ -43,25 +45,25 @@ nodeLine letter kind start end = lineWith letter (kindText kind ∷ map decimal 
 -- "An error record is start, end, form, count of names, then the names." A list that begins with one has these names: no name stands twice, and
 -- there are 85
 unfoldable pub namesOf : List ℕ → List ℕ
-namesOf l = take 85 (take (getD l 3 0) (drop 4 l))
+namesOf l = take 85 (take (getD l COUNT 0) (drop HEAD l))
 
 -- "An error line is `X`, form, start, end, names joined by commas or `-`."
 unfoldable pub errorLine : List ℕ → List ℕ
 errorLine l =
-    lineWith 88 (map decimal (getD l 2 0 ∷ getD l 0 0 ∷ getD l 1 0 ∷ []) ++ (joined (map nameText (namesOf l)) ∷ []))
+    lineWith 88 (map decimal (getD l FORM 0 ∷ getD l 0 0 ∷ getD l 1 0 ∷ []) ++ (joined (map nameText (namesOf l)) ∷ []))
 
 -- the records from the given one, from 0, on
 abbrev pub recordsFrom : ℕ → List ℕ → List ℕ
 recordsFrom zero l = l
-recordsFrom (suc k) l = recordsFrom k (drop (4 + getD l 3 0) l)
+recordsFrom (suc k) l = recordsFrom k (drop (HEAD + getD l COUNT 0) l)
 
 -- "sort (1 begin, 2 token, 3 end, 4 error), kind or error record index (from 0), start, end"
 unfoldable pub eventLine : List ℕ → ℕ → ℕ → ℕ → ℕ → List ℕ
 eventLine errors sort second start end =
-    cond (eqb sort 1) (nodeLine 66 second start end)
-    (cond (eqb sort 2) (nodeLine 84 second start end)
-    (cond (eqb sort 3) (nodeLine 69 second start end)
-    (cond (eqb sort 4) (errorLine (recordsFrom second errors)) [])))
+    cond (eqb sort Sort.BEGIN) (nodeLine 66 second start end)
+    (cond (eqb sort Sort.TOKEN) (nodeLine 84 second start end)
+    (cond (eqb sort Sort.END) (nodeLine 69 second start end)
+    (cond (eqb sort Sort.ERROR) (errorLine (recordsFrom second errors)) [])))
 
 abbrev pub eventLines : List ℕ → List ℕ → List ℕ
 eventLines errors [] = []

@@ -1,5 +1,12 @@
 // The lines of the listing, each written at the front of a room. A room of 4,096 bytes holds any line:
 // 85 names of at most 32 bytes, each with a comma, and the other fields.
+use shapes::record::COUNT;
+use shapes::record::END;
+use shapes::record::FORM;
+use shapes::record::HEAD;
+use shapes::record::START;
+use shapes::record::next_record;
+use shapes::sort;
 ghost use Prim.Native.Nat.{_+_, _*_, _≤_, _<_, min};
 ghost use mathlib.Core.Path.{_≡_};
 ghost use mathlib.Core.List.{[], _∷_, map};
@@ -179,8 +186,8 @@ fn names_of(list: &[u32]) -> &[u32]
     ensures { λ r. ⌜ now r ≡ namesOf (now (list .entry)) ⌝ }
     ensures { λ r. ⌜ length (now r) ≤ 85 ⌝ }
 {
-    let from = least(list.len(), 4);
-    let count = least(number_at(list, 3) as usize, 85);
+    let from = least(list.len(), HEAD);
+    let count = least(number_at(list, COUNT) as usize, 85);
     let to = from + least(list.len() - from, count);
     &list[from..to]
 }
@@ -190,9 +197,9 @@ fn error_line(list: &[u32], room: &mut [u8]) -> usize
     requires { ⌜ 4096 ≤ length (now room) ⌝ }
     ensures { λ r. ⌜ Spelled (errorLine (now (list .entry))) (now (room .entry)) (now (room .exit)) r ⌝ }
 {
-    let start = number_at(list, 0) as u64;
-    let end = number_at(list, 1) as u64;
-    let form = number_at(list, 2) as u64;
+    let start = number_at(list, START) as u64;
+    let end = number_at(list, END) as u64;
+    let form = number_at(list, FORM) as u64;
     let letter_end = put_byte(b'X', room, 0);
     let numbers_end = put_numbers(&[form, start, end], room, letter_end);
     let tab_end = put_byte(b'\t', room, numbers_end);
@@ -207,8 +214,7 @@ fn record_place(list: &[u32], number: u32) -> usize
     let mut at = 0;
     let mut i = 0;
     while i < number {
-        let rest = &list[at..];
-        at += least(rest.len(), 4 + number_at(rest, 3) as usize);
+        at = next_record(list, at);
         i += 1;
     }
     at
@@ -219,10 +225,10 @@ fn put_event(sort: u32, second: u32, start: u32, end: u32, errors: &[u32], room:
     ensures { λ r. ⌜ Spelled (eventLine (now (errors .entry)) sort second start end) (now (room .entry)) (now (room .exit)) r ⌝ }
 {
     match sort {
-        1 => node_line(b'B', second, start, end, room),
-        2 => node_line(b'T', second, start, end, room),
-        3 => node_line(b'E', second, start, end, room),
-        4 => {
+        sort::BEGIN => node_line(b'B', second, start, end, room),
+        sort::TOKEN => node_line(b'T', second, start, end, room),
+        sort::END => node_line(b'E', second, start, end, room),
+        sort::ERROR => {
             let at = record_place(errors, second);
             error_line(&errors[at..], room)
         }

@@ -8,7 +8,8 @@ use lib.ListN.{length, take, replicate}
 use borrow.Rule.Slice.PartMut.{midOf, putMid}
 use borrow.Author.Tests.{le-leb, lt-leb}
 use native.Mathlib.Omega.{arith}
-use Rattle.definition.specs.Render.{flat}
+use Rattle.shapes.specs.Refusal as Refusal
+use Rattle.shapes.specs.Shapes.{EVENT, flat}
 use Rattle.definition.specs.Merge.{well-formed, paired, finished, merged, refusing, returned, merging}
 use Rattle.merger.specs.Count.{sized, counted}
 use Rattle.merger.specs.Events.{rest}
@@ -27,41 +28,41 @@ sizes true n m h = (refl, cc)
 sizes false n m h = let z : _≡_ {A = ℕ} 0 1 = cc in absurd (omega arith)
 
 module _ (l room : List ℕ) where
-  by : (a b c : Bool) → well-formed l ≡ a → paired (rest l 0) 0 ≡ b → leb (4 * length (finished l)) (length room) ≡ c → returned room (refusing 9 a (refusing 10 b (refusing 7 c (merged (finished l))))) ≡ merging l room
+  by : (a b c : Bool) → well-formed l ≡ a → paired (rest l 0) 0 ≡ b → leb (EVENT * length (finished l)) (length room) ≡ c → returned room (refusing Refusal.MALFORMED a (refusing Refusal.UNPAIRED b (refusing Refusal.EVENTS c (merged (finished l))))) ≡ merging l room
   by a b c p q r =
       sym
-      (ap (λ (t : Bool). returned room (refusing 9 t (refusing 10 (paired (rest l 0) 0) (refusing 7 (leb (4 * length (finished l)) (length room)) (merged (finished l)))))) p
-      ∙ ap (λ (t : Bool). returned room (refusing 9 a (refusing 10 t (refusing 7 (leb (4 * length (finished l)) (length room)) (merged (finished l)))))) q
-      ∙ ap (λ (t : Bool). returned room (refusing 9 a (refusing 10 b (refusing 7 t (merged (finished l)))))) r)
+      (ap (λ (t : Bool). returned room (refusing Refusal.MALFORMED t (refusing Refusal.UNPAIRED (paired (rest l 0) 0) (refusing Refusal.EVENTS (leb (EVENT * length (finished l)) (length room)) (merged (finished l)))))) p
+      ∙ ap (λ (t : Bool). returned room (refusing Refusal.MALFORMED a (refusing Refusal.UNPAIRED t (refusing Refusal.EVENTS (leb (EVENT * length (finished l)) (length room)) (merged (finished l)))))) q
+      ∙ ap (λ (t : Bool). returned room (refusing Refusal.MALFORMED a (refusing Refusal.UNPAIRED b (refusing Refusal.EVENTS t (merged (finished l)))))) r)
 
   pub malformed : well-formed l ≡ false → returning Malformed room ≡ merging l room
-  malformed h = by false (paired (rest l 0) 0) (leb (4 * length (finished l)) (length room)) h refl refl
+  malformed h = by false (paired (rest l 0) 0) (leb (EVENT * length (finished l)) (length room)) h refl refl
 
   pub unpaired : well-formed l ≡ true → counted (rest l 0) ≡ size.Unpaired → returning Unpaired room ≡ merging l room
-  unpaired h k = by true false (leb (4 * length (finished l)) (length room)) h (not-sized (paired (rest l 0) 0) (length (finished l)) k) refl
+  unpaired h k = by true false (leb (EVENT * length (finished l)) (length room)) h (not-sized (paired (rest l 0) 0) (length (finished l)) k) refl
 
   module _ (n : ℕ) (h : well-formed l ≡ true) (k : counted (rest l 0) ≡ size.Events n) where
     both : (paired (rest l 0) 0 ≡ true) × (length (finished l) ≡ n)
     both = sizes (paired (rest l 0) 0) (length (finished l)) n k
 
-    pub full : length room / 4 < n → returning Full room ≡ merging l room
-    full s = by true true false h (both .0) (lt-leb (4 * length (finished l)) (length room) (omega (arith, both .1)))
+    pub full : length room / EVENT < n → returning Full room ≡ merging l room
+    full s = by true true false h (both .0) (lt-leb (EVENT * length (finished l)) (length room) (omega (arith, both .1)))
 
-    module _ (fits : n ≤ length room / 4) where
-      enough : 4 * length (finished l) ≤ length room
+    module _ (fits : n ≤ length room / EVENT) where
+      enough : EVENT * length (finished l) ≤ length room
       enough = omega (arith, both .1)
 
       pub writable : Writable l room
       writable = record { nested = both .0; fits = enough }
 
       -- w is the room with the finished list, and ys are the zeros past it
-      pub answered : (w ys : List ℕ) → length w ≡ length room → take (4 * length (finished l)) w ≡ flat (finished l) → ys ≡ replicate (length (midOf (n * 4) (length w - n * 4) w)) 0 → returning (Events n) (putMid (n * 4) (length w - n * 4) w ys) ≡ merging l room
+      pub answered : (w ys : List ℕ) → length w ≡ length room → take (EVENT * length (finished l)) w ≡ flat (finished l) → ys ≡ replicate (length (midOf (n * EVENT) (length w - n * EVENT) w)) 0 → returning (Events n) (putMid (n * EVENT) (length w - n * EVENT) w ys) ≡ merging l room
       answered w ys e f z =
-          let at : n * 4 ≡ 4 * length (finished l) = omega (arith, both .1) in
-          let left : length w - n * 4 ≡ length room - 4 * length (finished l) = omega (arith, both .1) in
-          let zeros : putMid (n * 4) (length w - n * 4) w ys ≡ flat (finished l) ++ replicate (length room - 4 * length (finished l)) 0 =
-          cleared w ys (n * 4) (omega (arith, enough)) z
+          let at : n * EVENT ≡ EVENT * length (finished l) = omega (arith, both .1) in
+          let left : length w - n * EVENT ≡ length room - EVENT * length (finished l) = omega (arith, both .1) in
+          let zeros : putMid (n * EVENT) (length w - n * EVENT) w ys ≡ flat (finished l) ++ replicate (length room - EVENT * length (finished l)) 0 =
+          cleared w ys (n * EVENT) (omega (arith, enough)) z
           ∙ ap₂ (λ (i j : ℕ). take i w ++ replicate j 0) at left
-          ∙ ap (λ (t : List ℕ). t ++ replicate (length room - 4 * length (finished l)) 0) f in
+          ∙ ap (λ (t : List ℕ). t ++ replicate (length room - EVENT * length (finished l)) 0) f in
           ap₂ (λ (i : ℕ) (t : List ℕ). returning (Events i) t) (sym (both .1)) zeros
-          ∙ by true true true h (both .0) (le-leb (4 * length (finished l)) (length room) enough)
+          ∙ by true true true h (both .0) (le-leb (EVENT * length (finished l)) (length room) enough)

@@ -6,7 +6,7 @@ use lib.Dec.{eqb}
 use borrow.Author.Tests.{eqb-true}
 use native.Mathlib.Omega.{arith}
 use Rattle.kinds.specs.Kinds as k
-use Rattle.definition.specs.Render.{Quad}
+use Rattle.shapes.specs.Shapes.{Entry}
 use Rattle.definition.specs.Merge.{error-of}
 
 pub never : {A : Type 0} → false ≡ true → A
@@ -20,8 +20,8 @@ pub and-right : (a b : Bool) → a && b ≡ true → b ≡ true
 and-right true b h = h
 and-right false b h = never h
 
-pub sort-of : (s : ℕ) (e : Quad) → error-of s e ≡ true → e .0 ≡ s
+pub sort-of : (s : ℕ) (e : Entry) → error-of s e ≡ true → e .0 ≡ s
 sort-of s e h = eqb-true (e .0) s (and-left (eqb (e .0) s) (eqb (e .1) k.ERROR) h)
 
-pub kind-of : (s : ℕ) (e : Quad) → error-of s e ≡ true → e .1 ≡ k.ERROR
+pub kind-of : (s : ℕ) (e : Entry) → error-of s e ≡ true → e .1 ≡ k.ERROR
 kind-of s e h = eqb-true (e .1) k.ERROR (and-right (eqb (e .0) s) (eqb (e .1) k.ERROR) h)

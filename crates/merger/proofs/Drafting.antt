@@ -7,29 +7,30 @@ use mathlib.Core.Bool.{true}
 use lib.ListN.{length, take, drop, length-append}
 use lib.Seq.{take-at}
 use native.Mathlib.Omega.{arith}
-use Rattle.definition.specs.Render.{Quad, flat}
+use Rattle.shapes.specs.Sort as Sort
+use Rattle.shapes.specs.Shapes.{EVENT, Entry, flat}
 use Rattle.definition.specs.Merge.{Mark, opens, joins, closes, keeps, Span, widened, paired, reach, merge, error-event}
-use Rattle.merger.specs.Events.{quad-at, put-at}
+use Rattle.merger.specs.Events.{entry-at, put-at}
 use Rattle.merger.specs.Pen.{Page, page, pen-at, link, around, span-of, begun, joined, turn, Roomy, Inside, Able}
-use Rattle.merger.proofs.Lists.{amid, put-amid, quad-amid, length-put}
+use Rattle.merger.proofs.Lists.{amid, put-amid, entry-amid, length-put}
 use Rattle.merger.proofs.Bools.{never}
 
-flat-append : (a b : List Quad) → flat (a ++ b) ≡ flat a ++ flat b
+flat-append : (a b : List Entry) → flat (a ++ b) ≡ flat a ++ flat b
 flat-append [] b = refl
 flat-append (e ∷ a) b = ap (λ (l : List ℕ). e .0 ∷ e .1 ∷ e .2 ∷ e .3 ∷ l) (flat-append a b)
 
-pub length-flat : (a : List Quad) → length (flat a) ≡ 4 * length a
+pub length-flat : (a : List Entry) → length (flat a) ≡ EVENT * length a
 length-flat [] = refl
 length-flat (e ∷ a) = let h = length-flat a in omega arith
 
 -- a node that is open: the events between the begin event around it and its own, and its span so far
 abbrev pub Frame : Type 0
-Frame = List Quad × Span
+Frame = List Entry × Span
 
 -- the innermost node is first; the place past its begin event
 abbrev pub place : List Frame → ℕ
 place [] = 0
-place (f ∷ fs) = place fs + (4 * length (f .0) + 4)
+place (f ∷ fs) = place fs + (EVENT * length (f .0) + EVENT)
 
 -- the room up to there
 abbrev pub laid : List Frame → List ℕ
@@ -37,26 +38,26 @@ laid [] = []
 laid (f ∷ fs) = laid fs ++ (flat (f .0) ++ flat (link (place fs) (f .1) ∷ []))
 
 -- the finished list up to there, and the finished spans: r gives the span of a node in which so many are open
-abbrev pub done : (ℕ → Span → Span) → List Frame → List Quad
+abbrev pub done : (ℕ → Span → Span) → List Frame → List Entry
 done r [] = []
-done r (f ∷ fs) = done (λ h. r (suc h)) fs ++ (f .0 ++ (error-event 1 (r 0 (f .1)) ∷ []))
+done r (f ∷ fs) = done (λ h. r (suc h)) fs ++ (f .0 ++ (error-event Sort.BEGIN (r 0 (f .1)) ∷ []))
 
 abbrev pub spans : (ℕ → Span → Span) → List Frame → List Span
 spans r [] = []
 spans r (f ∷ fs) = r 0 (f .1) ∷ spans (λ h. r (suc h)) fs
 
 -- the room: the open nodes, the events since the innermost begin event, and what is not written yet
-pub record Lies (out : List Quad) (ms : List Mark) (g : Page) (fs : List Frame) (since : List Quad) (tail : List ℕ) : Type 0 where
+pub record Lies (out : List Entry) (ms : List Mark) (g : Page) (fs : List Frame) (since : List Entry) (tail : List ℕ) : Type 0 where
   pub cells : g .room ≡ laid fs ++ (flat since ++ tail)
-  pub to : g .pen .to ≡ place fs + 4 * length since
+  pub to : g .pen .to ≡ place fs + EVENT * length since
   pub node : g .pen .node ≡ place fs
   pub nested : paired ms (length fs) ≡ true
   pub whole : out ≡ done (reach ms) fs ++ (since ++ merge ms (spans (reach ms) fs))
-  pub fits : 4 * length out ≤ length (g .room)
+  pub fits : EVENT * length out ≤ length (g .room)
 
-pub record Draft (out : List Quad) (ms : List Mark) (g : Page) : Type 0 where
+pub record Draft (out : List Entry) (ms : List Mark) (g : Page) : Type 0 where
   pub frames : List Frame
-  pub since : List Quad
+  pub since : List Entry
   pub tail : List ℕ
   pub lies : Lies out ms g frames since tail
 
@@ -67,14 +68,14 @@ length-laid (f ∷ fs) =
     let n = length-flat (f .0) in
     simp length-append (omega arith)
 
-length-done : (r : ℕ → Span → Span) (fs : List Frame) → 4 * length (done r fs) ≡ place fs
+length-done : (r : ℕ → Span → Span) (fs : List Frame) → EVENT * length (done r fs) ≡ place fs
 length-done r [] = refl
 length-done r (f ∷ fs) =
     let h = length-done (λ h. r (suc h)) fs in
     simp length-append (omega arith)
 
 -- THE CELLS
-split : (t : List ℕ) → 4 ≤ length t → t ≡ flat (quad-at t 0 ∷ []) ++ drop 4 t
+split : (t : List ℕ) → EVENT ≤ length t → t ≡ flat (entry-at t 0 ∷ []) ++ drop EVENT t
 split [] h = absurd (omega arith)
 split (a ∷ []) h = absurd (omega arith)
 split (a ∷ b ∷ []) h = absurd (omega arith)
@@ -82,37 +83,37 @@ split (a ∷ b ∷ c ∷ []) h = absurd (omega arith)
 split (a ∷ b ∷ c ∷ d ∷ t) h = refl
 
 -- at the end of what is written
-module _ (fs : List Frame) (since : List Quad) where
+module _ (fs : List Frame) (since : List Entry) where
   written : List ℕ
   written = laid fs ++ flat since
 
-  length-written : length written ≡ place fs + 4 * length since
+  length-written : length written ≡ place fs + EVENT * length since
   unfolding written
   length-written = let a = length-laid fs in let b = length-flat since in simp length-append (omega arith)
 
-  pub appended : (l tail : List ℕ) (to : ℕ) (e : Quad) → l ≡ laid fs ++ (flat since ++ tail) → to ≡ place fs + 4 * length since → to + 4 ≤ length l → put-at l to e ≡ laid fs ++ (flat (since ++ (e ∷ [])) ++ drop 4 tail)
+  pub appended : (l tail : List ℕ) (to : ℕ) (e : Entry) → l ≡ laid fs ++ (flat since ++ tail) → to ≡ place fs + EVENT * length since → to + EVENT ≤ length l → put-at l to e ≡ laid fs ++ (flat (since ++ (e ∷ [])) ++ drop EVENT tail)
   unfolding written
   appended l tail to e h p n =
       let at : to ≡ length written = p ∙ sym length-written in
-      let long : 4 ≤ length tail = omega (arith, ap length h, length-append (laid fs) (flat since ++ tail), length-append (flat since) tail, length-laid fs, length-flat since) in
-      let cells : l ≡ amid written (quad-at tail 0) (drop 4 tail) = h ∙ sym (append-assoc (laid fs) (flat since) tail) ∙ ap (λ (t : List ℕ). written ++ t) (split tail long) in
+      let long : EVENT ≤ length tail = omega (arith, ap length h, length-append (laid fs) (flat since ++ tail), length-append (flat since) tail, length-laid fs, length-flat since) in
+      let cells : l ≡ amid written (entry-at tail 0) (drop EVENT tail) = h ∙ sym (append-assoc (laid fs) (flat since) tail) ∙ ap (λ (t : List ℕ). written ++ t) (split tail long) in
       ap₂ (λ (t : List ℕ) (i : ℕ). put-at t i e) cells at
-      ∙ put-amid written (drop 4 tail) (quad-at tail 0) e
+      ∙ put-amid written (drop EVENT tail) (entry-at tail 0) e
       ∙ simp (flat-append, append-assoc)
 
 -- at the begin event of the innermost open node
 module _ (f : Frame) (fs : List Frame) (l rest : List ℕ) (node : ℕ) (h : l ≡ laid (f ∷ fs) ++ rest) (p : node ≡ place (f ∷ fs)) where
-  begin : node - 4 ≡ length (written fs (f .0))
+  begin : node - EVENT ≡ length (written fs (f .0))
   begin = omega (arith, length-written fs (f .0))
 
   cells : l ≡ amid (written fs (f .0)) (link (place fs) (f .1)) rest
   unfolding written
   cells = h ∙ simp append-assoc
 
-  pub held : quad-at l (node - 4) ≡ link (place fs) (f .1)
-  held = ap₂ quad-at cells begin ∙ quad-amid (written fs (f .0)) rest (link (place fs) (f .1))
+  pub held : entry-at l (node - EVENT) ≡ link (place fs) (f .1)
+  held = ap₂ entry-at cells begin ∙ entry-amid (written fs (f .0)) rest (link (place fs) (f .1))
 
-  pub patched : (e : Quad) → put-at l (node - 4) e ≡ laid fs ++ ((flat (f .0) ++ flat (e ∷ [])) ++ rest)
+  pub patched : (e : Entry) → put-at l (node - EVENT) e ≡ laid fs ++ ((flat (f .0) ++ flat (e ∷ [])) ++ rest)
   unfolding written
   patched e =
       ap₂ (λ (t : List ℕ) (i : ℕ). put-at t i e) cells begin
@@ -120,23 +121,23 @@ module _ (f : Frame) (fs : List Frame) (l rest : List ℕ) (node : ℕ) (h : l �
       ∙ simp append-assoc
 
 -- THE STEPS
-roomy : (r : ℕ → Span → Span) (fs : List Frame) (since : List Quad) (e : Quad) (es out : List Quad) (n : ℕ) → out ≡ done r fs ++ (since ++ (e ∷ es)) → 4 * length out ≤ n → place fs + 4 * length since + 4 ≤ n
+roomy : (r : ℕ → Span → Span) (fs : List Frame) (since : List Entry) (e : Entry) (es out : List Entry) (n : ℕ) → out ≡ done r fs ++ (since ++ (e ∷ es)) → EVENT * length out ≤ n → place fs + EVENT * length since + EVENT ≤ n
 roomy r fs since e es out n h k = omega (arith, length-done r fs, ap length h, length-append (done r fs) (since ++ (e ∷ es)), length-append since (e ∷ es))
 
 around-link : (n : ℕ) (z : Span) → around (link n z) ≡ n
 around-link n z = omega arith
 
-module _ (out : List Quad) (ms : List Mark) (g : Page) where
+module _ (out : List Entry) (ms : List Mark) (g : Page) where
   abbrev Step : Mark → Type 0
   Step m = Able m g × Draft out ms (turn m g)
 
-  opening : (z : Span) (fs : List Frame) (since : List Quad) (tail : List ℕ) → Lies out (opens z ∷ ms) g fs since tail → Step (opens z)
+  opening : (z : Span) (fs : List Frame) (since : List Entry) (tail : List ℕ) → Lies out (opens z ∷ ms) g fs since tail → Step (opens z)
   opening z fs since tail d =
       let room : Roomy g = rw (d .to) (roomy (λ h. reach ms (suc h)) fs since _ _ out (length (g .room)) (d .whole) (d .fits)) in
-      let lies : Lies out ms (turn (opens z) g) ((since, z) ∷ fs) [] (drop 4 tail) = record {
+      let lies : Lies out ms (turn (opens z) g) ((since, z) ∷ fs) [] (drop EVENT tail) = record {
         cells =
             appended fs since (g .room) tail (g .pen .to) (link (g .pen .node) z) (d .cells) (d .to) room
-            ∙ ap (λ (n : ℕ). laid fs ++ (flat (since ++ (link n z ∷ [])) ++ drop 4 tail)) (d .node)
+            ∙ ap (λ (n : ℕ). laid fs ++ (flat (since ++ (link n z ∷ [])) ++ drop EVENT tail)) (d .node)
             ∙ simp (flat-append, append-assoc);
         to = omega (arith, d .to);
         node = omega (arith, d .to);
@@ -144,12 +145,12 @@ module _ (out : List Quad) (ms : List Mark) (g : Page) where
         whole = d .whole ∙ simp append-assoc;
         fits = rw length-put (d .fits);
       } in
-      (room, record { frames = (since, z) ∷ fs; since = []; tail = drop 4 tail; lies = lies })
+      (room, record { frames = (since, z) ∷ fs; since = []; tail = drop EVENT tail; lies = lies })
 
-  keeping : (e : Quad) (fs : List Frame) (since : List Quad) (tail : List ℕ) → Lies out (keeps e ∷ ms) g fs since tail → Step (keeps e)
+  keeping : (e : Entry) (fs : List Frame) (since : List Entry) (tail : List ℕ) → Lies out (keeps e ∷ ms) g fs since tail → Step (keeps e)
   keeping e fs since tail d =
       let room : Roomy g = rw (d .to) (roomy (reach ms) fs since e (merge ms (spans (reach ms) fs)) out (length (g .room)) (d .whole) (d .fits)) in
-      let lies : Lies out ms (turn (keeps e) g) fs (since ++ (e ∷ [])) (drop 4 tail) = record {
+      let lies : Lies out ms (turn (keeps e) g) fs (since ++ (e ∷ [])) (drop EVENT tail) = record {
         cells = appended fs since (g .room) tail (g .pen .to) e (d .cells) (d .to) room;
         to = omega (arith, d .to, length-append since (e ∷ []));
         node = d .node;
@@ -157,24 +158,24 @@ module _ (out : List Quad) (ms : List Mark) (g : Page) where
         whole = d .whole ∙ simp append-assoc;
         fits = rw length-put (d .fits);
       } in
-      (room, record { frames = fs; since = since ++ (e ∷ []); tail = drop 4 tail; lies = lies })
+      (room, record { frames = fs; since = since ++ (e ∷ []); tail = drop EVENT tail; lies = lies })
 
   -- the innermost node that is open is f, whatever mark is next
-  module _ (m : Mark) (f : Frame) (fs : List Frame) (since : List Quad) (tail : List ℕ) (d : Lies out (m ∷ ms) g (f ∷ fs) since tail) where
+  module _ (m : Mark) (f : Frame) (fs : List Frame) (since : List Entry) (tail : List ℕ) (d : Lies out (m ∷ ms) g (f ∷ fs) since tail) where
     inside : Inside g
     inside = omega (arith, d .node, ap length (d .cells), length-append (laid (f ∷ fs)) (flat since ++ tail), length-laid (f ∷ fs))
 
     begins : begun g ≡ link (place fs) (f .1)
     begins = held f fs (g .room) (flat since ++ tail) (g .pen .node) (d .cells) (d .node)
 
-    repaired : (e : Quad) → put-at (g .room) (g .pen .node - 4) e ≡ laid fs ++ ((flat (f .0) ++ flat (e ∷ [])) ++ (flat since ++ tail))
+    repaired : (e : Entry) → put-at (g .room) (g .pen .node - EVENT) e ≡ laid fs ++ ((flat (f .0) ++ flat (e ∷ [])) ++ (flat since ++ tail))
     repaired = patched f fs (g .room) (flat since ++ tail) (g .pen .node) (d .cells) (d .node)
 
-  joining : (z : Span) (f : Frame) (fs : List Frame) (since : List Quad) (tail : List ℕ) → Lies out (joins z ∷ ms) g (f ∷ fs) since tail → Step (joins z)
+  joining : (z : Span) (f : Frame) (fs : List Frame) (since : List Entry) (tail : List ℕ) → Lies out (joins z ∷ ms) g (f ∷ fs) since tail → Step (joins z)
   joining z f fs since tail d =
       let lies : Lies out ms (turn (joins z) g) ((f .0, widened (f .1) z) ∷ fs) since tail = record {
         cells =
-            ap (λ (e : Quad). put-at (g .room) (g .pen .node - 4) (joined e z)) (begins (joins z) f fs since tail d)
+            ap (λ (e : Entry). put-at (g .room) (g .pen .node - EVENT) (joined e z)) (begins (joins z) f fs since tail d)
             ∙ repaired (joins z) f fs since tail d (link (place fs) (widened (f .1) z))
             ∙ simp append-assoc;
         to = d .to;
@@ -185,27 +186,27 @@ module _ (out : List Quad) (ms : List Mark) (g : Page) where
       } in
       (inside (joins z) f fs since tail d, record { frames = (f .0, widened (f .1) z) ∷ fs; since = since; tail = tail; lies = lies })
 
-  closing : (f : Frame) (fs : List Frame) (since : List Quad) (tail : List ℕ) → Lies out (closes ∷ ms) g (f ∷ fs) since tail → Step closes
+  closing : (f : Frame) (fs : List Frame) (since : List Entry) (tail : List ℕ) → Lies out (closes ∷ ms) g (f ∷ fs) since tail → Step closes
   closing f fs since tail d =
       let room : Roomy g = rw (d .to) (roomy (reach (closes ∷ ms)) (f ∷ fs) since _ _ out (length (g .room)) (d .whole) (d .fits)) in
       let begin = begins closes f fs since tail d in
-      let shut : List Quad = f .0 ++ (error-event 1 (f .1) ∷ since) in
-      let long = length-append (f .0) (error-event 1 (f .1) ∷ since) in
-      let patch : put-at (g .room) (g .pen .node - 4) (error-event 1 (f .1)) ≡ laid fs ++ (flat shut ++ tail) =
-      repaired closes f fs since tail d (error-event 1 (f .1)) ∙ simp (flat-append, append-assoc) in
-      let lies : Lies out ms (turn closes g) fs (shut ++ (error-event 3 (f .1) ∷ [])) (drop 4 tail) = record {
+      let shut : List Entry = f .0 ++ (error-event Sort.BEGIN (f .1) ∷ since) in
+      let long = length-append (f .0) (error-event Sort.BEGIN (f .1) ∷ since) in
+      let patch : put-at (g .room) (g .pen .node - EVENT) (error-event Sort.BEGIN (f .1)) ≡ laid fs ++ (flat shut ++ tail) =
+      repaired closes f fs since tail d (error-event Sort.BEGIN (f .1)) ∙ simp (flat-append, append-assoc) in
+      let lies : Lies out ms (turn closes g) fs (shut ++ (error-event Sort.END (f .1) ∷ [])) (drop EVENT tail) = record {
         cells =
-            ap (λ (e : Quad). put-at (put-at (g .room) (g .pen .node - 4) (error-event 1 (span-of e))) (g .pen .to) (error-event 3 (span-of e))) begin
-            ∙ appended fs shut _ tail (g .pen .to) (error-event 3 (f .1)) patch (omega (arith, d .to, long)) (rw length-put room);
-        to = omega (arith, d .to, long, length-append shut (error-event 3 (f .1) ∷ []));
+            ap (λ (e : Entry). put-at (put-at (g .room) (g .pen .node - EVENT) (error-event Sort.BEGIN (span-of e))) (g .pen .to) (error-event Sort.END (span-of e))) begin
+            ∙ appended fs shut _ tail (g .pen .to) (error-event Sort.END (f .1)) patch (omega (arith, d .to, long)) (rw length-put room);
+        to = omega (arith, d .to, long, length-append shut (error-event Sort.END (f .1) ∷ []));
         node = ap around begin ∙ around-link (place fs) (f .1);
         nested = d .nested;
         whole = d .whole ∙ simp append-assoc;
         fits = rw length-put (rw length-put (d .fits));
       } in
-      ((room, inside closes f fs since tail d), record { frames = fs; since = shut ++ (error-event 3 (f .1) ∷ []); tail = drop 4 tail; lies = lies })
+      ((room, inside closes f fs since tail d), record { frames = fs; since = shut ++ (error-event Sort.END (f .1) ∷ []); tail = drop EVENT tail; lies = lies })
 
-  step : (m : Mark) (fs : List Frame) (since : List Quad) (tail : List ℕ) → Lies out (m ∷ ms) g fs since tail → Step m
+  step : (m : Mark) (fs : List Frame) (since : List Entry) (tail : List ℕ) → Lies out (m ∷ ms) g fs since tail → Step m
   step (opens z) fs since tail d = opening z fs since tail d
   step (joins z) [] since tail d = never (d .nested)
   step (joins z) (f ∷ fs) since tail d = joining z f fs since tail d
@@ -213,7 +214,7 @@ module _ (out : List Quad) (ms : List Mark) (g : Page) where
   step closes (f ∷ fs) since tail d = closing f fs since tail d
   step (keeps e) fs since tail d = keeping e fs since tail d
 
-module _ (out : List Quad) (ms : List Mark) (m : Mark) (ms′ : List Mark) (g : Page) (first : ms ≡ m ∷ ms′) (d : Draft out ms g) where
+module _ (out : List Entry) (ms : List Mark) (m : Mark) (ms′ : List Mark) (g : Page) (first : ms ≡ m ∷ ms′) (d : Draft out ms g) where
   stepped : Able m g × Draft out ms′ (turn m g)
   stepped = let n = subst (λ (l : List Mark). Draft out l g) first d in step out ms′ g m (n .frames) (n .since) (n .tail) (n .lies)
 
@@ -223,16 +224,16 @@ module _ (out : List Quad) (ms : List Mark) (m : Mark) (ms′ : List Mark) (g : 
   pub drafted : (g′ : Page) → g′ ≡ turn m g → Draft out ms′ g′
   drafted g′ h = subst (λ (p : Page). Draft out ms′ p) (sym h) (stepped .1)
 
-pub started : (ms : List Mark) (room : List ℕ) → paired ms 0 ≡ true → 4 * length (merge ms []) ≤ length room → Draft (merge ms []) ms (page room (pen-at 0 0))
+pub started : (ms : List Mark) (room : List ℕ) → paired ms 0 ≡ true → EVENT * length (merge ms []) ≤ length room → Draft (merge ms []) ms (page room (pen-at 0 0))
 started ms room h n = record { frames = []; since = []; tail = room; lies = record { cells = refl; to = refl; node = refl; nested = h; whole = refl; fits = n } }
 
-pub completed : (out : List Quad) (ms : List Mark) (g : Page) → ms ≡ [] → Draft out ms g → take (4 * length out) (g .room) ≡ flat out
+pub completed : (out : List Entry) (ms : List Mark) (g : Page) → ms ≡ [] → Draft out ms g → take (EVENT * length out) (g .room) ≡ flat out
 completed out ms g h d = let n = subst (λ (l : List Mark). Draft out l g) h d in go (n .frames) (n .since) (n .tail) (n .lies)
   where
-    go : (fs : List Frame) (since : List Quad) (tail : List ℕ) → Lies out [] g fs since tail → take (4 * length out) (g .room) ≡ flat out
+    go : (fs : List Frame) (since : List Entry) (tail : List ℕ) → Lies out [] g fs since tail → take (EVENT * length out) (g .room) ≡ flat out
     go [] since tail l =
         let e : out ≡ since = l .whole ∙ append-nil since in
-        ap (take (4 * length out)) (l .cells)
-        ∙ ap (λ (es : List Quad). take (4 * length out) (flat es ++ tail)) (sym e)
-        ∙ take-at (flat out) tail (4 * length out) (length-flat out)
+        ap (take (EVENT * length out)) (l .cells)
+        ∙ ap (λ (es : List Entry). take (EVENT * length out) (flat es ++ tail)) (sym e)
+        ∙ take-at (flat out) tail (EVENT * length out) (length-flat out)
     go (f ∷ fs) since tail l = never (l .nested)

@@ -9,8 +9,9 @@ use lib.Dec.{eqb}
 use lib.ListN.{length}
 use borrow.Author.Tests.{eqb-true, eq-eqb}
 use native.Mathlib.Omega.{arith}
-use Rattle.definition.specs.Render.{Quad, flat}
-use Rattle.definition.specs.Merge.{quads, error-of, Span, Mark, opens, joins, closes, keeps, ended, marked, marks, paired, reach, error-event, merge, finished, Returned, merging}
+use Rattle.shapes.specs.Sort as Sort
+use Rattle.shapes.specs.Shapes.{EVENT, Entry, flat, entries}
+use Rattle.definition.specs.Merge.{error-of, Span, Mark, opens, joins, closes, keeps, ended, marked, marks, paired, reach, error-event, merge, finished, Returned, merging}
 use Rattle.merger.specs.Answer.{returning}
 use Rattle.merger.specs.declared.Merged.{Merged}
 use Rattle.merger.specs.declared.Merged.the-variants.{Malformed, Unpaired, Full, Events}
@@ -43,15 +44,15 @@ one-outcome events lent r r′ l l′ p q =
     (sym (answer-back r l) ∙ ap answer-of same ∙ answer-back r′ l′, sym (room-back r l) ∙ ap (λ (z : Returned). z .room) same ∙ room-back r′ l′)
 
 -- WHAT STAYS
-abbrev pub when : Bool → Quad → List Quad → List Quad
+abbrev pub when : Bool → Entry → List Entry → List Entry
 when true e es = e ∷ es
 when false e es = es
 
-abbrev pub only : (Quad → Bool) → List Quad → List Quad
+abbrev pub only : (Entry → Bool) → List Entry → List Entry
 only p [] = []
 only p (e ∷ es) = when (p e) e (only p es)
 
-kept : List Mark → List Quad
+kept : List Mark → List Entry
 kept [] = []
 kept (opens z ∷ ms) = kept ms
 kept (joins z ∷ ms) = kept ms
@@ -67,56 +68,56 @@ kept-ended (closes ∷ ms) = refl
 kept-ended (keeps e ∷ ms) = refl
 
 -- p holds of no ERROR begin and no ERROR end
-module _ (p : Quad → Bool) (begin : (e : Quad) → error-of 1 e ≡ true → p e ≡ false) (end : (e : Quad) → error-of 3 e ≡ true → p e ≡ false) where
-  dropped : (e : Quad) (es : List Quad) → p e ≡ false → only p (e ∷ es) ≡ only p es
+module _ (p : Entry → Bool) (begin : (e : Entry) → error-of Sort.BEGIN e ≡ true → p e ≡ false) (end : (e : Entry) → error-of Sort.END e ≡ true → p e ≡ false) where
+  dropped : (e : Entry) (es : List Entry) → p e ≡ false → only p (e ∷ es) ≡ only p es
   dropped e es h = ap (λ (t : Bool). when t e (only p es)) h
 
   of-merge : (ms : List Mark) (st : List Span) → only p (merge ms st) ≡ only p (kept ms)
   unfolding kept
   of-merge [] st = refl
-  of-merge (opens z ∷ ms) st = let y = reach ms 0 z in dropped (error-event 1 y) (merge ms (y ∷ st)) (begin (error-event 1 y) refl) ∙ of-merge ms (y ∷ st)
+  of-merge (opens z ∷ ms) st = let y = reach ms 0 z in dropped (error-event Sort.BEGIN y) (merge ms (y ∷ st)) (begin (error-event Sort.BEGIN y) refl) ∙ of-merge ms (y ∷ st)
   of-merge (joins z ∷ ms) st = of-merge ms st
   of-merge (closes ∷ ms) [] = of-merge ms []
-  of-merge (closes ∷ ms) (z ∷ st) = dropped (error-event 3 z) (merge ms st) (end (error-event 3 z) refl) ∙ of-merge ms st
+  of-merge (closes ∷ ms) (z ∷ st) = dropped (error-event Sort.END z) (merge ms st) (end (error-event Sort.END z) refl) ∙ of-merge ms st
   of-merge (keeps e ∷ ms) st = ap (when (p e) e) (of-merge ms st)
 
-  of-marks : (es : List Quad) → only p (kept (marks es)) ≡ only p es
+  of-marks : (es : List Entry) → only p (kept (marks es)) ≡ only p es
   unfolding kept
   of-marks [] = refl
-  of-marks (e ∷ es) = go (error-of 1 e) (error-of 3 e) refl refl (of-marks es)
+  of-marks (e ∷ es) = go (error-of Sort.BEGIN e) (error-of Sort.END e) refl refl (of-marks es)
     where
-      go : (a b : Bool) → error-of 1 e ≡ a → error-of 3 e ≡ b → only p (kept (marks es)) ≡ only p es → only p (kept (marked a b e (marks es))) ≡ only p (e ∷ es)
+      go : (a b : Bool) → error-of Sort.BEGIN e ≡ a → error-of Sort.END e ≡ b → only p (kept (marks es)) ≡ only p es → only p (kept (marked a b e (marks es))) ≡ only p (e ∷ es)
       go true b h g r = r ∙ sym (dropped e es (begin e h))
       go false true h g r = ap (only p) (kept-ended (marks es)) ∙ r ∙ sym (dropped e es (end e g))
       go false false h g r = ap (when (p e) e) r
 
-  pub stays : (l : List ℕ) → only p (finished l) ≡ only p (quads l)
-  stays l = of-merge (marks (quads l)) [] ∙ of-marks (quads l)
+  pub stays : (l : List ℕ) → only p (finished l) ≡ only p (entries l)
+  stays l = of-merge (marks (entries l)) [] ∙ of-marks (entries l)
 
 -- token and error events
-abbrev pub leaf : Quad → Bool
+abbrev pub leaf : Entry → Bool
 leaf e = eqb (e .0) 2 || eqb (e .0) 4
 
-pub leaves-stay : (l : List ℕ) → only leaf (finished l) ≡ only leaf (quads l)
+pub leaves-stay : (l : List ℕ) → only leaf (finished l) ≡ only leaf (entries l)
 leaves-stay = stays leaf (no 1 refl) (no 3 refl)
   where
-    no : (s : ℕ) → eqb s 2 || eqb s 4 ≡ false → (e : Quad) → error-of s e ≡ true → leaf e ≡ false
+    no : (s : ℕ) → eqb s 2 || eqb s 4 ≡ false → (e : Entry) → error-of s e ≡ true → leaf e ≡ false
     no s c e h = ap (λ (n : ℕ). eqb n 2 || eqb n 4) (sort-of s e h) ∙ c
 
 -- SPANS
 -- every ERROR end has the span of its begin; st has those of the nodes that are open
-abbrev pub closing : Quad → (List Span → Bool) → List Span → Bool
+abbrev pub closing : Entry → (List Span → Bool) → List Span → Bool
 closing e f [] = false
 closing e f (z ∷ st) = eqb (e .2) (z .0) && eqb (e .3) (z .1) && f st
 
-abbrev pub spanned-by : Bool → Bool → Quad → (List Span → Bool) → List Span → Bool
+abbrev pub spanned-by : Bool → Bool → Entry → (List Span → Bool) → List Span → Bool
 spanned-by true t e f st = f ((e .2, e .3) ∷ st)
 spanned-by false true e f st = closing e f st
 spanned-by false false e f st = f st
 
-abbrev pub spanned : List Quad → List Span → Bool
+abbrev pub spanned : List Entry → List Span → Bool
 spanned [] st = true
-spanned (e ∷ es) st = spanned-by (error-of 1 e) (error-of 3 e) e (spanned es) st
+spanned (e ∷ es) st = spanned-by (error-of Sort.BEGIN e) (error-of Sort.END e) e (spanned es) st
 
 -- what is kept is no ERROR begin and no ERROR end
 Plain : List Mark → Type 0
@@ -124,7 +125,7 @@ Plain [] = Unit
 Plain (opens z ∷ ms) = Plain ms
 Plain (joins z ∷ ms) = Plain ms
 Plain (closes ∷ ms) = Plain ms
-Plain (keeps e ∷ ms) = (error-of 1 e ≡ false) × (error-of 3 e ≡ false) × Plain ms
+Plain (keeps e ∷ ms) = (error-of Sort.BEGIN e ≡ false) × (error-of Sort.END e ≡ false) × Plain ms
 
 plain-ended : (ms : List Mark) → Plain ms → Plain (ended ms)
 unfolding Plain
@@ -134,12 +135,12 @@ plain-ended (joins z ∷ ms) h = h
 plain-ended (closes ∷ ms) h = h
 plain-ended (keeps e ∷ ms) h = h
 
-plain : (es : List Quad) → Plain (marks es)
+plain : (es : List Entry) → Plain (marks es)
 unfolding Plain
 plain [] = tt
-plain (e ∷ es) = go (error-of 1 e) (error-of 3 e) refl refl (plain es)
+plain (e ∷ es) = go (error-of Sort.BEGIN e) (error-of Sort.END e) refl refl (plain es)
   where
-    go : (a b : Bool) → error-of 1 e ≡ a → error-of 3 e ≡ b → Plain (marks es) → Plain (marked a b e (marks es))
+    go : (a b : Bool) → error-of Sort.BEGIN e ≡ a → error-of Sort.END e ≡ b → Plain (marks es) → Plain (marked a b e (marks es))
     go true b h g r = r
     go false true h g r = plain-ended (marks es) r
     go false false h g r = (h, g, r)
@@ -156,12 +157,12 @@ spanned-merge (joins z ∷ ms) (y ∷ st) h p = spanned-merge ms (y ∷ st) h p
 spanned-merge (closes ∷ ms) [] h p = never h
 spanned-merge (closes ∷ ms) (z ∷ st) h p = both (eqb (z .0) (z .0)) (eqb (z .1) (z .1)) (spanned (merge ms st) st) (eq-eqb (z .0) (z .0) refl) (eq-eqb (z .1) (z .1) refl) (spanned-merge ms st h p)
 spanned-merge (keeps e ∷ ms) st h p =
-    ap (λ (t : Bool). spanned-by t (error-of 3 e) e (spanned (merge ms st)) st) (p .0)
+    ap (λ (t : Bool). spanned-by t (error-of Sort.END e) e (spanned (merge ms st)) st) (p .0)
     ∙ ap (λ (t : Bool). spanned-by false t e (spanned (merge ms st)) st) (p .1)
     ∙ spanned-merge ms st h (p .2)
 
-pub ends-have-spans : (l : List ℕ) → paired (marks (quads l)) 0 ≡ true → spanned (finished l) [] ≡ true
-ends-have-spans l h = spanned-merge (marks (quads l)) [] h (plain (quads l))
+pub ends-have-spans : (l : List ℕ) → paired (marks (entries l)) 0 ≡ true → spanned (finished l) [] ≡ true
+ends-have-spans l h = spanned-merge (marks (entries l)) [] h (plain (entries l))
 
 -- NO NEIGHBOURS
 abbrev pub apart : List Mark → Bool
@@ -186,40 +187,40 @@ ended-apart (joins z ∷ ms) a = never a
 ended-apart (closes ∷ ms) a = (refl, a)
 ended-apart (keeps e ∷ ms) a = (refl, a)
 
-error-is : (s : ℕ) (e : Quad) → error-of s e ≡ true → error-event s (e .2, e .3) ≡ e
+error-is : (s : ℕ) (e : Entry) → error-of s e ≡ true → error-event s (e .2, e .3) ≡ e
 error-is s e h =
     ap₂ (λ (a b : ℕ). (a, b, e .2, e .3)) (sym (sort-of s e h)) (sym (kind-of s e h))
 
 -- an ERROR end with the span z
-end-is : (z : Span) (e : Quad) (t : Bool) → error-of 3 e ≡ true → eqb (e .2) (z .0) && eqb (e .3) (z .1) && t ≡ true → (error-event 3 z ≡ e) × (t ≡ true)
+end-is : (z : Span) (e : Entry) (t : Bool) → error-of Sort.END e ≡ true → eqb (e .2) (z .0) && eqb (e .3) (z .1) && t ≡ true → (error-event Sort.END z ≡ e) × (t ≡ true)
 end-is z e t h s =
     let ab = and-left (eqb (e .2) (z .0) && eqb (e .3) (z .1)) t s in
     let a = eqb-true (e .2) (z .0) (and-left (eqb (e .2) (z .0)) (eqb (e .3) (z .1)) ab) in
     let b = eqb-true (e .3) (z .1) (and-right (eqb (e .2) (z .0)) (eqb (e .3) (z .1)) ab) in
-    (ap₂ (λ (i j : ℕ). error-event 3 (i, j)) (sym a) (sym b) ∙ error-is 3 e h, and-right (eqb (e .2) (z .0) && eqb (e .3) (z .1)) t s)
+    (ap₂ (λ (i j : ℕ). error-event Sort.END (i, j)) (sym a) (sym b) ∙ error-is 3 e h, and-right (eqb (e .2) (z .0) && eqb (e .3) (z .1)) t s)
 
-same : (es : List Quad) (st : List Span) → apart (marks es) ≡ true → spanned es st ≡ true → merge (marks es) st ≡ es
+same : (es : List Entry) (st : List Span) → apart (marks es) ≡ true → spanned es st ≡ true → merge (marks es) st ≡ es
 same [] st a s = refl
-same (e ∷ es) st a s = go (error-of 1 e) (error-of 3 e) st refl refl a s (same es)
+same (e ∷ es) st a s = go (error-of Sort.BEGIN e) (error-of Sort.END e) st refl refl a s (same es)
   where
-    go : (p q : Bool) (st : List Span) → error-of 1 e ≡ p → error-of 3 e ≡ q → apart (marked p q e (marks es)) ≡ true → spanned-by p q e (spanned es) st ≡ true
+    go : (p q : Bool) (st : List Span) → error-of Sort.BEGIN e ≡ p → error-of Sort.END e ≡ q → apart (marked p q e (marks es)) ≡ true → spanned-by p q e (spanned es) st ≡ true
         → ((st : List Span) → apart (marks es) ≡ true → spanned es st ≡ true → merge (marks es) st ≡ es) → merge (marked p q e (marks es)) st ≡ e ∷ es
     go true q st h g a s r =
-        ap (λ (y : Span). error-event 1 y ∷ merge (marks es) (y ∷ st)) (reach-apart (marks es) 0 (e .2, e .3) a)
-        ∙ ap₂ (λ (f : Quad) (fs : List Quad). f ∷ fs) (error-is 1 e h) (r ((e .2, e .3) ∷ st) a s)
+        ap (λ (y : Span). error-event Sort.BEGIN y ∷ merge (marks es) (y ∷ st)) (reach-apart (marks es) 0 (e .2, e .3) a)
+        ∙ ap₂ (λ (f : Entry) (fs : List Entry). f ∷ fs) (error-is 1 e h) (r ((e .2, e .3) ∷ st) a s)
     go false true [] h g a s r = never s
     go false true (z ∷ st) h g a s r =
         let c = ended-apart (marks es) a in
         let i = end-is z e (spanned es st) g s in
-        ap (λ (ms : List Mark). merge ms (z ∷ st)) (c .0) ∙ ap₂ (λ (f : Quad) (fs : List Quad). f ∷ fs) (i .0) (r st (c .1) (i .1))
-    go false false st h g a s r = ap (λ (fs : List Quad). e ∷ fs) (r st a s)
+        ap (λ (ms : List Mark). merge ms (z ∷ st)) (c .0) ∙ ap₂ (λ (f : Entry) (fs : List Entry). f ∷ fs) (i .0) (r st (c .1) (i .1))
+    go false false st h g a s r = ap (λ (fs : List Entry). e ∷ fs) (r st a s)
 
-flat-quads : (l : List ℕ) → length l % 4 ≡ 0 → flat (quads l) ≡ l
-flat-quads [] h = refl
-flat-quads (a ∷ []) h = absurd (omega arith)
-flat-quads (a ∷ b ∷ []) h = absurd (omega arith)
-flat-quads (a ∷ b ∷ c ∷ []) h = absurd (omega arith)
-flat-quads (a ∷ b ∷ c ∷ d ∷ l) h = ap (λ (t : List ℕ). a ∷ b ∷ c ∷ d ∷ t) (flat-quads l (omega arith))
+flat-entries : (l : List ℕ) → length l % EVENT ≡ 0 → flat (entries l) ≡ l
+flat-entries [] h = refl
+flat-entries (a ∷ []) h = absurd (omega arith)
+flat-entries (a ∷ b ∷ []) h = absurd (omega arith)
+flat-entries (a ∷ b ∷ c ∷ []) h = absurd (omega arith)
+flat-entries (a ∷ b ∷ c ∷ d ∷ l) h = ap (λ (t : List ℕ). a ∷ b ∷ c ∷ d ∷ t) (flat-entries l (omega arith))
 
-pub unchanged : (l : List ℕ) → length l % 4 ≡ 0 → apart (marks (quads l)) ≡ true → spanned (quads l) [] ≡ true → flat (finished l) ≡ l
-unchanged l h a s = ap flat (same (quads l) [] a s) ∙ flat-quads l h
+pub unchanged : (l : List ℕ) → length l % EVENT ≡ 0 → apart (marks (entries l)) ≡ true → spanned (entries l) [] ≡ true → flat (finished l) ≡ l
+unchanged l h a s = ap flat (same (entries l) [] a s) ∙ flat-entries l h

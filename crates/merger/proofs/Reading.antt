@@ -8,28 +8,29 @@ use lib.ListN.{length, getD, drop}
 use borrow.Author.Tests.{eq-eqb, ne-eqb}
 use native.Mathlib.Omega.{arith}
 use Rattle.kinds.specs.Kinds as k
-use Rattle.definition.specs.Render.{Quad}
-use Rattle.definition.specs.Merge.{quads, Mark, opens, joins, closes, keeps, ended, marked, marks, error-of}
-use Rattle.merger.specs.Events.{quad-at, rest}
+use Rattle.shapes.specs.Sort as Sort
+use Rattle.shapes.specs.Shapes.{EVENT, Entry, entries}
+use Rattle.definition.specs.Merge.{Mark, opens, joins, closes, keeps, ended, marked, marks, error-of}
+use Rattle.merger.specs.Events.{entry-at, rest}
 use Rattle.merger.proofs.Bools.{sort-of}
-use Rattle.merger.proofs.Lists.{quads-at, quads-end}
+use Rattle.merger.proofs.Lists.{entries-at, entries-end}
 
 -- OF EVENTS
-opened : (e : Quad) (es : List Quad) → error-of 1 e ≡ true → marks (e ∷ es) ≡ opens (e .2, e .3) ∷ marks es
-opened e es h = ap (λ (t : Bool). marked t (error-of 3 e) e (marks es)) h
+opened : (e : Entry) (es : List Entry) → error-of Sort.BEGIN e ≡ true → marks (e ∷ es) ≡ opens (e .2, e .3) ∷ marks es
+opened e es h = ap (λ (t : Bool). marked t (error-of Sort.END e) e (marks es)) h
 
-kept : (e : Quad) (es : List Quad) → error-of 1 e ≡ false → error-of 3 e ≡ false → marks (e ∷ es) ≡ keeps e ∷ marks es
-kept e es h g = ap (λ (t : Bool). marked t (error-of 3 e) e (marks es)) h ∙ ap (λ (t : Bool). marked false t e (marks es)) g
+kept : (e : Entry) (es : List Entry) → error-of Sort.BEGIN e ≡ false → error-of Sort.END e ≡ false → marks (e ∷ es) ≡ keeps e ∷ marks es
+kept e es h g = ap (λ (t : Bool). marked t (error-of Sort.END e) e (marks es)) h ∙ ap (λ (t : Bool). marked false t e (marks es)) g
 
-not-begin : (e : Quad) → error-of 3 e ≡ true → error-of 1 e ≡ false
+not-begin : (e : Entry) → error-of Sort.END e ≡ true → error-of Sort.BEGIN e ≡ false
 not-begin e h = ap (λ (t : Bool). t && eqb (e .1) k.ERROR) (ne-eqb (e .0) 1 (λ q. omega (arith, sort-of 3 e h)))
 
-shut : (e : Quad) (es : List Quad) → error-of 3 e ≡ true → marks (e ∷ es) ≡ ended (marks es)
-shut e es h = ap (λ (t : Bool). marked t (error-of 3 e) e (marks es)) (not-begin e h) ∙ ap (λ (t : Bool). marked false t e (marks es)) h
+shut : (e : Entry) (es : List Entry) → error-of Sort.END e ≡ true → marks (e ∷ es) ≡ ended (marks es)
+shut e es h = ap (λ (t : Bool). marked t (error-of Sort.END e) e (marks es)) (not-begin e h) ∙ ap (λ (t : Bool). marked false t e (marks es)) h
 
 -- an end before what is no begin
-closed : (e : Quad) (es : List Quad) → error-of 1 e ≡ false → ended (marks (e ∷ es)) ≡ closes ∷ marks (e ∷ es)
-closed e es h = ap (λ (t : Bool). ended (marked t (error-of 3 e) e (marks es))) h ∙ go (error-of 3 e) (marks es) ∙ ap (λ (t : Bool). closes ∷ marked t (error-of 3 e) e (marks es)) (sym h)
+closed : (e : Entry) (es : List Entry) → error-of Sort.BEGIN e ≡ false → ended (marks (e ∷ es)) ≡ closes ∷ marks (e ∷ es)
+closed e es h = ap (λ (t : Bool). ended (marked t (error-of Sort.END e) e (marks es))) h ∙ go (error-of Sort.END e) (marks es) ∙ ap (λ (t : Bool). closes ∷ marked t (error-of Sort.END e) e (marks es)) (sym h)
   where
     go : (t : Bool) (ms : List Mark) → ended (marked false t e ms) ≡ closes ∷ marked false t e ms
     go false ms = refl
@@ -40,14 +41,14 @@ closed e es h = ap (λ (t : Bool). ended (marked t (error-of 3 e) e (marks es)))
     go true (keeps f ∷ ms) = refl
 
 -- the code's test
-pub of-sort : (e : Quad) (s : ℕ) → e .0 ≡ s → eqb (e .1) k.ERROR ≡ error-of s e
+pub of-sort : (e : Entry) (s : ℕ) → e .0 ≡ s → eqb (e .1) k.ERROR ≡ error-of s e
 of-sort e s h = sym (ap (λ (t : Bool). t && eqb (e .1) k.ERROR) (eq-eqb (e .0) s h))
 
-pub of-other : (e : Quad) (s : ℕ) → (e .0 ≡ s → ⊥) → false ≡ error-of s e
+pub of-other : (e : Entry) (s : ℕ) → (e .0 ≡ s → ⊥) → false ≡ error-of s e
 of-other e s h = sym (ap (λ (t : Bool). t && eqb (e .1) k.ERROR) (ne-eqb (e .0) s h))
 
 -- an event of another kind
-other : (e : Quad) (s : ℕ) → (e .1 ≡ k.ERROR → ⊥) → error-of s e ≡ false
+other : (e : Entry) (s : ℕ) → (e .1 ≡ k.ERROR → ⊥) → error-of s e ≡ false
 other e s h = ap (λ (t : Bool). eqb (e .0) s && t) (ne-eqb (e .1) k.ERROR h) ∙ go (eqb (e .0) s)
   where
     go : (t : Bool) → t && false ≡ false
@@ -55,36 +56,36 @@ other e s h = ap (λ (t : Bool). eqb (e .0) s && t) (ne-eqb (e .1) k.ERROR h) �
     go false = refl
 
 -- AT A PLACE: e is the event there
-module _ (l : List ℕ) (at : ℕ) (more : at + 4 ≤ length l) (e : Quad) (is : e ≡ quad-at l at) where
-  here : rest l at ≡ marks (e ∷ quads (drop (at + 4) l))
-  here = ap marks (quads-at l at more) ∙ ap (λ (f : Quad). marks (f ∷ quads (drop (at + 4) l))) (sym is)
+module _ (l : List ℕ) (at : ℕ) (more : at + EVENT ≤ length l) (e : Entry) (is : e ≡ entry-at l at) where
+  here : rest l at ≡ marks (e ∷ entries (drop (at + EVENT) l))
+  here = ap marks (entries-at l at more) ∙ ap (λ (f : Entry). marks (f ∷ entries (drop (at + EVENT) l))) (sym is)
 
-  pub opens-at : error-of 1 e ≡ true → rest l at ≡ opens (e .2, e .3) ∷ rest l (at + 4)
-  opens-at h = here ∙ opened e (quads (drop (at + 4) l)) h
+  pub opens-at : error-of Sort.BEGIN e ≡ true → rest l at ≡ opens (e .2, e .3) ∷ rest l (at + EVENT)
+  opens-at h = here ∙ opened e (entries (drop (at + EVENT) l)) h
 
-  pub keeps-at : error-of 1 e ≡ false → error-of 3 e ≡ false → rest l at ≡ keeps e ∷ rest l (at + 4)
-  keeps-at h g = here ∙ kept e (quads (drop (at + 4) l)) h g
+  pub keeps-at : error-of Sort.BEGIN e ≡ false → error-of Sort.END e ≡ false → rest l at ≡ keeps e ∷ rest l (at + EVENT)
+  keeps-at h g = here ∙ kept e (entries (drop (at + EVENT) l)) h g
 
-  pub other-at : (getD l (at + 1) 0 ≡ k.ERROR → ⊥) → rest l at ≡ keeps e ∷ rest l (at + 4)
-  other-at h = let n : e .1 ≡ k.ERROR → ⊥ = λ p. h (sym (ap (λ (f : Quad). f .1) is) ∙ p) in keeps-at (other e 1 n) (other e 3 n)
+  pub other-at : (getD l (at + 1) 0 ≡ k.ERROR → ⊥) → rest l at ≡ keeps e ∷ rest l (at + EVENT)
+  other-at h = let n : e .1 ≡ k.ERROR → ⊥ = λ p. h (sym (ap (λ (f : Entry). f .1) is) ∙ p) in keeps-at (other e 1 n) (other e 3 n)
 
-  no-begin : error-of 1 e ≡ false → ended (rest l at) ≡ closes ∷ rest l at
-  no-begin h = ap ended here ∙ closed e (quads (drop (at + 4) l)) h ∙ ap (λ (ms : List Mark). closes ∷ ms) (sym here)
+  no-begin : error-of Sort.BEGIN e ≡ false → ended (rest l at) ≡ closes ∷ rest l at
+  no-begin h = ap ended here ∙ closed e (entries (drop (at + EVENT) l)) h ∙ ap (λ (ms : List Mark). closes ∷ ms) (sym here)
 
-pub rest-end : (l : List ℕ) (at : ℕ) → length l - at < 4 → rest l at ≡ []
-rest-end l at h = ap marks (quads-end l at h)
+pub rest-end : (l : List ℕ) (at : ℕ) → length l - at < EVENT → rest l at ≡ []
+rest-end l at h = ap marks (entries-end l at h)
 
 -- an end at a place, e the event after it
-module _ (l : List ℕ) (at : ℕ) (more : at + 4 ≤ length l) (end : error-of 3 (quad-at l at) ≡ true) where
-  ended-at : rest l at ≡ ended (rest l (at + 4))
-  ended-at = here l at more (quad-at l at) refl ∙ shut (quad-at l at) (quads (drop (at + 4) l)) end
+module _ (l : List ℕ) (at : ℕ) (more : at + EVENT ≤ length l) (end : error-of Sort.END (entry-at l at) ≡ true) where
+  ended-at : rest l at ≡ ended (rest l (at + EVENT))
+  ended-at = here l at more (entry-at l at) refl ∙ shut (entry-at l at) (entries (drop (at + EVENT) l)) end
 
-  pub closes-last : length l - (at + 4) < 4 → rest l at ≡ closes ∷ rest l (at + 4)
-  closes-last h = ended-at ∙ ap ended (rest-end l (at + 4) h) ∙ ap (λ (ms : List Mark). closes ∷ ms) (sym (rest-end l (at + 4) h))
+  pub closes-last : length l - (at + EVENT) < EVENT → rest l at ≡ closes ∷ rest l (at + EVENT)
+  closes-last h = ended-at ∙ ap ended (rest-end l (at + EVENT) h) ∙ ap (λ (ms : List Mark). closes ∷ ms) (sym (rest-end l (at + EVENT) h))
 
-  module _ (next : (at + 4) + 4 ≤ length l) (e : Quad) (is : e ≡ quad-at l (at + 4)) where
-    pub joins-at : error-of 1 e ≡ true → rest l at ≡ joins (e .2, e .3) ∷ rest l ((at + 4) + 4)
-    joins-at h = ended-at ∙ ap ended (opens-at l (at + 4) next e is h)
+  module _ (next : (at + EVENT) + EVENT ≤ length l) (e : Entry) (is : e ≡ entry-at l (at + EVENT)) where
+    pub joins-at : error-of Sort.BEGIN e ≡ true → rest l at ≡ joins (e .2, e .3) ∷ rest l ((at + EVENT) + EVENT)
+    joins-at h = ended-at ∙ ap ended (opens-at l (at + EVENT) next e is h)
 
-    pub closes-at : error-of 1 e ≡ false → rest l at ≡ closes ∷ rest l (at + 4)
-    closes-at h = ended-at ∙ no-begin l (at + 4) next e is h
+    pub closes-at : error-of Sort.BEGIN e ≡ false → rest l at ≡ closes ∷ rest l (at + EVENT)
+    closes-at h = ended-at ∙ no-begin l (at + EVENT) next e is h

@@ -3,35 +3,35 @@ use Prim.Native.Nat.{ℕ, _+_, _≤_}
 use mathlib.Core.Path.{_≡_}
 use mathlib.Core.List.{List, _∷_}
 use lib.ListN.{length, getD, drop, set}
-use Rattle.definition.specs.Render.{Quad}
+use Rattle.shapes.specs.Shapes.{EVENT, Entry, entries}
 use Rattle.definition.specs.Merge as D
 use Rattle.merger.specs.declared.marks.Event.{Event}
 use Rattle.merger.specs.declared.marks.Step.{Step}
 use Rattle.merger.specs.declared.marks.Mark.{Mark}
 use Rattle.merger.specs.declared.marks.Mark.the-variants.{Opens, Joins, Closes, Keeps}
 
-abbrev pub quadOf : Event → Quad
-quadOf e = (e .sort, e .kind, e .start, e .end)
+abbrev pub entryOf : Event → Entry
+entryOf e = (e .sort, e .kind, e .start, e .end)
 
 abbrev pub markOf : Mark → D.Mark
 markOf (Opens s e) = D.opens (s, e)
 markOf (Joins s e) = D.joins (s, e)
 markOf Closes = D.closes
-markOf (Keeps e) = D.keeps (quadOf e)
+markOf (Keeps e) = D.keeps (entryOf e)
 
 -- the event whose four numbers start at a place
-abbrev pub quad-at : List ℕ → ℕ → Quad
-quad-at l at = (getD l at 0, getD l (at + 1) 0, getD l (at + 2) 0, getD l (at + 3) 0)
+abbrev pub entry-at : List ℕ → ℕ → Entry
+entry-at l at = (getD l at 0, getD l (at + 1) 0, getD l (at + 2) 0, getD l (at + 3) 0)
 
-abbrev pub put-at : List ℕ → ℕ → Quad → List ℕ
+abbrev pub put-at : List ℕ → ℕ → Entry → List ℕ
 put-at l at e = set (set (set (set l at (e .0)) (at + 1) (e .1)) (at + 2) (e .2)) (at + 3) (e .3)
 
 -- the marks from a place on
 abbrev pub rest : List ℕ → ℕ → List D.Mark
-rest l at = D.marks (D.quads (drop at l))
+rest l at = D.marks (entries (drop at l))
 
 -- the first of them is read
 pub record Reads (l : List ℕ) (at : ℕ) (r : Step) : Type 0 where
   pub first : rest l at ≡ markOf (r .mark) ∷ rest l (r .past)
-  pub ahead : at + 4 ≤ r .past
+  pub ahead : at + EVENT ≤ r .past
   pub within : r .past ≤ length l

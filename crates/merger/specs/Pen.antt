@@ -4,9 +4,10 @@ use mathlib.Core.Path.{_≡_}
 use mathlib.Core.List.{List}
 use mathlib.Core.Bool.{true}
 use lib.ListN.{length}
-use Rattle.definition.specs.Render.{Quad}
+use Rattle.shapes.specs.Sort as Sort
+use Rattle.shapes.specs.Shapes.{EVENT, Entry}
 use Rattle.definition.specs.Merge.{Mark, opens, joins, closes, keeps, Span, widened, error-event, paired, finished}
-use Rattle.merger.specs.Events.{quad-at, put-at, rest}
+use Rattle.merger.specs.Events.{entry-at, put-at, rest}
 use Rattle.merger.specs.declared.pen.Pen.{Pen}
 
 pub record Page : Type 0 where
@@ -20,37 +21,37 @@ abbrev pub pen-at : ℕ → ℕ → Pen
 pen-at to node = record { to = to; node = node }
 
 -- the begin event of a node that is open: n is the place past that of the node around it
-abbrev pub link : ℕ → Span → Quad
+abbrev pub link : ℕ → Span → Entry
 link n z = (n % 4294967296, n / 4294967296, z .0, z .1)
 
-abbrev pub around : Quad → ℕ
+abbrev pub around : Entry → ℕ
 around e = e .0 + e .1 * 4294967296
 
-abbrev pub span-of : Quad → Span
+abbrev pub span-of : Entry → Span
 span-of e = (e .2, e .3)
 
 -- the begin event of the innermost node that is open
-abbrev pub begun : Page → Quad
-begun g = quad-at (g .room) (g .pen .node - 4)
+abbrev pub begun : Page → Entry
+begun g = entry-at (g .room) (g .pen .node - EVENT)
 
-abbrev pub joined : Quad → Span → Quad
+abbrev pub joined : Entry → Span → Entry
 joined e z = (e .0, e .1, widened (span-of e) z .0, widened (span-of e) z .1)
 
 abbrev pub turn : Mark → Page → Page
-turn (opens z) g = page (put-at (g .room) (g .pen .to) (link (g .pen .node) z)) (pen-at (g .pen .to + 4) (g .pen .to + 4))
-turn (joins z) g = page (put-at (g .room) (g .pen .node - 4) (joined (begun g) z)) (g .pen)
+turn (opens z) g = page (put-at (g .room) (g .pen .to) (link (g .pen .node) z)) (pen-at (g .pen .to + EVENT) (g .pen .to + EVENT))
+turn (joins z) g = page (put-at (g .room) (g .pen .node - EVENT) (joined (begun g) z)) (g .pen)
 turn closes g =
     page
-    (put-at (put-at (g .room) (g .pen .node - 4) (error-event 1 (span-of (begun g)))) (g .pen .to) (error-event 3 (span-of (begun g))))
-    (pen-at (g .pen .to + 4) (around (begun g)))
-turn (keeps e) g = page (put-at (g .room) (g .pen .to) e) (pen-at (g .pen .to + 4) (g .pen .node))
+    (put-at (put-at (g .room) (g .pen .node - EVENT) (error-event Sort.BEGIN (span-of (begun g)))) (g .pen .to) (error-event Sort.END (span-of (begun g))))
+    (pen-at (g .pen .to + EVENT) (around (begun g)))
+turn (keeps e) g = page (put-at (g .room) (g .pen .to) e) (pen-at (g .pen .to + EVENT) (g .pen .node))
 
 -- there is room for an event more, and an end has its node
 abbrev pub Roomy : Page → Type 0
-Roomy g = g .pen .to + 4 ≤ length (g .room)
+Roomy g = g .pen .to + EVENT ≤ length (g .room)
 
 abbrev pub Inside : Page → Type 0
-Inside g = (4 ≤ g .pen .node) × (g .pen .node ≤ length (g .room))
+Inside g = (EVENT ≤ g .pen .node) × (g .pen .node ≤ length (g .room))
 
 abbrev pub Able : Mark → Page → Type 0
 Able (opens z) g = Roomy g
@@ -61,4 +62,4 @@ Able (keeps e) g = Roomy g
 -- no refusal stands in the way
 pub record Writable (events room : List ℕ) : Type 0 where
   pub nested : paired (rest events 0) 0 ≡ true
-  pub fits : 4 * length (finished events) ≤ length room
+  pub fits : EVENT * length (finished events) ≤ length room

@@ -2,8 +2,12 @@
 use crate::marks::Mark;
 use crate::marks::mark_at;
 use kinds::kind::ERROR;
+use shapes::event::EVENT;
+use shapes::event::KIND;
+use shapes::sort;
 ghost use mathlib.Core.Path.{_≡_};
 ghost use Prim.Native.Nat.{_<_, _^_};
+ghost use Rattle.shapes.specs.Shapes.{entries};
 ghost use Rattle.definition.specs.Merge as D;
 ghost use Rattle.merger.specs.Events.{markOf};
 ghost use Rattle.merger.specs.Count.{tallied, counted};
@@ -23,19 +27,19 @@ pub enum Tally {
 pub fn well_formed(events: &[u32]) -> bool
     ensures { λ r. ⌜ r ≡ D.well-formed (now (events .entry)) ⌝ }
 {
-    if events.len() % 4 != 0 {
+    if events.len() % EVENT != 0 {
         return false;
     }
     let mut at: usize = 0;
     while at < events.len() {
         let sort = events[at];
-        if sort < 1 {
+        if sort < sort::BEGIN {
             return false;
         }
-        if sort > 4 {
+        if sort > sort::ERROR {
             return false;
         }
-        at += 4;
+        at += EVENT;
     }
     true
 }
@@ -63,14 +67,14 @@ fn one_more(m: Mark, nodes: usize, left: usize) -> Tally
 
 // Refusal 10, or how many events the finished list has.
 pub fn count(events: &[u32]) -> Size
-    ensures { λ r. ⌜ r ≡ counted (D.marks (D.quads (now (events .entry)))) ⌝ }
+    ensures { λ r. ⌜ r ≡ counted (D.marks (entries (now (events .entry)))) ⌝ }
 {
     let mut at: usize = 0;
     let mut nodes: usize = 0;
     let mut left: usize = 0;
-    while events.len() - at >= 4 {
+    while events.len() - at >= EVENT {
         // What has another number where the kind stands is kept. What has this one may still be an error event, whose record stands there.
-        if events[at + 1] == ERROR {
+        if events[at + KIND] == ERROR {
             let n = mark_at(events, at);
             at = n.past;
             let m = n.mark;
@@ -81,7 +85,7 @@ pub fn count(events: &[u32]) -> Size
             nodes = o;
             left = l;
         } else {
-            at += 4;
+            at += EVENT;
             left += 1;
         }
     }

@@ -8,6 +8,7 @@ use crate::judge::count;
 use crate::judge::well_formed;
 use crate::pen::write;
 use cells::clear;
+use shapes::event::EVENT;
 ghost use mathlib.Core.Path.{_≡_};
 ghost use Rattle.definition.specs.Merge.{merging};
 ghost use Rattle.merger.specs.Answer.{returning};
@@ -34,10 +35,10 @@ pub fn merge(events: &[u32], room: &mut [u32]) -> Merged
     let Size::Events(n) = c else {
         return Merged::Unpaired;
     };
-    if room.len() / 4 < n {
+    if room.len() / EVENT < n {
         return Merged::Full;
     }
     write(events, room);
-    clear(&mut room[n * 4..]);
+    clear(&mut room[n * EVENT..]);
     Merged::Events(n)
 }

@@ -7,12 +7,15 @@ use crate::marks::mark_at;
 use crate::marks::put;
 use crate::marks::read;
 use kinds::kind::ERROR;
+use shapes::event::EVENT;
+use shapes::event::KIND;
+use shapes::sort;
 ghost use mathlib.Core.Path.{_≡_};
 ghost use Prim.Native.Nat.{_*_, min, max};
 ghost use lib.ListN.{length, take};
-ghost use Rattle.definition.specs.Render.{flat};
+ghost use Rattle.shapes.specs.Shapes.{EVENT, flat};
 ghost use Rattle.definition.specs.Merge as D;
-ghost use Rattle.merger.specs.Events.{markOf, quadOf};
+ghost use Rattle.merger.specs.Events.{markOf, entryOf};
 ghost use Rattle.merger.specs.Pen.{page, turn, Able, Writable};
 
 // What half a link can count.
@@ -52,8 +55,8 @@ impl Pen {
         };
         put(room, to, e);
         Pen {
-            to: to + 4,
-            node: to + 4,
+            to: to + EVENT,
+            node: to + EVENT,
         }
     }
 
@@ -61,7 +64,7 @@ impl Pen {
         requires { ⌜ Able (D.joins (start, end)) (page (now room) self) ⌝ }
         ensures { λ r. ⌜ page (now (room .exit)) r ≡ turn (D.joins (start, end)) (page (now (room .entry)) self) ⌝ }
     {
-        let begin = self.node - 4;
+        let begin = self.node - EVENT;
         let mut e = read(room, begin);
         e.start = least(e.start, start);
         e.end = greatest(e.end, end);
@@ -73,26 +76,26 @@ impl Pen {
         requires { ⌜ Able D.closes (page (now room) self) ⌝ }
         ensures { λ r. ⌜ page (now (room .exit)) r ≡ turn D.closes (page (now (room .entry)) self) ⌝ }
     {
-        let begin = self.node - 4;
+        let begin = self.node - EVENT;
         let to = self.to;
         let mut e = read(room, begin);
         let node = e.sort as usize + e.kind as usize * HALF;
-        e.sort = 1;
+        e.sort = sort::BEGIN;
         e.kind = ERROR;
         put(room, begin, e);
-        e.sort = 3;
+        e.sort = sort::END;
         put(room, to, e);
-        Pen { to: to + 4, node }
+        Pen { to: to + EVENT, node }
     }
 
     fn keeps(self, e: Event, room: &mut [u32]) -> Self
-        requires { ⌜ Able (D.keeps (quadOf e)) (page (now room) self) ⌝ }
-        ensures { λ r. ⌜ page (now (room .exit)) r ≡ turn (D.keeps (quadOf e)) (page (now (room .entry)) self) ⌝ }
+        requires { ⌜ Able (D.keeps (entryOf e)) (page (now room) self) ⌝ }
+        ensures { λ r. ⌜ page (now (room .exit)) r ≡ turn (D.keeps (entryOf e)) (page (now (room .entry)) self) ⌝ }
     {
         let to = self.to;
         put(room, to, e);
         Pen {
-            to: to + 4,
+            to: to + EVENT,
             node: self.node,
         }
     }
@@ -113,20 +116,20 @@ impl Pen {
 // Writes the finished list, for which there is room.
 pub fn write(events: &[u32], room: &mut [u32])
     requires { ⌜ Writable (now events) (now room) ⌝ }
-    ensures { λ r. ⌜ take (4 * length (D.finished (now (events .entry)))) (now (room .exit)) ≡ flat (D.finished (now (events .entry))) ⌝ }
+    ensures { λ r. ⌜ take (EVENT * length (D.finished (now (events .entry)))) (now (room .exit)) ≡ flat (D.finished (now (events .entry))) ⌝ }
 {
     let mut at: usize = 0;
     let mut pen = Pen { to: 0, node: 0 };
-    while events.len() - at >= 4 {
+    while events.len() - at >= EVENT {
         // As in `count`, only an event that may be an ERROR node's is read as a mark.
-        if events[at + 1] == ERROR {
+        if events[at + KIND] == ERROR {
             let n = mark_at(events, at);
             at = n.past;
             let m = n.mark;
             pen = pen.turn(m, room);
         } else {
             let e = read(events, at);
-            at += 4;
+            at += EVENT;
             pen = pen.keeps(e, room);
         }
     }

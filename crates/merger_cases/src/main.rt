@@ -2,6 +2,10 @@
 // room is lent full of fives. 87 is ERROR and 88 SOURCE_FILE in docs/KINDS.md.
 use libc::STDOUT_FILENO;
 use merger::Merged;
+use shapes::event::END;
+use shapes::event::EVENT;
+use shapes::event::KIND;
+use shapes::event::START;
 
 fn number(n: u64) {
     io::write_all(STDOUT_FILENO, b" ");
@@ -49,11 +53,11 @@ fn line(name: &[u8], events: &[u32], size: usize) {
 }
 
 fn put(events: &mut [u32], n: usize, sort: u32, kind: u32, start: u32, end: u32) {
-    if n < events.len() / 4 {
-        events[4 * n] = sort;
-        events[4 * n + 1] = kind;
-        events[4 * n + 2] = start;
-        events[4 * n + 3] = end;
+    if n < events.len() / EVENT {
+        events[EVENT * n] = sort;
+        events[EVENT * n + KIND] = kind;
+        events[EVENT * n + START] = start;
+        events[EVENT * n + END] = end;
     }
 }
 

@@ -10,17 +10,18 @@ use borrow.Author.Tests.{le-ltb, lt-ltb, ltb-true, ltb-false}
 use lib.Dec.{ltb}
 use lib.ListN.{length, take, drop, replicate}
 use lib.Seq.{take-take}
+use Rattle.shapes.specs.Shapes.{EVENT, event, Rec}
 use Rattle.definition.specs.Run as P
 use Rattle.definition.specs.Run.{Event, opened, leaf, closed, bad, Limits}
-use Rattle.definition.specs.Buffer.{four, buffer}
-use Rattle.definition.specs.Render.{Source, Rec, records, said, held, used, exceeds, over}
+use Rattle.definition.specs.Buffer.{buffer}
+use Rattle.definition.specs.Render.{Source, records, said, held, used, exceeds, over}
 use Rattle.notes.specs.Whole.{Whole, beside}
 use Rattle.notes.specs.Bits.{ifb}
 use Rattle.notes.specs.Change.{withPos, withEv, withFull, standing}
 use Rattle.notes.specs.Means.{Bufs, bufs, Past, Means, Stands, Lines, overOf}
 use Rattle.notes.specs.Did.{Ok, Sound, Wf, Roomy, Did, Events, Errors, Plain, Penned, Put}
 use Rattle.notes.proofs.Naming.{none-named}
-use Rattle.notes.proofs.Lists.{stored, take-four, keep-four, length-four}
+use Rattle.notes.proofs.Lists.{stored, take-event, keep-event, length-event}
 use Rattle.notes.proofs.Rooms.{ev-count, er-count, fits, first-of, spill, marked, full-first, exceeds-none, exceeds-events}
 
 -- the definition's state but for what nothing reads
@@ -117,21 +118,21 @@ module _ (at cap full : ℕ) (ev : List ℕ) where
   pub pen-not : (q : List ℕ) → at ≤ cap → (full ≡ 0 → ⊥) → Penned q at cap full at full ev ev
   pen-not q h f = record { stuck = λ n. refl; filled = λ z. absurd (f z); room = λ z. z; wrote = λ z. absurd (f z); more = λ z. absurd (f z); fits = h; grows = le-refl _; long = refl; kept = refl }
 
-  pub pen-full : (q : List ℕ) → full ≡ 0 → at ≤ cap → cap < at + 4 → Penned q at cap full at 7 ev ev
-  pen-full q z h l = record { stuck = λ n. absurd (n z); filled = λ y. ap (λ (c : Bool). ifb c 7 0) (sym (lt-ltb cap (at + 4) l)); room = λ y. absurd (omega arith); wrote = λ y. absurd (omega arith); more = λ y. absurd (omega arith); fits = h; grows = le-refl _; long = refl; kept = refl }
+  pub pen-full : (q : List ℕ) → full ≡ 0 → at ≤ cap → cap < at + EVENT → Penned q at cap full at 7 ev ev
+  pen-full q z h l = record { stuck = λ n. absurd (n z); filled = λ y. ap (λ (c : Bool). ifb c 7 0) (sym (lt-ltb cap (at + EVENT) l)); room = λ y. absurd (omega arith); wrote = λ y. absurd (omega arith); more = λ y. absurd (omega arith); fits = h; grows = le-refl _; long = refl; kept = refl }
 
-  pub pen-four : (a b c d : ℕ) → full ≡ 0 → at + 4 ≤ cap → cap ≤ length ev → Penned (four a b c d) at cap full (at + 4) full ev (stored ev at a b c d)
-  pen-four a b c d z f l =
+  pub pen-event : (a b c d : ℕ) → full ≡ 0 → at + EVENT ≤ cap → cap ≤ length ev → Penned (event a b c d) at cap full (at + EVENT) full ev (stored ev at a b c d)
+  pen-event a b c d z f l =
       record {
         stuck = λ n. refl;
-        filled = λ y. z ∙ ap (λ (t : Bool). ifb t 7 0) (sym (le-ltb cap (at + 4) f));
+        filled = λ y. z ∙ ap (λ (t : Bool). ifb t 7 0) (sym (le-ltb cap (at + EVENT) f));
         room = λ y. z;
-        wrote = λ y. take-four ev at a b c d (le-trans f l);
+        wrote = λ y. take-event ev at a b c d (le-trans f l);
         more = λ y. refl;
         fits = f;
         grows = omega arith;
-        long = length-four ev at a b c d;
-        kept = keep-four ev at a b c d;
+        long = length-event ev at a b c d;
+        kept = keep-event ev at a b c d;
       }
 
 -- and what that is in a state
@@ -173,19 +174,19 @@ module _ {q : List ℕ} {s r : Whole} {ev ev′ : List ℕ} (u : Put q s r ev ev
     unfolding overOf
     put-over = go (ℕ-discrete (s .full) 0) ∙ sym (marked p x (P.put (a .rest) (v ∷ a .out) a))
       where
-        here : s .full ≡ 0 → (c : Bool) → ltb (s .evcap) (s .ev + 4) ≡ c → ifb c 7 0 ≡ spill p x (v ∷ a .out) (a .chosen)
+        here : s .full ≡ 0 → (c : Bool) → ltb (s .evcap) (s .ev + EVENT) ≡ c → ifb c 7 0 ≡ spill p x (v ∷ a .out) (a .chosen)
         here z true e =
             let m = t .means z in
-            let l : s .evcap < s .ev + 4 = ltb-true (s .evcap) (s .ev + 4) e in
+            let l : s .evcap < s .ev + EVENT = ltb-true (s .evcap) (s .ev + EVENT) e in
             sym (exceeds-events (p .event-room) (p .error-room) (used (p .limits) x (v ∷ a .out, a .chosen)) (omega (arith, ev-count w m, m .written .room)))
         here z false e =
             let m = t .means z in
             let f = fits w m in
-            let l : s .ev + 4 ≤ s .evcap = ltb-false (s .evcap) (s .ev + 4) e in
+            let l : s .ev + EVENT ≤ s .evcap = ltb-false (s .evcap) (s .ev + EVENT) e in
             sym (exceeds-none (p .event-room) (p .error-room) (used (p .limits) x (v ∷ a .out, a .chosen)) (omega (arith, ev-count w m, m .written .room)) (omega (arith, f .1, quiet-said (p .limits) x v (a .out) k)))
 
         go : Dec (s .full ≡ 0) → r .full ≡ first-of (overOf p x a) (spill p x (v ∷ a .out) (a .chosen))
-        go (yes z) = u .filled z ∙ here z (ltb (s .evcap) (s .ev + 4)) refl ∙ ap (λ (i : ℕ). first-of i (spill p x (v ∷ a .out) (a .chosen))) (sym z ∙ t .over)
+        go (yes z) = u .filled z ∙ here z (ltb (s .evcap) (s .ev + EVENT)) refl ∙ ap (λ (i : ℕ). first-of i (spill p x (v ∷ a .out) (a .chosen))) (sym z ∙ t .over)
         go (no n) = u .stuck n ∙ t .over ∙ sym (full-first (overOf p x a) (spill p x (v ∷ a .out) (a .chosen)) (λ z. n (t .over ∙ z)))
 
     pub emitted : (s .full ≡ 0 → take (s .ev) ev ++ q ≡ buffer x (v ∷ a .out)) → Stands p x r (bufs ev′ er sc) (P.emit v a)

@@ -7,7 +7,8 @@ use native.Mathlib.Omega.{arith}
 use native.Mathlib.Numerals.{towards-suc, add-one, sub-one}
 use lib.ListN.{length, getD, take, drop, set, length-set, length-append, length-drop}
 use lib.Seq.{take-at, sets, sets-eq, length-take-le, take-set-le, take-append-le, take-set-lt}
-use Rattle.definition.specs.Buffer.{four, patch}
+use Rattle.shapes.specs.Shapes.{EVENT, event}
+use Rattle.definition.specs.Buffer.{patch}
 
 pub getD-any : (l : List ℕ) (i d d′ : ℕ) → i < length l → getD l i d ≡ getD l i d′
 getD-any [] i d d′ h = absurd (omega arith)
@@ -18,20 +19,20 @@ getD-any (x ∷ xs) (suc i) d d′ h = getD-any xs i d d′ (omega arith)
 abbrev pub stored : List ℕ → ℕ → ℕ → ℕ → ℕ → ℕ → List ℕ
 stored l i a b c d = set (set (set (set l i a) (i + 1) b) (i + 2) c) (i + 3) d
 
-stored-eq : (l : List ℕ) (i a b c d : ℕ) → i + 4 ≤ length l → stored l i a b c d ≡ take i l ++ four a b c d ++ drop (i + 4) l
-stored-eq l i a b c d h = simp towards-suc (sets-eq (four a b c d) l i h ∙ simp towards-suc)
+stored-eq : (l : List ℕ) (i a b c d : ℕ) → i + EVENT ≤ length l → stored l i a b c d ≡ take i l ++ event a b c d ++ drop (i + EVENT) l
+stored-eq l i a b c d h = simp towards-suc (sets-eq (event a b c d) l i h ∙ simp towards-suc)
 
-pub take-four : (l : List ℕ) (i a b c d : ℕ) → i + 4 ≤ length l → take (i + 4) (stored l i a b c d) ≡ take i l ++ four a b c d
-take-four l i a b c d h =
-    ap (take (i + 4)) (stored-eq l i a b c d h)
-    ∙ take-at (take i l ++ four a b c d) (drop (i + 4) l) (i + 4) (length-append (take i l) (four a b c d) ∙ omega (arith, length-take-le i l (omega arith)))
+pub take-event : (l : List ℕ) (i a b c d : ℕ) → i + EVENT ≤ length l → take (i + EVENT) (stored l i a b c d) ≡ take i l ++ event a b c d
+take-event l i a b c d h =
+    ap (take (i + EVENT)) (stored-eq l i a b c d h)
+    ∙ take-at (take i l ++ event a b c d) (drop (i + EVENT) l) (i + EVENT) (length-append (take i l) (event a b c d) ∙ omega (arith, length-take-le i l (omega arith)))
 
-pub keep-four : (l : List ℕ) (i a b c d : ℕ) → take i (stored l i a b c d) ≡ take i l
-keep-four l i a b c d =
+pub keep-event : (l : List ℕ) (i a b c d : ℕ) → take i (stored l i a b c d) ≡ take i l
+keep-event l i a b c d =
     take-set-le i _ (i + 3) d (omega arith) ∙ take-set-le i _ (i + 2) c (omega arith) ∙ take-set-le i _ (i + 1) b (omega arith) ∙ take-set-le i l i a (omega arith)
 
-pub length-four : (l : List ℕ) (i a b c d : ℕ) → length (stored l i a b c d) ≡ length l
-length-four l i a b c d = simp length-set
+pub length-event : (l : List ℕ) (i a b c d : ℕ) → length (stored l i a b c d) ≡ length l
+length-event l i a b c d = simp length-set
 
 -- the entry behind the first
 pub getD-cons : (z : ℕ) (l : List ℕ) (i : ℕ) → (i ≡ 0 → ⊥) → getD l (i - 1) 0 ≡ getD (z ∷ l) i 0

@@ -9,10 +9,11 @@ use borrow.Author.Tests.{le-ltb, lt-ltb, ltb-true, ltb-false}
 use lib.Dec.{ltb}
 use lib.ListN.{length, take, length-append}
 use lib.Seq.{length-take-le}
+use Rattle.shapes.specs.Shapes.{EVENT, HEAD, Rec, flat-records}
 use Rattle.definition.specs.Run as P
 use Rattle.definition.specs.Run.{Event, opened, leaf, closed, bad, Choice, Limits}
 use Rattle.definition.specs.Buffer.{buffer}
-use Rattle.definition.specs.Render.{Source, Rec, record-of, records, flat-records, said, held, used, exceeds}
+use Rattle.definition.specs.Render.{Source, record-of, records, said, held, used, exceeds}
 use Rattle.definition.proofs.Buffer.{buffer-length}
 use Rattle.notes.specs.Whole.{Whole}
 use Rattle.notes.specs.Means.{Bufs, Past, recorded, Means, Stands, overOf}
@@ -23,7 +24,7 @@ pub flat-append : (a b : List Rec) → flat-records (a ++ b) ≡ flat-records a 
 flat-append [] b = refl
 flat-append (e ∷ a) b = ap (λ (l : List ℕ). e .0 ∷ e .1 ∷ e .2 ∷ length (e .3) ∷ l) (ap (λ (l : List ℕ). e .3 ++ l) (flat-append a b) ∙ sym (append-assoc (e .3) (flat-records a) (flat-records b)))
 
-flat-length : (e : Rec) (l : List Rec) → length (flat-records (e ∷ l)) ≡ 4 + length (e .3) + length (flat-records l)
+flat-length : (e : Rec) (l : List Rec) → length (flat-records (e ∷ l)) ≡ HEAD + length (e .3) + length (flat-records l)
 flat-length e l = omega (arith, length-append (e .3) (flat-records l))
 
 pub said-is : (L : Limits) (x : Source) (o : List Event) (l : List Rec) → said L x o + length (flat-records l) ≡ length (flat-records (records L x o l))
@@ -40,7 +41,7 @@ held-is L x (e ∷ c) = omega (arith, held-is L x c, flat-length (record-of L x 
 
 -- how much of each list is used
 module _ {p : Past} {x : Source} {s : Whole} {b : Bufs} {a : P.State} (w : Wf x b s) (m : Means p x s b a) where
-  pub ev-count : s .ev ≡ 4 * length (a .out)
+  pub ev-count : s .ev ≡ EVENT * length (a .out)
   ev-count = sym (length-take-le (s .ev) (b .events) (omega (arith, w .0 .2 .events, w .1 .events))) ∙ ap length (m .written .is) ∙ buffer-length x (a .out)
 
   pub er-count : s .er ≡ said (p .limits) x (a .out) + held (p .limits) x (a .chosen)
@@ -71,7 +72,7 @@ pub exceeds-errors : (e r : ℕ) (m : ℕ × ℕ) → m .0 ≤ e → r < m .1 �
 exceeds-errors e r m h k = ap₂ (λ (c d : Bool). elim c [ true ↦ 7 | false ↦ elim d [ true ↦ 8 | false ↦ 0 ] ]) (le-ltb e (m .0) h) (lt-ltb r (m .1) k)
 
 -- what stands fits
-pub fits : {p : Past} {x : Source} {s : Whole} {b : Bufs} {a : P.State} → Wf x b s → Means p x s b a → (4 * suc (length (a .out)) ≤ p .event-room) × (said (p .limits) x (a .out) + held (p .limits) x (a .chosen) ≤ p .error-room)
+pub fits : {p : Past} {x : Source} {s : Whole} {b : Bufs} {a : P.State} → Wf x b s → Means p x s b a → (EVENT * suc (length (a .out)) ≤ p .event-room) × (said (p .limits) x (a .out) + held (p .limits) x (a .chosen) ≤ p .error-room)
 fits w m = (omega (arith, ev-count w m, m .written .room, w .0 .2 .events), omega (arith, er-count w m, m .chosen .room, w .0 .2 .errors))
 
 pub full-first : (v k : ℕ) → (v ≡ 0 → ⊥) → first-of v k ≡ v

@@ -5,6 +5,7 @@ use mathlib.Core.List.{List, [], _∷_, _++_}
 use mathlib.Core.Bool.{Bool, true, false}
 use lib.Dec.{eqb, ltb}
 use lib.ListN.{length, getD, take, drop}
+use Rattle.shapes.specs.Shapes.{EVENT}
 use Rattle.definition.specs.Run as P
 use Rattle.definition.specs.Open.{Open}
 use Rattle.definition.specs.Render.{Source}
@@ -110,12 +111,12 @@ pub record Shuts (f : P.Reader) (at : ℕ) (x : Source) (s r : Whole) (b b′ : 
   pub first : r .first ≡ s .first
   pub ahead : s .pos ≤ r .pos
   pub grows : s .ev ≤ r .ev
-  pub kept : (k : ℕ) → k ≤ s .ev → (s .full ≡ 0 → k + 4 ≤ at) → take k (b′ .events) ≡ take k (b .events)
+  pub kept : (k : ℕ) → k ≤ s .ev → (s .full ≡ 0 → k + EVENT ≤ at) → take k (b′ .events) ≡ take k (b .events)
 
 -- a node was begun: its event is there, if there is room
 pub record Began (d : ℕ) (x : Source) (s r : Whole) (ev ev′ : List ℕ) : Type 0 where
   pub events : Events (P.begin d) x s r ev ev′
-  pub opens : r .full ≡ 0 → s .ev + 4 ≤ r .ev
+  pub opens : r .full ≡ 0 → s .ev + EVENT ≤ r .ev
 
 -- a step on events and errors
 pub record Both (f : P.Reader) (x : Source) (s r : Whole) (ev ev′ er er′ : List ℕ) : Type 0 where
@@ -127,10 +128,10 @@ pub record Both (f : P.Reader) (x : Source) (s r : Whole) (ev ev′ er er′ : L
 -- four numbers were written at a place, if there was room up to cap
 pub record Penned (q : List ℕ) (at cap full at′ full′ : ℕ) (ev ev′ : List ℕ) : Type 0 where
   pub stuck : (full ≡ 0 → ⊥) → full′ ≡ full
-  pub filled : full ≡ 0 → full′ ≡ ifb (ltb cap (at + 4)) 7 0
+  pub filled : full ≡ 0 → full′ ≡ ifb (ltb cap (at + EVENT)) 7 0
   pub room : full′ ≡ 0 → full ≡ 0
   pub wrote : full′ ≡ 0 → take at′ ev′ ≡ take at ev ++ q
-  pub more : full′ ≡ 0 → at′ ≡ at + 4
+  pub more : full′ ≡ 0 → at′ ≡ at + EVENT
   pub fits : at′ ≤ cap
   pub grows : at ≤ at′
   pub long : length ev′ ≡ length ev
@@ -140,10 +141,10 @@ pub record Penned (q : List ℕ) (at cap full at′ full′ : ℕ) (ev ev′ : L
 pub record Put (q : List ℕ) (s r : Whole) (ev ev′ : List ℕ) : Type 0 where
   pub is : r ≡ withEv (r .ev) (withFull (r .full) s)
   pub stuck : (s .full ≡ 0 → ⊥) → r .full ≡ s .full
-  pub filled : s .full ≡ 0 → r .full ≡ ifb (ltb (s .evcap) (s .ev + 4)) 7 0
+  pub filled : s .full ≡ 0 → r .full ≡ ifb (ltb (s .evcap) (s .ev + EVENT)) 7 0
   pub room : r .full ≡ 0 → s .full ≡ 0
   pub wrote : r .full ≡ 0 → take (r .ev) ev′ ≡ take (s .ev) ev ++ q
-  pub more : r .full ≡ 0 → r .ev ≡ s .ev + 4
+  pub more : r .full ≡ 0 → r .ev ≡ s .ev + EVENT
   pub fits : r .ev ≤ s .evcap
   pub grows : s .ev ≤ r .ev
   pub long : length ev′ ≡ length ev

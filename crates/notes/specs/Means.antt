@@ -9,8 +9,9 @@ use lib.ListN.{length, getD, take, drop}
 use Rattle.definition.specs.Run as P
 use Rattle.definition.specs.Run.{Event, Choice, Mode, ok, failed, stopped, Stop, spent, deep, Limits}
 use Rattle.definition.specs.Buffer.{buffer}
-use Rattle.definition.specs.Render.{Source, Rec, record-of, records, flat-records, over, used}
+use Rattle.definition.specs.Render.{Source, record-of, records, over, used}
 use Rattle.kinds.specs.Sets.{setOf, idsOf}
+use Rattle.shapes.specs.Shapes.{EVENT, Rec, flat-records}
 use Rattle.notes.specs.Whole.{Whole}
 use Rattle.notes.specs.Bits.{ifb, Cached}
 
@@ -89,7 +90,7 @@ namesIn s = spelled (take (s .count) (s .codes))
 pub record Written (x : Source) (p : Past) (ev evcap : ℕ) (events : List ℕ) (out : List Event) : Type 0 where
   pub is : take ev events ≡ buffer x out
   pub past : records (p .limits) x out [] ≡ p .records
-  pub room : p .event-room ≡ evcap + 4
+  pub room : p .event-room ≡ evcap + EVENT
 
 pub record Chosen (x : Source) (p : Past) (first er ercap item quote : ℕ) (errors : List ℕ) (chosen : List (ℕ × Choice)) : Type 0 where
   pub is : take er errors ≡ flat-records (p .records ++ recorded (p .limits) x chosen)

@@ -1,6 +1,7 @@
 // The desk's refusals 1 to 6.
 use kinds::id;
 use kinds::is_id;
+use shapes::refusal;
 ghost use mathlib.Core.Path.{_≡_};
 ghost use mathlib.Core.List.{List};
 ghost use Prim.Native.Nat.{ℕ};
@@ -74,34 +75,34 @@ pub fn judged(src: &[u8], ids: &[u32], starts: &[u32], ends: &[u32], scratch: us
 {
     let rows = ids.len();
     if src.len() > 1048576 {
-        return 1;
+        return refusal::LONG;
     }
     if rows > 65536 {
-        return 1;
+        return refusal::LONG;
     }
     if starts.len() > 65536 {
-        return 1;
+        return refusal::LONG;
     }
     if ends.len() > 65536 {
-        return 1;
+        return refusal::LONG;
     }
     if rows != starts.len() {
-        return 2;
+        return refusal::UNEQUAL;
     }
     if rows != ends.len() {
-        return 2;
+        return refusal::UNEQUAL;
     }
     if unknown(ids) {
-        return 3;
+        return refusal::ID;
     }
     if !tiles(src.len(), starts, ends) {
-        return 4;
+        return refusal::TILES;
     }
     if imports(ids) {
-        return 5;
+        return refusal::IMPORT;
     }
     if scratch < (2 * (rows + 1) + 63) / 64 {
-        return 6;
+        return refusal::SCRATCH;
     }
     0
 }

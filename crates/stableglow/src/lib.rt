@@ -2,6 +2,7 @@
 use cutter::Cut;
 use desk::read::Reading;
 use merger::Merged;
+use shapes::refusal;
 ghost use mathlib.Core.Path.{_≡_};
 ghost use Rattle.definition.specs.Answer.{after};
 ghost use Rattle.definition.specs.Merge.{merging};
@@ -80,15 +81,15 @@ pub extern "C" fn stableglow_merge(events: &[u32], room: &mut [u32], count: &mut
     match merged {
         Merged::Malformed => {
             *count = [0];
-            9
+            refusal::MALFORMED
         }
         Merged::Unpaired => {
             *count = [0];
-            10
+            refusal::UNPAIRED
         }
         Merged::Full => {
             *count = [0];
-            7
+            refusal::EVENTS
         }
         Merged::Events(n) => {
             *count = [(n % 4294967296) as u32];

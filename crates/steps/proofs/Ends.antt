@@ -11,10 +11,11 @@ use lib.Dec.{eqb}
 use lib.ListN.{length, take, drop, replicate, length-replicate}
 use Rattle.kinds.specs.Kinds as k
 use Rattle.kinds.specs.Sets.{idsOf}
+use Rattle.shapes.specs.Shapes.{EVENT, Rec, flat-records}
 use Rattle.definition.specs.Run as P
 use Rattle.definition.specs.Run.{Mode, ok, failed, stopped, Stop, spent, deep, Next, end, other, hit, Choice}
 use Rattle.definition.specs.Open.{Adds, Open}
-use Rattle.definition.specs.Render.{Source, Rec, said, held, records, flat-records}
+use Rattle.definition.specs.Render.{Source, said, held, records}
 use Rattle.definition.proofs.Buffer.{adding}
 use Rattle.notes.specs.Whole.{Whole}
 use Rattle.notes.specs.Bits.{ifb}
@@ -248,7 +249,7 @@ both-of {f} {x} {s} {r} {ev} {ev′} {er} {er′} w h i g =
 
 -- what a node's end asks of a body on events behind its begin
 pub ready : {d : ℕ} {f : P.Reader} {x : Source} {s s₁ s₂ : Whole} {ev ev₁ ev₂ : List ℕ} (er : List ℕ) → Ok (length (x .ids)) s → s .evcap ≤ length ev → s .ercap ≤ length er → Began d x s s₁ ev ev₁ → Events f x s₁ s₂ ev₁ ev₂
-    → (s₂ .ercap ≤ length er) × (s₁ .pos ≤ s₂ .pos) × (s₂ .full ≡ 0 → (4 ≤ s₁ .ev) × (s₁ .ev ≤ s₂ .ev))
+    → (s₂ .ercap ≤ length er) × (s₁ .pos ≤ s₂ .pos) × (s₂ .full ≡ 0 → (EVENT ≤ s₁ .ev) × (s₁ .ev ≤ s₂ .ev))
 ready {x = x} {s} {ev = ev} er w h i y z =
     let T = y .events .did er (enough x) (lent x s ev er w h i) in
     let D = z .did er (enough x) (T .wf) in

@@ -11,10 +11,12 @@ use borrow.Author.Tests.{ne-eqb, eq-eqb}
 use lib.Dec.{eqb}
 use lib.ListN.{length, getD, take, drop, set, length-set, length-drop}
 use lib.Seq.{take-take, take-set-lt, take-set-le}
+use Rattle.shapes.specs.Sort as Sort
+use Rattle.shapes.specs.Shapes.{EVENT, KIND, END, event}
 use Rattle.definition.specs.Run as P
 use Rattle.definition.specs.Run.{Event, opened, leaf, closed, bad, Mode, ok, failed, stopped, Stop, spent, deep}
 use Rattle.definition.specs.Render.{Source, starts-at, ends-at, span-end}
-use Rattle.definition.specs.Buffer.{four, patch, buffer}
+use Rattle.definition.specs.Buffer.{patch, buffer}
 use Rattle.definition.specs.Open.{Open}
 use Rattle.definition.proofs.Buffer.{buffer-opened, buffer-shut}
 use Rattle.notes.specs.Whole.{Whole}
@@ -110,11 +112,11 @@ module _ (d : ℕ) (x : Source) (s : Whole) (w : Ok (length (x .ids)) s) where
   charges-some h z = charged (s .fuel - 1) (s .mode) (λ m. m) refl (λ a e. charge-some d a (s .fuel) e h z)
 
 -- a node begins
-opened-buffer : {p : Past} {x : Source} {s : Whole} {b : Bufs} (st : ℕ) (a : P.State) → Lines (x .ids) (x .ends) → st ≡ getD (0 ∷ x .ends) (s .pos) 0 → s .pos ≤ length (x .ids) → Means p x s b a → buffer x (opened (length (a .rest)) ∷ a .out) ≡ buffer x (a .out) ++ four 1 0 st st
+opened-buffer : {p : Past} {x : Source} {s : Whole} {b : Bufs} (st : ℕ) (a : P.State) → Lines (x .ids) (x .ends) → st ≡ getD (0 ∷ x .ends) (s .pos) 0 → s .pos ≤ length (x .ids) → Means p x s b a → buffer x (opened (length (a .rest)) ∷ a .out) ≡ buffer x (a .out) ++ event Sort.BEGIN 0 st st
 opened-buffer {p} {x} {s} st a l q h m =
     let e : length (x .ids) - length (a .rest) ≡ s .pos = ap (λ (r : List ℕ). length (x .ids) - length r) (m .rest) ∙ row (s .pos) (x .ids) h in
     let z : starts-at x (length (a .rest)) ≡ st = start-is x (length (a .rest)) (s .pos) e (omega (arith, l .level)) ∙ sym q in
-    buffer-opened x (length (a .rest)) (a .out) ∙ ap (λ (i : ℕ). buffer x (a .out) ++ four 1 0 i i) z
+    buffer-opened x (length (a .rest)) (a .out) ∙ ap (λ (i : ℕ). buffer x (a .out) ++ event Sort.BEGIN 0 i i) z
 
 begin-like : (d : ℕ) (p : Past) (x : Source) (a : P.State) → let c : P.State = P.charge d ((P.trivia a) .fuel) (P.trivia a) in Like p x (P.emit (opened (length (c .rest))) c) (P.begin d a)
 unfolding overOf
@@ -127,7 +129,7 @@ begin-like d p x a =
       over = ap (λ (l : List ℕ). overOf p x (P.emit (opened (length l)) c)) e;
     }
 
-pub begins : (d st : ℕ) {x : Source} {s s₁ s₂ r : Whole} {ev ev₁ ev₂ : List ℕ} → Lines (x .ids) (x .ends) → Events P.trivia x s s₁ ev ev₁ → Plain (λ a. P.charge d (a .fuel) a) x s₁ s₂ → st ≡ getD (0 ∷ x .ends) (s₂ .pos) 0 → Put (four 1 0 st st) s₂ r ev₁ ev₂ → Began d x s r ev ev₂
+pub begins : (d st : ℕ) {x : Source} {s s₁ s₂ r : Whole} {ev ev₁ ev₂ : List ℕ} → Lines (x .ids) (x .ends) → Events P.trivia x s s₁ ev ev₁ → Plain (λ a. P.charge d (a .fuel) a) x s₁ s₂ → st ≡ getD (0 ∷ x .ends) (s₂ .pos) 0 → Put (event Sort.BEGIN 0 st st) s₂ r ev₁ ev₂ → Began d x s r ev ev₂
 begins d st {x} {s} {s₁} {s₂} {r} {ev} {ev₁} {ev₂} l t c q u =
     let g : s .ev ≤ s₂ .ev = omega (arith, t .grows, c .still) in
     record {
@@ -165,23 +167,23 @@ span x from to l h k = go (ℕ-discrete from to)
         sym (getD-cons 0 (x .ends) to (λ z. e (omega arith))) ∙ getD-any (x .ends) (to - 1) 0 (length (x .bytes)) (omega (arith, l .level, e)) ∙ ap (λ (j : ℕ). getD (x .ends) j (length (x .bytes))) (sym i)
         ∙ ap pick (sym (ne-eqb (n - from) (n - to) (λ z. e (omega arith))))
 
-take-patch : (k p a e : ℕ) (l : List ℕ) → 4 ≤ p → p ≤ k → take k (patch p a e l) ≡ patch p a e (take k l)
-take-patch k p a e l h g = take-set-lt k (set l (p - 3) a) (p - 1) e (omega arith) ∙ ap (λ (t : List ℕ). set t (p - 1) e) (take-set-lt k l (p - 3) a (omega arith))
+take-patch : (k p a e : ℕ) (l : List ℕ) → EVENT ≤ p → p ≤ k → take k (patch p a e l) ≡ patch p a e (take k l)
+take-patch k p a e l h g = take-set-lt k (set l (p - EVENT + KIND) a) (p - EVENT + END) e (omega arith) ∙ ap (λ (t : List ℕ). set t (p - EVENT + END) e) (take-set-lt k l (p - EVENT + KIND) a (omega arith))
 
-keep-patch : (k p a e : ℕ) (l : List ℕ) → k + 4 ≤ p → take k (patch p a e l) ≡ take k l
-keep-patch k p a e l h = take-set-le k (set l (p - 3) a) (p - 1) e (omega arith) ∙ take-set-le k l (p - 3) a (omega arith)
+keep-patch : (k p a e : ℕ) (l : List ℕ) → k + EVENT ≤ p → take k (patch p a e l) ≡ take k l
+keep-patch k p a e l h = take-set-le k (set l (p - EVENT + KIND) a) (p - EVENT + END) e (omega arith) ∙ take-set-le k l (p - EVENT + KIND) a (omega arith)
 
 -- a node is closed
 module _ (kind from at st en : ℕ) {x : Source} {s r : Whole} {ev ev′ : List ℕ} (l : Lines (x .ids) (x .ends)) (q : st ≡ getD (0 ∷ x .ends) from 0) (t : en ≡ getD (0 ∷ x .ends) (s .pos) 0)
-    (h : from ≤ s .pos) (z : s .full ≡ 0) (low : 4 ≤ at) (high : at ≤ s .ev) (u : Put (four 3 kind st en) s r (patch at kind en ev) ev′) where
-  shut-buffer : {p : Past} {er sc : List ℕ} (a : P.State) → s .pos ≤ length (x .ids) → Open at (a .out) → Means p x s (bufs ev er sc) a → take (s .ev) (patch at kind en ev) ++ four 3 kind st en ≡ buffer x (closed kind (length (x .ids) - from) (length (a .rest)) ∷ a .out)
+    (h : from ≤ s .pos) (z : s .full ≡ 0) (low : EVENT ≤ at) (high : at ≤ s .ev) (u : Put (event Sort.END kind st en) s r (patch at kind en ev) ev′) where
+  shut-buffer : {p : Past} {er sc : List ℕ} (a : P.State) → s .pos ≤ length (x .ids) → Open at (a .out) → Means p x s (bufs ev er sc) a → take (s .ev) (patch at kind en ev) ++ event Sort.END kind st en ≡ buffer x (closed kind (length (x .ids) - from) (length (a .rest)) ∷ a .out)
   shut-buffer a k w m =
       let rest : length (a .rest) ≡ length (x .ids) - s .pos = ap length (m .rest) ∙ length-drop (s .pos) (x .ids) in
       let back : length (x .ids) - (length (x .ids) - from) ≡ from = omega arith in
       let e₁ : en ≡ span-end x (length (x .ids) - from) (length (a .rest)) = t ∙ span x from (s .pos) l h k ∙ ap (span-end x (length (x .ids) - from)) (sym rest) in
       let e₂ : st ≡ starts-at x (length (x .ids) - from) = q ∙ sym (start-is x (length (x .ids) - from) from back (omega (arith, l .level))) in
-      ap (λ (b : List ℕ). b ++ four 3 kind st en) (take-patch (s .ev) at kind en ev low high)
-      ∙ (λ i. patch at kind (e₁ i) (m .written .is i) ++ four 3 kind (e₂ i) (e₁ i))
+      ap (λ (b : List ℕ). b ++ event Sort.END kind st en) (take-patch (s .ev) at kind en ev low high)
+      ∙ (λ i. patch at kind (e₁ i) (m .written .is i) ++ event Sort.END kind (e₂ i) (e₁ i))
       ∙ sym (buffer-shut x kind (length (x .ids) - from) (length (a .rest)) at (a .out) w)
 
   pub shuts : (er sc : List ℕ) → Wf x (bufs ev er sc) s → Shuts (shutA kind (length (x .ids) - from)) at x s r (bufs ev er sc) (bufs ev′ er sc)

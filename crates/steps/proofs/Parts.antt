@@ -10,6 +10,7 @@ use native.Mathlib.Numerals.{add-one, sub-one}
 use native.Mathlib.Decide.{ℕ-discrete}
 use lib.ListN.{length, take, drop, length-drop}
 use lib.Seq.{take-take}
+use Rattle.shapes.specs.Shapes.{EVENT}
 use Rattle.definition.specs.Run as P
 use Rattle.definition.specs.Run.{Mode, ok, failed, stopped, Stop, spent, deep}
 use Rattle.definition.specs.Open.{Adds, Open}
@@ -253,7 +254,7 @@ repeats f {x} {s} {r} {b} k F w q good y =
 
 -- a node: begun, its body, ended
 pub node : (d kind : ℕ) (o : Bool) (f : P.Reader) → ((a : P.State) → Adds (a .out) (f a .out)) → {x : Source} → ((p : Past) → Sticks p x f) → {s s₁ s₂ r : Whole} {b b₁ b₂ b₃ : Bufs} (from at : ℕ) → from ≡ s₁ .pos → at ≡ s₁ .ev
-    → Did (P.begin d) x s s₁ b b₁ → (s₁ .full ≡ 0 → s .ev + 4 ≤ s₁ .ev) → Did f x s₁ s₂ b₁ b₂ → Shuts (P.finish o kind (length (x .ids) - from)) at x s₂ r b₂ b₃ → Did (P.nodes d o kind f) x s r b b₃
+    → Did (P.begin d) x s s₁ b b₁ → (s₁ .full ≡ 0 → s .ev + EVENT ≤ s₁ .ev) → Did f x s₁ s₂ b₁ b₂ → Shuts (P.finish o kind (length (x .ids) - from)) at x s₂ r b₂ b₃ → Did (P.nodes d o kind f) x s r b b₃
 node d kind o f A {x} F {s} {s₁} {s₂} {r} {b} {b₁} {b₂} {b₃} from at i j y opens z e =
     record {
       does = λ p a t.

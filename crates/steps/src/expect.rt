@@ -7,6 +7,8 @@ use notes::names::expected;
 use notes::names::unexpected;
 use notes::rows::peek;
 use notes::rows::start_of;
+use shapes::mode;
+use shapes::sort;
 ghost use mathlib.Core.Path.{_≡_};
 ghost use mathlib.Core.Bool.{false};
 ghost use mathlib.Core.List.{List, []};
@@ -26,7 +28,7 @@ impl State {
         ensures { λ r. ⌜ ((x : Source) → Ok (length (x .ids)) (whole self (now (notes .entry))) → Peeked (x .ids) (self .pos) at → Plain (λ a. P.turn P.failed (P.expected (namesOf code) a)) x (whole self (now (notes .entry))) (whole r (now (notes .exit)))) ⌝ }
     {
         expected(code, at, notes);
-        self.mode = 1;
+        self.mode = mode::FAILED;
         self
     }
 
@@ -44,7 +46,7 @@ impl State {
         requires { ⌜ Ready (now ids) (now ends) self (now notes) (now events) × (code < 58) × Tabled (now sets) ⌝ }
         ensures { λ r. ⌜ Eats (P.eats (setOf set) (namesOf code)) (now (ids .entry)) (now (ends .entry)) self (now (notes .entry)) r (now (notes .exit)) (now (events .entry)) (now (events .exit)) ⌝ }
     {
-        if self.mode != 0 {
+        if self.mode != mode::OK {
             return self;
         }
         let at = peek(self.pos, ids);
@@ -66,7 +68,7 @@ impl State {
         self = self.trivia(ids, ends, events);
         let start = start_of(at, ends);
         let end = ends[at];
-        self = self.put(2, kind, start, end, events);
+        self = self.put(sort::TOKEN, kind, start, end, events);
         self.pos = at + 1;
         self
     }
@@ -76,7 +78,7 @@ impl State {
         requires { ⌜ (self .pos ≤ length (now ids)) × Tabled (now sets) ⌝ }
         ensures { λ r. ⌜ r ≡ ahead (setOf set) (now (ids .entry)) (whole self []) ⌝ }
     {
-        if self.mode != 0 {
+        if self.mode != mode::OK {
             return false;
         }
         let at = peek(self.pos, ids);
@@ -92,7 +94,7 @@ impl State {
         requires { ⌜ (length (now ids) ≤ 65536) × (self .pos ≤ length (now ids)) × Coded (now notes) × (set < 55) ⌝ }
         ensures { λ _. ⌜ ((bytes ends : List ℕ) → Ok (length (now (ids .entry))) (whole self (now (notes .entry))) → ahead (setOf set) (now (ids .entry)) (whole self []) ≡ false → Plain (P.branches (setOf set) (λ a. a)) (source bytes (now (ids .entry)) ends) (whole self (now (notes .entry))) (whole self (now (notes .exit)))) ⌝ }
     {
-        if self.mode != 0 {
+        if self.mode != mode::OK {
             return;
         }
         let at = peek(self.pos, ids);
@@ -115,7 +117,7 @@ impl State {
         requires { ⌜ Ready (now ids) (now ends) self (now notes) (now events) × Tabled (now sets) ⌝ }
         ensures { λ r. ⌜ Eats (P.refuses (setOf set)) (now (ids .entry)) (now (ends .entry)) self (now (notes .entry)) r (now (notes .exit)) (now (events .entry)) (now (events .exit)) ⌝ }
     {
-        if self.mode != 0 {
+        if self.mode != mode::OK {
             return self;
         }
         let m = self.mark();
@@ -127,7 +129,7 @@ impl State {
         self = self.take(kind_in(set, ids[at]), at, ids, ends, events);
         self = self.rewind(m);
         unexpected(at, notes);
-        self.mode = 1;
+        self.mode = mode::FAILED;
         self
     }
 
@@ -162,7 +164,7 @@ impl State {
             let id = ids[at];
             let start = start_of(at, ends);
             let end = ends[at];
-            self = self.put(2, id, start, end, events);
+            self = self.put(sort::TOKEN, id, start, end, events);
             self.pos = at + 1;
             if seen < at + 1 {
                 seen = at + 1;

@@ -7,6 +7,7 @@ use notes::names::ER;
 use notes::names::ITEM;
 use notes::names::expected;
 use notes::rows::peek;
+use shapes::mode;
 ghost use mathlib.Core.Path.{_≡_};
 ghost use mathlib.Core.List.{List};
 ghost use Prim.Native.Nat.{ℕ, _-_, _≤_, _<_};
@@ -14,6 +15,7 @@ ghost use lib.Dec.{eqb};
 ghost use lib.ListN.{length, getD};
 ghost use Rattle.kinds.specs.Kinds as k;
 ghost use Rattle.kinds.specs.Sets.{setOf};
+ghost use Rattle.shapes.specs.Shapes.{EVENT};
 ghost use Rattle.definition.specs.Render.{Source};
 ghost use Rattle.definition.specs.Run as P;
 ghost use Rattle.notes.specs.Whole.{Whole, beside};
@@ -37,7 +39,7 @@ impl State {
         errors: &mut [u32],
         notes: &mut [usize; 68],
     ) -> Self
-        requires { ⌜ Whence (now src) (now ids) (now ends) self (now notes) (now events) (now errors) × (from ≤ self .pos) × (self .full ≡ 0 → (4 ≤ at) × (at ≤ self .ev)) ⌝ }
+        requires { ⌜ Whence (now src) (now ids) (now ends) self (now notes) (now events) (now errors) × (from ≤ self .pos) × (self .full ≡ 0 → (EVENT ≤ at) × (at ≤ self .ev)) ⌝ }
         ensures { λ r. ⌜ ((sc : List ℕ) → Wf (source (now (src .entry)) (now (ids .entry)) (now (ends .entry))) (bufs (now (events .entry)) (now (errors .entry)) sc) (whole self (now (notes .entry))) → Shuts (P.finish optional kind (length (now (ids .entry)) - from)) at (source (now (src .entry)) (now (ids .entry)) (now (ends .entry))) (whole self (now (notes .entry))) (whole r (now (notes .exit))) (bufs (now (events .entry)) (now (errors .entry)) sc) (bufs (now (events .exit)) (now (errors .exit)) sc)) ⌝ }
     {
         self = self.told(optional, src, ids, ends, errors, notes);
@@ -57,7 +59,7 @@ impl State {
         requires { ⌜ Rows (source (now src) (now ids) (now ends)) × Ok (length (now ids)) (whole self (now notes)) × (getD (now notes) 5 0 ≤ length (now errors)) ⌝ }
         ensures { λ r. ⌜ Errors (tells optional) (source (now (src .entry)) (now (ids .entry)) (now (ends .entry))) (whole self (now (notes .entry))) (whole r (now (notes .exit))) (now (errors .entry)) (now (errors .exit)) × (r .mode ≡ self .mode) ⌝ }
     {
-        if self.mode == 0 {
+        if self.mode == mode::OK {
             return self;
         }
         if optional {
@@ -119,11 +121,11 @@ impl State {
         requires { ⌜ Whence (now src) (now ids) (now ends) self (now notes) (now events) (now errors) × (set < 55) × Tabled (now sets) ⌝ }
         ensures { λ r. ⌜ Both (P.recovery d optional (setOf set)) (source (now (src .entry)) (now (ids .entry)) (now (ends .entry))) (whole self (now (notes .entry))) (whole r (now (notes .exit))) (now (events .entry)) (now (events .exit)) (now (errors .entry)) (now (errors .exit)) ⌝ }
     {
-        if self.mode > 1 {
+        if self.mode > mode::FAILED {
             return self;
         }
         let mode = self.mode;
-        self.mode = 0;
+        self.mode = mode::OK;
         let at = peek(self.pos, ids);
         if at >= ids.len() {
             return self;
@@ -145,7 +147,7 @@ impl State {
                 sets,
             );
         }
-        if mode == 0 {
+        if mode == mode::OK {
             return self;
         }
         self.full = choose(self.full, src, ids, ends, errors, notes);
@@ -157,7 +159,7 @@ impl State {
 fn shown(kind: u32, mode: u8) -> u32
     ensures { λ r. ⌜ r ≡ ifb (eqb mode 0) kind k.ERROR ⌝ }
 {
-    if mode == 0 {
+    if mode == mode::OK {
         return kind;
     }
     kind::ERROR

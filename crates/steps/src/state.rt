@@ -1,12 +1,19 @@
 // The state, and the steps that write events.
 use kinds::is_trivia;
 use notes::rows::start_of;
+use shapes::event::END;
+use shapes::event::EVENT;
+use shapes::event::KIND;
+use shapes::event::START;
+use shapes::mode;
+use shapes::full;
+use shapes::sort;
 ghost use mathlib.Core.Path.{_≡_};
 ghost use mathlib.Core.List.{List};
 ghost use Prim.Native.Nat.{ℕ, _-_, _≤_};
 ghost use lib.Dec.{eqb};
 ghost use lib.ListN.{length};
-ghost use Rattle.definition.specs.Buffer.{four};
+ghost use Rattle.shapes.specs.Shapes.{EVENT, event};
 ghost use Rattle.definition.specs.Render.{Source};
 ghost use Rattle.definition.specs.Run as P;
 ghost use Rattle.notes.specs.Change.{markOf, gone, undoneTo};
@@ -22,7 +29,7 @@ pub struct State {
     pub ev: usize,
     pub evcap: usize,
     pub fuel: u32,
-    // 0 in good order, 1 failed, 2 out of fuel, 3 too deep.
+    // In good order, failed, out of fuel or too deep (shapes::mode).
     pub mode: u8,
     // 7 or 8 once a room was exceeded, 0 before.
     pub full: u8,
@@ -38,21 +45,21 @@ impl State {
     // Writes an event; where there is no room, says so.
     pub fn put(mut self, sort: u32, kind: u32, start: u32, end: u32, events: &mut [u32]) -> Self
         requires { ⌜ Fits self (now events) ⌝ }
-        ensures { λ r. ⌜ ((l : List ℕ) → Put (four sort kind start end) (whole self l) (whole r l) (now (events .entry)) (now (events .exit))) ⌝ }
+        ensures { λ r. ⌜ ((l : List ℕ) → Put (event sort kind start end) (whole self l) (whole r l) (now (events .entry)) (now (events .exit))) ⌝ }
     {
         if self.full != 0 {
             return self;
         }
         let at = self.ev;
-        if self.evcap - at < 4 {
-            self.full = 7;
+        if self.evcap - at < EVENT {
+            self.full = full::EVENTS;
             return self;
         }
         events[at] = sort;
-        events[at + 1] = kind;
-        events[at + 2] = start;
-        events[at + 3] = end;
-        self.ev = at + 4;
+        events[at + KIND] = kind;
+        events[at + START] = start;
+        events[at + END] = end;
+        self.ev = at + EVENT;
         self
     }
 
@@ -61,7 +68,7 @@ impl State {
         requires { ⌜ Lines (now ids) (now ends) × Fits self (now events) ⌝ }
         ensures { λ r. ⌜ Writes P.trivia (now (ids .entry)) (now (ends .entry)) self r (now (events .entry)) (now (events .exit)) × (r .mode ≡ self .mode) ⌝ }
     {
-        if self.mode != 0 {
+        if self.mode != mode::OK {
             return self;
         }
         while self.pos < ids.len() {
@@ -72,7 +79,7 @@ impl State {
             }
             let start = start_of(at, ends);
             let end = ends[at];
-            self = self.put(2, id, start, end, events);
+            self = self.put(sort::TOKEN, id, start, end, events);
             self.pos = at + 1;
         }
         self
@@ -83,16 +90,16 @@ impl State {
         ensures { λ r. ⌜ ((x : Source) (l : List ℕ) → Ok (length (x .ids)) (whole self l) → Plain (λ a. P.charge d (a .fuel) a) x (whole self l) (whole r l)) ⌝ }
     {
         if self.fuel == 0 {
-            if self.mode < 2 {
-                self.mode = 2;
+            if self.mode < mode::SPENT {
+                self.mode = mode::SPENT;
                 return self;
             }
             return self;
         }
         self.fuel = self.fuel - 1;
         if d == 0 {
-            if self.mode < 2 {
-                self.mode = 3;
+            if self.mode < mode::SPENT {
+                self.mode = mode::DEEP;
                 return self;
             }
             return self;
@@ -108,12 +115,12 @@ impl State {
         self = self.trivia(ids, ends, events);
         self = self.charge(d);
         let start = start_of(self.pos, ends);
-        self.put(1, 0, start, start, events)
+        self.put(sort::BEGIN, 0, start, start, events)
     }
 
     // Closes a node that began at row `from`, its event before `at`: that event gets kind and end, and the end event is written.
     pub fn shut(self, kind: u32, from: usize, at: usize, ends: &[u32], events: &mut [u32]) -> Self
-        requires { ⌜ Fits self (now events) × (self .pos ≤ length (now ends)) × (from ≤ self .pos) × (self .full ≡ 0 → (4 ≤ at) × (at ≤ self .ev)) ⌝ }
+        requires { ⌜ Fits self (now events) × (self .pos ≤ length (now ends)) × (from ≤ self .pos) × (self .full ≡ 0 → (EVENT ≤ at) × (at ≤ self .ev)) ⌝ }
         ensures { λ r. ⌜ ((l bytes ids er sc : List ℕ) → Lines ids (now (ends .entry)) → Wf (source bytes ids (now (ends .entry))) (bufs (now (events .entry)) er sc) (whole self l) → Shuts (shutA kind (length ids - from)) at (source bytes ids (now (ends .entry))) (whole self l) (whole r l) (bufs (now (events .entry)) er sc) (bufs (now (events .exit)) er sc)) ⌝ }
     {
         if self.full != 0 {
@@ -121,9 +128,10 @@ impl State {
         }
         let start = start_of(from, ends);
         let end = start_of(self.pos, ends);
-        events[at - 3] = kind;
-        events[at - 1] = end;
-        self.put(3, kind, start, end, events)
+        let begin = at - EVENT;
+        events[begin + KIND] = kind;
+        events[begin + END] = end;
+        self.put(sort::END, kind, start, end, events)
     }
 
     pub fn mark(self) -> Mark
@@ -150,8 +158,8 @@ impl State {
     {
         self.pos = m.pos;
         self.ev = m.ev;
-        if self.mode == 1 {
-            self.mode = 0;
+        if self.mode == mode::FAILED {
+            self.mode = mode::OK;
             return self;
         }
         self

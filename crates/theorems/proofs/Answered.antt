@@ -6,8 +6,9 @@ use mathlib.Core.Bool.{Bool, true, false, _&&_}
 use lib.Dec.{T, ltb}
 use lib.ListN.{length}
 use native.Mathlib.Omega.{arith}
+use Rattle.shapes.specs.Shapes.{Rec}
 use Rattle.definition.specs.Run.{State, Limits, Event, opened, leaf, closed, bad, Mode, ok, failed, stopped, spent, deep, read}
-use Rattle.definition.specs.Render.{Source, Rec, Reading, bads, records, record-of, outcome-of, rendered, moments, exceeds, over}
+use Rattle.definition.specs.Render.{Source, Reading, bads, records, record-of, outcome-of, rendered, moments, exceeds, over}
 use Rattle.definition.specs.Answer.{Desk, Answer, refused, given, grounds, first-of, refusal, exceeded, answer, answer-of, source-of, After, refusing, blank, as-lent, left-by, after}
 use Rattle.definition.specs.Remaining.{Running}
 use Rattle.definition.proofs.Every.{and-left, and-right, never}

@@ -8,9 +8,10 @@ use mathlib.Core.Bool.{Bool, true, false, not}
 use lib.Dec.{T, ltb, ltb→lt, nltb→le}
 use lib.ListN.{length}
 use native.Mathlib.Omega.{arith}
+use Rattle.shapes.specs.Shapes.{Entry}
 use Rattle.definition.specs.Prog.{RULE-DECL, Production, Prog, many}
 use Rattle.definition.specs.Run.{State, Limits, hit, next, past, rule-keywords, skip, Reader, nodes, loop, exec, run, begin-steps}
-use Rattle.definition.specs.Render.{Quad, Reading, bads, outcome-of, rendered}
+use Rattle.definition.specs.Render.{Reading, bads, outcome-of, rendered}
 use Rattle.definition.specs.Answer.{Desk, given, words, refusal, exceeded, answer, source-of, After, refusing, blank, left-by, after}
 use Rattle.definition.specs.Remaining.{Running, standing, rows-before, written, recorded, remaining, Continued, Keyless, Solid, Junk}
 use Rattle.definition.specs.Ford.{Res, Exp, Ford, nt, star, rules, ford, strip, Accepts}
@@ -110,7 +111,7 @@ pub demand-3-rule : (L : Limits) (d : Desk) (n : ℕ) (x r : List ℕ) (m : ℕ)
     → Ford rules (nt RULE-DECL) (strip (s .rest)) m (Res.yes (strip r))
     → T (past (next rule-keywords r))
     → Running (v .mode)
-    → (v .rest ≡ r) × (recorded L d v ≡ recorded L d s) × ((w : List Quad) × (written d v ≡ written d s ++ w))
+    → (v .rest ≡ r) × (recorded L d v ≡ recorded L d s) × ((w : List Entry) × (written d v ≡ written d s ++ w))
 demand-3-rule = rule-behind
 
 -- "and after any run of rows at item position, not empty, with no trivia at either end and none of those keywords in it, whose next row past trivia is

@@ -6,6 +6,7 @@ use mathlib.Core.List.{List, [], _∷_, _++_, map}
 use mathlib.Core.Bool.{Bool, true, false}
 use lib.ListN.{length, length-append}
 use native.Mathlib.Omega.{arith}
+use Rattle.shapes.specs.Shapes.{HEAD}
 use Rattle.definition.specs.Grammar.{rule-decl}
 use Rattle.definition.specs.Run.{State, Reader, Limits, Draft, Event, opened, leaf, closed, bad, Choice, stray, Mode, ok, failed, stopped, Next, end, other, hit, sought, trivia, take, turn, put, charge, begin, finish, choose, nodes, rule-keywords, run, read-rule, stray-item, item-at, flush, again, item, items, start, read}
 use Rattle.definition.specs.Render.{Source, form-of, names-of, size-of, said, held, moments, used}
@@ -150,7 +151,7 @@ module _ (pre a e : List ℕ) (B : Before pre a e) (y : Source) (L : Limits) whe
   x = later pre a e y
 
   size-later : (n : ℕ) (c : Choice) → n ≤ N → size-of L x n c ≡ size-of L y n c
-  size-later n c l = ap₂ (λ (i : ℕ) (t : List ℕ). 4 + length (names-of (form-of L i t c) c)) (id-later pre a e B y n l) (text-later pre a e B y n l)
+  size-later n c l = ap₂ (λ (i : ℕ) (t : List ℕ). HEAD + length (names-of (form-of L i t c) c)) (id-later pre a e B y n l) (text-later pre a e B y n l)
 
   said-later : (w : List Event) → Ins N w → said L x w ≡ said L y w
   said-later [] i = refl

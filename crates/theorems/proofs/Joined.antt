@@ -9,10 +9,13 @@ use lib.ListN.{length, getD, length-append}
 use native.Mathlib.Nat.{min-eq-left, max-eq-right, le-refl}
 use native.Mathlib.Omega.{arith}
 use Rattle.kinds.specs.Kinds as k
+use Rattle.shapes.specs.Sort as Sort
+use Rattle.shapes.specs.Refusal as Refusal
+use Rattle.shapes.specs.Shapes.{EVENT, Entry, flat, entries}
 use Rattle.definition.specs.Run.{State, Limits, Event, opened, leaf, closed, bad, read}
-use Rattle.definition.specs.Render.{Source, starts-at, ends-at, span-end, Quad, flat, bads, render, inside, Reading, rendered}
+use Rattle.definition.specs.Render.{Source, starts-at, ends-at, span-end, bads, render, inside, Reading, rendered}
 use Rattle.definition.specs.Answer.{Desk, tile, answer, given, source-of}
-use Rattle.definition.specs.Merge.{quads, sorts, well-formed, error-of, Span, Mark, opens, joins, closes, keeps, ended, marked, marks, paired, reach, merge, finished, Merged, merged, refusing, merger}
+use Rattle.definition.specs.Merge.{sorts, well-formed, error-of, Span, Mark, opens, joins, closes, keeps, ended, marked, marks, paired, reach, merge, finished, Merged, merged, refusing, merger}
 use Rattle.definition.proofs.Every.{and-left, and-right}
 use Rattle.definition.proofs.Tidy.{In, Ins, read-tidy}
 use Rattle.theorems.proofs.Trail.{Trail, read-trail}
@@ -164,7 +167,7 @@ module _ (x : Source) where
   waits-down ms y h (t ∷ st) [] w = absurd w
   waits-down ms y h (t ∷ st) (n ∷ rs) w = waiting (eqb (t .0) k.ERROR) (λ o. o) (waits-down ms y (suc h) st rs) (waits-down ms y h st rs) w
 
-  waits-keep : (ms : List Mark) (e : Quad) (h : ℕ) (st : List (ℕ × ℕ)) (rs : List ℕ) → Waits x ms h st rs → Waits x (keeps e ∷ ms) h st rs
+  waits-keep : (ms : List Mark) (e : Entry) (h : ℕ) (st : List (ℕ × ℕ)) (rs : List ℕ) → Waits x ms h st rs → Waits x (keeps e ∷ ms) h st rs
   waits-keep ms e h [] [] w = tt
   waits-keep ms e h [] (n ∷ rs) w = absurd w
   waits-keep ms e h (t ∷ st) [] w = absurd w
@@ -212,22 +215,22 @@ module _ (x : Source) where
   ended-pairs (closes ∷ ms) h e = e
   ended-pairs (keeps q ∷ ms) h e = e
 
-  fine-keep : (e : Quad) (ms : List Mark) (q p : ℕ) (st : List (ℕ × ℕ)) (rs : List ℕ) → Fine x ms q st rs → Fine x (keeps e ∷ ms) p st rs
+  fine-keep : (e : Entry) (ms : List Mark) (q p : ℕ) (st : List (ℕ × ℕ)) (rs : List ℕ) → Fine x ms q st rs → Fine x (keeps e ∷ ms) p st rs
   fine-keep e ms q p st rs f = record { near = tt; orderly = f .orderly; waits = waits-keep ms e 0 st rs (f .waits); pairs = f .pairs }
 
   -- a begin, of an ERROR node or of another
-  fine-open : (t : ℕ × ℕ) (ms : List Mark) (q : ℕ) (st : List (ℕ × ℕ)) (rs : List ℕ) → Fine x ms q (t ∷ st) (q ∷ rs) → let e : Quad = (1, t .0, starts-at x q, t .1) in Fine x (marked (eqb (t .0) k.ERROR) false e ms) q st rs
+  fine-open : (t : ℕ × ℕ) (ms : List Mark) (q : ℕ) (st : List (ℕ × ℕ)) (rs : List ℕ) → Fine x ms q (t ∷ st) (q ∷ rs) → let e : Entry = (Sort.BEGIN, t .0, starts-at x q, t .1) in Fine x (marked (eqb (t .0) k.ERROR) false e ms) q st rs
   fine-open t ms q st rs f = go (eqb (t .0) k.ERROR) (f .waits) (f .pairs)
     where
-      go : (b : Bool) → Waiting b (ordered ms 0 (starts-at x q, t .1)) (Waits x ms 1 st rs) (Waits x ms 0 st rs) → paired ms (bump b (errs st)) ≡ true → Fine x (marked b false (1, t .0, starts-at x q, t .1) ms) q st rs
+      go : (b : Bool) → Waiting b (ordered ms 0 (starts-at x q, t .1)) (Waits x ms 1 st rs) (Waits x ms 0 st rs) → paired ms (bump b (errs st)) ≡ true → Fine x (marked b false (Sort.BEGIN, t .0, starts-at x q, t .1) ms) q st rs
       go true w p = record { near = le-refl (starts-at x q); orderly = (w .0, f .orderly); waits = waits-down ms (starts-at x q, t .1) 0 st rs (w .1); pairs = p }
-      go false w p = record { near = tt; orderly = f .orderly; waits = waits-keep ms (1, t .0, starts-at x q, t .1) 0 st rs w; pairs = p }
+      go false w p = record { near = tt; orderly = f .orderly; waits = waits-keep ms (Sort.BEGIN, t .0, starts-at x q, t .1) 0 st rs w; pairs = p }
 
   -- an end, of an ERROR node or of another; its node begins with n rows left and ends with q
-  fine-close : (a n q e : ℕ) (ms : List Mark) (st : List (ℕ × ℕ)) (rs : List ℕ) → starts-at x n ≤ starts-at x q → e ≡ starts-at x q → Fine x ms q st rs → Fine x (marked false (eqb a k.ERROR) (3, a, starts-at x n, e) ms) q ((a, e) ∷ st) (n ∷ rs)
+  fine-close : (a n q e : ℕ) (ms : List Mark) (st : List (ℕ × ℕ)) (rs : List ℕ) → starts-at x n ≤ starts-at x q → e ≡ starts-at x q → Fine x ms q st rs → Fine x (marked false (eqb a k.ERROR) (Sort.END, a, starts-at x n, e) ms) q ((a, e) ∷ st) (n ∷ rs)
   fine-close a n q e ms st rs l z f = go (eqb a k.ERROR) refl
     where
-      go : (b : Bool) → eqb a k.ERROR ≡ b → Fine x (marked false b (3, a, starts-at x n, e) ms) q ((a, e) ∷ st) (n ∷ rs)
+      go : (b : Bool) → eqb a k.ERROR ≡ b → Fine x (marked false b (Sort.END, a, starts-at x n, e) ms) q ((a, e) ∷ st) (n ∷ rs)
       go true i = record {
         near = ended-near ms (starts-at x q);
         orderly = ended-orderly ms (f .orderly);
@@ -237,7 +240,7 @@ module _ (x : Source) where
       go false i = record {
         near = tt;
         orderly = f .orderly;
-        waits = subst (λ (b : Bool). Waiting b (ordered ms 0 (starts-at x n, e)) (Waits x (keeps (3, a, starts-at x n, e) ∷ ms) 1 st rs) (Waits x (keeps (3, a, starts-at x n, e) ∷ ms) 0 st rs)) (sym i) (waits-keep ms (3, a, starts-at x n, e) 0 st rs (f .waits));
+        waits = subst (λ (b : Bool). Waiting b (ordered ms 0 (starts-at x n, e)) (Waits x (keeps (Sort.END, a, starts-at x n, e) ∷ ms) 1 st rs) (Waits x (keeps (Sort.END, a, starts-at x n, e) ∷ ms) 0 st rs)) (sym i) (waits-keep ms (Sort.END, a, starts-at x n, e) 0 st rs (f .waits));
         pairs = ap (λ (b : Bool). paired ms (bump b (errs st))) i ∙ f .pairs;
       }
 
@@ -247,34 +250,34 @@ module _ (x : Source) where
 
   module _ (P : Places x) where
     -- THE INDUCTION, as rendering goes: from the last event to the first
-    fine-render : (w : List Event) (q p : ℕ) (st : List (ℕ × ℕ)) (rs : List ℕ) (l : List Quad) → Trail q rs w p [] → Ins (length (x .ids)) w → Fine x (marks l) q st rs → Orderly (marks (render x st w l)) × (paired (marks (render x st w l)) 0 ≡ true)
+    fine-render : (w : List Event) (q p : ℕ) (st : List (ℕ × ℕ)) (rs : List ℕ) (l : List Entry) → Trail q rs w p [] → Ins (length (x .ids)) w → Fine x (marks l) q st rs → Orderly (marks (render x st w l)) × (paired (marks (render x st w l)) 0 ≡ true)
     fine-render [] q p st rs l t i f = (f .orderly, subst (λ (s : List (ℕ × ℕ)). paired (marks l) (errs s) ≡ true) (ends-empty (marks l) 0 st rs (t .1) (f .waits)) (f .pairs))
     fine-render (opened n ∷ w) q p st [] l t i f = absurd t
     fine-render (opened n ∷ w) q p [] (r ∷ rs) l t i f = absurd (f .waits)
     fine-render (opened n ∷ w) q p (a ∷ st) (r ∷ rs) l t i f =
-        fine-render w q p st rs ((1, a .0, starts-at x n, a .1) ∷ l) (t .2) (i .1)
-        (subst (λ (m : ℕ). Fine x (marked (eqb (a .0) k.ERROR) false (1, a .0, starts-at x m, a .1) (marks l)) q st rs) (sym (t .0)) (fine-open a (marks l) q st rs (subst (λ (m : ℕ). Fine x (marks l) q (a ∷ st) (m ∷ rs)) (t .1 ∙ t .0) f)))
-    fine-render (leaf a n ∷ w) q p st rs l t i f = fine-render w n p st rs ((2, a, starts-at x n, ends-at x n) ∷ l) (t .1) (i .1) (fine-keep (2, a, starts-at x n, ends-at x n) (marks l) q n st rs f)
+        fine-render w q p st rs ((Sort.BEGIN, a .0, starts-at x n, a .1) ∷ l) (t .2) (i .1)
+        (subst (λ (m : ℕ). Fine x (marked (eqb (a .0) k.ERROR) false (Sort.BEGIN, a .0, starts-at x m, a .1) (marks l)) q st rs) (sym (t .0)) (fine-open a (marks l) q st rs (subst (λ (m : ℕ). Fine x (marks l) q (a ∷ st) (m ∷ rs)) (t .1 ∙ t .0) f)))
+    fine-render (leaf a n ∷ w) q p st rs l t i f = fine-render w n p st rs ((Sort.TOKEN, a, starts-at x n, ends-at x n) ∷ l) (t .1) (i .1) (fine-keep (Sort.TOKEN, a, starts-at x n, ends-at x n) (marks l) q n st rs f)
     fine-render (closed a n m ∷ w) q p st rs l t i f =
         let e = P .behind n m (i .0 .1) (i .0 .0) in
         let c = P .climbs n m (i .0 .1) (i .0 .0) in
         let z = ap (starts-at x) (t .0) in
-        fine-render w q p ((a, span-end x n m) ∷ st) (n ∷ rs) ((3, a, starts-at x n, span-end x n m) ∷ l) (t .1) (i .1) (fine-close a n q (span-end x n m) (marks l) st rs (omega (arith, c, z)) (e ∙ z) f)
-    fine-render (bad n c ∷ w) q p st rs l t i f = fine-render w q p st rs ((4, bads w, starts-at x n, ends-at x n) ∷ l) t (i .1) (fine-keep (4, bads w, starts-at x n, ends-at x n) (marks l) q q st rs f)
+        fine-render w q p ((a, span-end x n m) ∷ st) (n ∷ rs) ((Sort.END, a, starts-at x n, span-end x n m) ∷ l) (t .1) (i .1) (fine-close a n q (span-end x n m) (marks l) st rs (omega (arith, c, z)) (e ∙ z) f)
+    fine-render (bad n c ∷ w) q p st rs l t i f = fine-render w q p st rs ((Sort.ERROR, bads w, starts-at x n, ends-at x n) ∷ l) t (i .1) (fine-keep (Sort.ERROR, bads w, starts-at x n, ends-at x n) (marks l) q q st rs f)
 
-sorts-render : (x : Source) (st : List (ℕ × ℕ)) (w : List Event) (l : List Quad) → sorts l ≡ true → sorts (render x st w l) ≡ true
+sorts-render : (x : Source) (st : List (ℕ × ℕ)) (w : List Event) (l : List Entry) → sorts l ≡ true → sorts (render x st w l) ≡ true
 sorts-render x st [] l e = e
 sorts-render x [] (opened n ∷ w) l e = sorts-render x [] w l e
-sorts-render x (t ∷ st) (opened n ∷ w) l e = sorts-render x st w ((1, t .0, starts-at x n, t .1) ∷ l) e
-sorts-render x st (leaf a n ∷ w) l e = sorts-render x st w ((2, a, starts-at x n, ends-at x n) ∷ l) e
-sorts-render x st (closed a n m ∷ w) l e = sorts-render x ((a, span-end x n m) ∷ st) w ((3, a, starts-at x n, span-end x n m) ∷ l) e
-sorts-render x st (bad n c ∷ w) l e = sorts-render x st w ((4, bads w, starts-at x n, ends-at x n) ∷ l) e
+sorts-render x (t ∷ st) (opened n ∷ w) l e = sorts-render x st w ((Sort.BEGIN, t .0, starts-at x n, t .1) ∷ l) e
+sorts-render x st (leaf a n ∷ w) l e = sorts-render x st w ((Sort.TOKEN, a, starts-at x n, ends-at x n) ∷ l) e
+sorts-render x st (closed a n m ∷ w) l e = sorts-render x ((a, span-end x n m) ∷ st) w ((Sort.END, a, starts-at x n, span-end x n m) ∷ l) e
+sorts-render x st (bad n c ∷ w) l e = sorts-render x st w ((Sort.ERROR, bads w, starts-at x n, ends-at x n) ∷ l) e
 
-pub quads-flat : (es : List Quad) → quads (flat es) ≡ es
-quads-flat [] = refl
-quads-flat (e ∷ es) = ap (λ (l : List Quad). e ∷ l) (quads-flat es)
+pub entries-flat : (es : List Entry) → entries (flat es) ≡ es
+entries-flat [] = refl
+entries-flat (e ∷ es) = ap (λ (l : List Entry). e ∷ l) (entries-flat es)
 
-pub flat-length : (es : List Quad) → length (flat es) ≡ 4 * length es
+pub flat-length : (es : List Entry) → length (flat es) ≡ EVENT * length es
 flat-length [] = refl
 flat-length (e ∷ es) = omega (arith, flat-length es)
 
@@ -287,9 +290,9 @@ merge-shorter (closes ∷ ms) [] = omega (arith, merge-shorter ms [])
 merge-shorter (closes ∷ ms) (z ∷ st) = omega (arith, merge-shorter ms st)
 merge-shorter (keeps e ∷ ms) st = omega (arith, merge-shorter ms st)
 
-marks-shorter : (es : List Quad) → length (marks es) ≤ length es
+marks-shorter : (es : List Entry) → length (marks es) ≤ length es
 marks-shorter [] = le-refl 0
-marks-shorter (e ∷ es) = go (error-of 1 e) (error-of 3 e) (marks es) (marks-shorter es)
+marks-shorter (e ∷ es) = go (error-of Sort.BEGIN e) (error-of Sort.END e) (marks es) (marks-shorter es)
   where
     end : (ms : List Mark) → length (ended ms) ≤ suc (length ms)
     end [] = omega arith
@@ -314,12 +317,12 @@ module _ (L : Limits) (d : Desk) (R : Reading) (e : answer L d ≡ given R) wher
   z : ℕ
   z = length (d .bytes)
 
-  behind : List Quad
-  behind = (3, k.SOURCE-FILE, 0, z) ∷ []
+  behind : List Entry
+  behind = (Sort.END, k.SOURCE-FILE, 0, z) ∷ []
 
-  listed : R .events ≡ (1, k.SOURCE-FILE, 0, z) ∷ render x [] (t .out) behind
+  listed : R .events ≡ (Sort.BEGIN, k.SOURCE-FILE, 0, z) ∷ render x [] (t .out) behind
   unfolding x t z behind
-  listed = ap (λ (r : Reading). r .events) (given-is L d R e .whole) ∙ ap (λ (l : List Quad). (1, k.SOURCE-FILE, 0, z) ∷ l) (sym (render-keeps x [] (t .out) [] behind))
+  listed = ap (λ (r : Reading). r .events) (given-is L d R e .whole) ∙ ap (λ (l : List Entry). (Sort.BEGIN, k.SOURCE-FILE, 0, z) ∷ l) (sym (render-keeps x [] (t .out) [] behind))
 
   read-fine : Orderly (marks (R .events)) × (paired (marks (R .events)) 0 ≡ true)
   unfolding x t z behind
@@ -327,40 +330,40 @@ module _ (L : Limits) (d : Desk) (R : Reading) (e : answer L d ≡ given R) wher
       let r = rows-of d (given-is L d R e .unrefused) .0 in
       let i = read-tidy L (d .ids) (d .fuel) .0 in
       let f = fine-render x (places d r) (t .out) (length (t .rest)) (length (d .ids)) [] [] behind (read-trail L (d .ids) (d .fuel)) i (record { near = tt; orderly = tt; waits = tt; pairs = refl }) in
-      subst (λ (l : List Quad). Orderly (marks l) × (paired (marks l) 0 ≡ true)) (sym listed) f
+      subst (λ (l : List Entry). Orderly (marks l) × (paired (marks l) 0 ≡ true)) (sym listed) f
 
   read-sorts : sorts (R .events) ≡ true
   unfolding x t z behind
   read-sorts = ap sorts listed ∙ sorts-render x [] (t .out) behind refl
 
   -- its spans are in order: where ERROR nodes are joined, each begins no earlier than the one before it ends
-  pub read-in-order : Orderly (marks (quads (flat (R .events))))
-  read-in-order = subst (λ (l : List Quad). Orderly (marks l)) (sym (quads-flat (R .events))) (read-fine .0)
+  pub read-in-order : Orderly (marks (entries (flat (R .events))))
+  read-in-order = subst (λ (l : List Entry). Orderly (marks l)) (sym (entries-flat (R .events))) (read-fine .0)
 
   -- "9: event numbers not a multiple of 4, or a sort outside 1..4"
   pub read-well-formed : well-formed (flat (R .events)) ≡ true
   read-well-formed =
-      let n : length (flat (R .events)) % 4 ≡ 0 = omega (arith, flat-length (R .events)) in
-      ap (λ (i : ℕ). eqb i 0 && sorts (quads (flat (R .events)))) n ∙ ap sorts (quads-flat (R .events)) ∙ read-sorts
+      let n : length (flat (R .events)) % EVENT ≡ 0 = omega (arith, flat-length (R .events)) in
+      ap (λ (i : ℕ). eqb i 0 && sorts (entries (flat (R .events)))) n ∙ ap sorts (entries-flat (R .events)) ∙ read-sorts
 
   -- "10: an ERROR end with none open, or an ERROR begin never closed"
-  pub read-paired : paired (marks (quads (flat (R .events)))) 0 ≡ true
-  read-paired = ap (λ (l : List Quad). paired (marks l) 0) (quads-flat (R .events)) ∙ read-fine .1
+  pub read-paired : paired (marks (entries (flat (R .events)))) 0 ≡ true
+  read-paired = ap (λ (l : List Entry). paired (marks l) 0) (entries-flat (R .events)) ∙ read-fine .1
 
   -- so the merger, handed what the reader wrote, gives 7 or its finished list, and the latter in any room that the reader's list fits in
-  pub never-9-or-10 : (room : ℕ) → let l : List ℕ = flat (R .events) in merger l room ≡ refusing 7 (leb (4 * length (finished l)) room) (merged (finished l))
+  pub never-9-or-10 : (room : ℕ) → let l : List ℕ = flat (R .events) in merger l room ≡ refusing Refusal.EVENTS (leb (EVENT * length (finished l)) room) (merged (finished l))
   never-9-or-10 room =
       let l : List ℕ = flat (R .events) in
-      let rest : Merged = refusing 7 (leb (4 * length (finished l)) room) (merged (finished l)) in
-      ap (λ (b : Bool). refusing 9 b (refusing 10 (paired (marks (quads l)) 0) rest)) read-well-formed ∙ ap (λ (b : Bool). refusing 10 b rest) read-paired
+      let rest : Merged = refusing Refusal.EVENTS (leb (EVENT * length (finished l)) room) (merged (finished l)) in
+      ap (λ (b : Bool). refusing Refusal.MALFORMED b (refusing Refusal.UNPAIRED (paired (marks (entries l)) 0) rest)) read-well-formed ∙ ap (λ (b : Bool). refusing Refusal.UNPAIRED b rest) read-paired
 
-  pub merges-in-its-room : (room : ℕ) → 4 * length (R .events) ≤ room → let l : List ℕ = flat (R .events) in merger l room ≡ merged (finished l)
+  pub merges-in-its-room : (room : ℕ) → EVENT * length (R .events) ≤ room → let l : List ℕ = flat (R .events) in merger l room ≡ merged (finished l)
   merges-in-its-room room h =
       let l : List ℕ = flat (R .events) in
-      let n = merge-shorter (marks (quads l)) [] in
-      let m = marks-shorter (quads l) in
-      let q = ap length (quads-flat (R .events)) in
-      never-9-or-10 room ∙ ap (λ (b : Bool). refusing 7 b (merged (finished l))) (le-true (4 * length (finished l)) room (omega (arith, n, m, q, h)))
+      let n = merge-shorter (marks (entries l)) [] in
+      let m = marks-shorter (entries l) in
+      let q = ap length (entries-flat (R .events)) in
+      never-9-or-10 room ∙ ap (λ (b : Bool). refusing Refusal.EVENTS b (merged (finished l))) (le-true (EVENT * length (finished l)) room (omega (arith, n, m, q, h)))
     where
       le-true : (a b : ℕ) → a ≤ b → leb a b ≡ true
       le-true a b h = truth (leb a b) (le→leb a b h)

@@ -7,15 +7,17 @@ use lib.ListN.{length}
 use native.Mathlib.Omega.{arith}
 use Rattle.kinds.specs.Kinds as kinds
 use Rattle.kinds.specs.Sets.{trivial, kindOf}
+use Rattle.shapes.specs.Sort as Sort
+use Rattle.shapes.specs.Shapes.{Entry, Rec}
 use Rattle.definition.specs.Run.{Limits, Event, opened, leaf, closed, bad, stray, skip, trivia-out}
-use Rattle.definition.specs.Render.{Source, starts-at, span-end, Quad, Rec, bads, render, inside, records}
+use Rattle.definition.specs.Render.{Source, starts-at, span-end, bads, render, inside, records}
 use Rattle.definition.specs.Remaining.{tokens, junk-error, junk-events}
 use Rattle.definition.proofs.Shown.{render-keeps, records-keep}
 use Rattle.theorems.proofs.Stands.{leaves}
 
 module _ (x : Source) where
   -- rows are written as their tokens
-  render-leaves : (j r : List ℕ) (o : List Event) (st : List (ℕ × ℕ)) (l : List Quad) → render x st (leaves j r o) l ≡ render x st o (tokens x j r ++ l)
+  render-leaves : (j r : List ℕ) (o : List Event) (st : List (ℕ × ℕ)) (l : List Entry) → render x st (leaves j r o) l ≡ render x st o (tokens x j r ++ l)
   render-leaves [] r o st l = refl
   render-leaves (i ∷ j) r o st l = render-leaves j r (leaf (kindOf i) (suc (length (j ++ r))) ∷ o) st l
 
@@ -34,7 +36,7 @@ module _ (x : Source) where
       let n : ℕ = length (j ++ r) in
       let a : ℕ = starts-at x n in
       let z : ℕ = span-end x n (length r) in
-      render-leaves j r (opened n ∷ bad n stray ∷ leaves g (j ++ r) o) ((kinds.ERROR, z) ∷ []) ((3, kinds.ERROR, a, z) ∷ [])
+      render-leaves j r (opened n ∷ bad n stray ∷ leaves g (j ++ r) o) ((kinds.ERROR, z) ∷ []) ((Sort.END, kinds.ERROR, a, z) ∷ [])
       ∙ ap (λ (i : ℕ). render x [] (leaves g (j ++ r) o) (junk-events x i j r)) (bads-leaves g (j ++ r) o)
       ∙ render-leaves g (j ++ r) o [] (junk-events x (bads o) j r)
       ∙ render-keeps x [] o [] (tokens x g (j ++ r) ++ junk-events x (bads o) j r)

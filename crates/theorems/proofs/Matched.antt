@@ -10,9 +10,10 @@ use native.Mathlib.Omega.{arith}
 use Rattle.kinds.specs.Kinds as kinds
 use Rattle.kinds.specs.Sets.{kindOf, trivial}
 use Rattle.utf8.specs.Utf8.{utf8}
+use Rattle.shapes.specs.Shapes.{Rec}
 use Rattle.definition.specs.Grammar.{rule-decl}
 use Rattle.definition.specs.Run.{State, Reader, Limits, Event, opened, leaf, closed, bad, Choice, wanted, unwanted, stray, Mode, ok, failed, stopped, Next, end, other, hit, next, sought, skip, past, trivia-out, trivia, seek, seek-out, skip-to, turn, put, begin, finish, nodes, furthest, pending, add, decide, choose, errors, run, rule-keywords, read-rule, stray-item, item-at, flush, again, item, items, start, read}
-use Rattle.definition.specs.Render.{Source, starts-at, ends-at, id-at, text-at, form-found, form-slash, form-unknown, form-wanted, form-unwanted, form-of, Rec, record-of, records, Reading}
+use Rattle.definition.specs.Render.{Source, starts-at, ends-at, id-at, text-at, form-found, form-slash, form-unknown, form-wanted, form-unwanted, form-of, record-of, records, Reading}
 use Rattle.definition.specs.Answer.{Desk, tile, answer, given, source-of}
 use Rattle.definition.proofs.Every.{and-left, and-right, never}
 use Rattle.definition.proofs.Gap.{gap-out}

@@ -7,9 +7,10 @@ use lib.Dec.{T}
 use lib.ListN.{length, drop, take, length-drop, length-append}
 use native.Mathlib.Omega.{arith}
 use Rattle.kinds.specs.Kinds as k
+use Rattle.shapes.specs.Shapes.{Entry, flat, Rec}
 use Rattle.definition.specs.Prog.{RULE-DECL, node}
 use Rattle.definition.specs.Run.{State, Limits, Event, opened, closed, bad, stray, Next, end, other, hit, next, past, sought, rule-keywords, skip, item, items, start, read}
-use Rattle.definition.specs.Render.{Source, Quad, Rec, Reading, bads, flat, inside, records, outcome-of, rendered, moments}
+use Rattle.definition.specs.Render.{Source, Reading, bads, inside, records, outcome-of, rendered, moments}
 use Rattle.definition.specs.Buffer.{buffer}
 use Rattle.definition.specs.Answer.{Desk, given, words, refusal, answer, source-of}
 use Rattle.definition.specs.Remaining.{Running, standing, rows-before, place, written, recorded, remaining, shifts, shift-records, in-file, Continued, Keyless, Solid, tokens, junk-events, Junk}
@@ -125,7 +126,7 @@ module _ (L : Limits) (d : Desk) (n : ℕ) where
 
   -- right behind an accepted rule
   pub rule-behind : (x r : List ℕ) (m : ℕ) → Running (s .mode) → s .rest ≡ x ++ r → Solid x → Ford rules (nt RULE-DECL) (strip (s .rest)) m (Res.yes (strip r)) → T (past (next rule-keywords r)) → let v : State = standing L d (n + 1) in Running (v .mode) →
-      (v .rest ≡ r) × (recorded L d v ≡ recorded L d s) × ((w : List Quad) × (written d v ≡ written d s ++ w))
+      (v .rest ≡ r) × (recorded L d v ≡ recorded L d s) × ((w : List Entry) × (written d v ≡ written d s ++ w))
   rule-behind x r _ m e q g p = at (solid-front x r q)
     where
       followed : (y : Next) → next rule-keywords r ≡ y → T (past y) → Off (sought rule-keywords (strip r)) → ⊥
@@ -134,7 +135,7 @@ module _ (L : Limits) (d : Desk) (n : ℕ) where
       followed (hit a is) z t o = subst Off (next-hit rule-keywords r a is z) o
 
       Stood : State → Type 0
-      Stood v = (v .rest ≡ r) × (recorded L d v ≡ recorded L d s) × ((w : List Quad) × (written d v ≡ written d s ++ w))
+      Stood v = (v .rest ≡ r) × (recorded L d v ≡ recorded L d s) × ((w : List Entry) × (written d v ≡ written d s ++ w))
 
       stood : Running ((item L (standing L d n)) .mode) → Stood (item L (standing L d n))
       stood k =

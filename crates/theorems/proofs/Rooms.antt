@@ -8,8 +8,10 @@ use lib.Dec.{T, ltb, ltb→lt, lt→ltb}
 use lib.ListN.{length, replicate, length-append, length-replicate}
 use native.Mathlib.Omega.{arith}
 use Rattle.kinds.specs.Kinds as k
+use Rattle.shapes.specs.Sort as Sort
+use Rattle.shapes.specs.Shapes.{EVENT, Entry, flat, Rec, flat-records}
 use Rattle.definition.specs.Run.{State, Limits, Draft, Event, opened, leaf, closed, bad}
-use Rattle.definition.specs.Render.{Source, Quad, Rec, Reading, records, record-of, said, flat, flat-records, inside, rendered, moments, exceeds, over, used}
+use Rattle.definition.specs.Render.{Source, Reading, records, record-of, said, inside, rendered, moments, exceeds, over, used}
 use Rattle.definition.specs.Answer.{Desk, Answer, refused, given, refusal, exceeded, answer, answer-of, source-of, After, refusing, blank, as-lent, filled, left-by, after}
 use Rattle.definition.proofs.Tidy.{read-tidy}
 use Rattle.definition.proofs.Buffer.{buffer-length, buffer-finished}
@@ -78,37 +80,37 @@ room-enough L d z =
     (h .0, h .1, λ ev er a b. is-given L (lent d ev er) z (fits-over (length ev) (length er) ms (fits-more (h .0) (length ev) (h .1) (length er) ms a b (h .2))))
 
 -- a moment's events are a multiple of 4, so the room serves as the multiple below
-same-test : (e n : ℕ) → ltb e (4 * n) ≡ ltb (4 * (e / 4)) (4 * n)
-same-test e n = go (ltb e (4 * n)) (ltb (4 * (e / 4)) (4 * n)) (ltb→lt e (4 * n)) (lt→ltb e (4 * n)) (ltb→lt (4 * (e / 4)) (4 * n)) (lt→ltb (4 * (e / 4)) (4 * n))
+same-test : (e n : ℕ) → ltb e (EVENT * n) ≡ ltb (EVENT * (e / EVENT)) (EVENT * n)
+same-test e n = go (ltb e (EVENT * n)) (ltb (EVENT * (e / EVENT)) (EVENT * n)) (ltb→lt e (EVENT * n)) (lt→ltb e (EVENT * n)) (ltb→lt (EVENT * (e / EVENT)) (EVENT * n)) (lt→ltb (EVENT * (e / EVENT)) (EVENT * n))
   where
-    go : (x y : Bool) → (T x → e < 4 * n) → (e < 4 * n → T x) → (T y → 4 * (e / 4) < 4 * n) → (4 * (e / 4) < 4 * n → T y) → x ≡ y
+    go : (x y : Bool) → (T x → e < EVENT * n) → (e < EVENT * n → T x) → (T y → EVENT * (e / EVENT) < EVENT * n) → (EVENT * (e / EVENT) < EVENT * n → T y) → x ≡ y
     go true true a b c d = refl
     go false false a b c d = refl
     go true false a b c d = absurd (d (omega (arith, a tt)))
     go false true a b c d = absurd (b (omega (arith, c tt)))
 
-same-exceeds : (e r n m : ℕ) → exceeds e r (4 * n, m) ≡ exceeds (4 * (e / 4)) r (4 * n, m)
+same-exceeds : (e r n m : ℕ) → exceeds e r (EVENT * n, m) ≡ exceeds (EVENT * (e / EVENT)) r (EVENT * n, m)
 same-exceeds e r n m = ap (λ (b : Bool). elim b as (λ _. ℕ) [ true ↦ 7 | false ↦ elim (ltb r m) as (λ _. ℕ) [ true ↦ 8 | false ↦ 0 ] ]) (same-test e n)
 
-same-over : (L : Limits) (x : Source) (e r : ℕ) (ds : List Draft) → over e r (map (used L x) ds) ≡ over (4 * (e / 4)) r (map (used L x) ds)
+same-over : (L : Limits) (x : Source) (e r : ℕ) (ds : List Draft) → over e r (map (used L x) ds) ≡ over (EVENT * (e / EVENT)) r (map (used L x) ds)
 same-over L x e r [] = refl
 same-over L x e r (d ∷ ds) = ap₂ (λ (n i : ℕ). elim n as (λ _. ℕ) [ zero ↦ i | suc n ↦ suc n ]) (same-over L x e r ds) (same-exceeds e r _ _)
 
-pub multiple-below : (L : Limits) (x : Source) (e r : ℕ) (s : State) → over e r (moments L x s) ≡ over (4 * (e / 4)) r (moments L x s)
+pub multiple-below : (L : Limits) (x : Source) (e r : ℕ) (s : State) → over e r (moments L x s) ≡ over (EVENT * (e / EVENT)) r (moments L x s)
 multiple-below L x e r s = ap₂ (λ (n i : ℕ). elim n as (λ _. ℕ) [ zero ↦ i | suc n ↦ suc n ]) (same-over L x e r (s .drafts)) (same-exceeds e r _ _)
 
 -- what a finished list takes
-flat-append : (a b : List Quad) → length (flat (a ++ b)) ≡ length (flat a) + length (flat b)
+flat-append : (a b : List Entry) → length (flat (a ++ b)) ≡ length (flat a) + length (flat b)
 flat-append [] b = omega arith
 flat-append (q ∷ a) b = omega (arith, flat-append a b)
 
-events-size : (L : Limits) (d : Desk) → length (flat ((rendered L (source-of d) (reading L d)) .events)) ≡ 4 * suc (suc (length ((reading L d) .out)))
+events-size : (L : Limits) (d : Desk) → length (flat ((rendered L (source-of d) (reading L d)) .events)) ≡ EVENT * suc (suc (length ((reading L d) .out)))
 events-size L d =
     let x = source-of d in
     let o = (reading L d) .out in
     let i = inside x o in
     let z = length (d .bytes) in
-    omega (arith, flat-append i ((3, k.SOURCE-FILE, 0, z) ∷ []), sym (ap length (buffer-finished x o (read-tidy L (d .ids) (d .fuel) .1))) ∙ buffer-length x o)
+    omega (arith, flat-append i ((Sort.END, k.SOURCE-FILE, 0, z) ∷ []), sym (ap length (buffer-finished x o (read-tidy L (d .ids) (d .fuel) .1))) ∙ buffer-length x o)
 
 records-size : (L : Limits) (x : Source) (o : List Event) (l : List Rec) → length (flat-records (records L x o l)) ≡ said L x o + length (flat-records l)
 records-size L x [] l = omega arith

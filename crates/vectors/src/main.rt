@@ -7,8 +7,14 @@ use kinds::kind;
 use libc::STDOUT_FILENO;
 use listing::Next;
 use listing::Number;
+use shapes::event::END;
+use shapes::event::EVENT;
+use shapes::event::KIND;
+use shapes::event::START;
+use shapes::sort;
 ghost use Prim.Native.Nat.{_+_, _≤_, _<_};
 ghost use lib.ListN.{length};
+ghost use Rattle.shapes.specs.Shapes.{EVENT};
 
 // How many numbers a vector begins with.
 const HEAD: usize = 8;
@@ -89,7 +95,7 @@ fn layout(size: u32, rows: u32, events: u32) -> Places
         ids,
         bounds,
         events: list,
-        records: list + 4 * events as usize,
+        records: list + EVENT * events as usize,
     }
 }
 
@@ -116,7 +122,7 @@ fn is_error(list: &[u32], at: usize, sort: u32) -> bool
     if list[at] != sort {
         return false;
     }
-    list[at + 1] == kind::ERROR
+    list[at + KIND] == kind::ERROR
 }
 
 fn move_number(list: &mut [u32], from: usize, to: usize)
@@ -128,21 +134,21 @@ fn move_number(list: &mut [u32], from: usize, to: usize)
 // The event at the first place joins the list that ends at the second, or, where it closes an empty ERROR node, takes that node's begin event out of the
 // list. The answer is where the list ends then.
 fn keep(list: &mut [u32], at: usize, to: usize) -> usize
-    requires { ⌜ (to ≤ at) × (at + 4 ≤ length (now list)) ⌝ }
-    ensures { λ r. ⌜ r ≤ to + 4 ⌝ }
+    requires { ⌜ (to ≤ at) × (at + EVENT ≤ length (now list)) ⌝ }
+    ensures { λ r. ⌜ r ≤ to + EVENT ⌝ }
 {
-    if 4 <= to {
-        if is_error(list, at, 3) {
-            if is_error(list, to - 4, 1) {
-                return to - 4;
+    if EVENT <= to {
+        if is_error(list, at, sort::END) {
+            if is_error(list, to - EVENT, sort::BEGIN) {
+                return to - EVENT;
             }
         }
     }
     move_number(list, at, to);
-    move_number(list, at + 1, to + 1);
-    move_number(list, at + 2, to + 2);
-    move_number(list, at + 3, to + 3);
-    to + 4
+    move_number(list, at + KIND, to + KIND);
+    move_number(list, at + START, to + START);
+    move_number(list, at + END, to + END);
+    to + EVENT
 }
 
 // Takes empty ERROR nodes out, inside out, since the Rust writes none (docs/DIFFERENCES.md, row 1), and answers by how many events the list is shorter.
@@ -152,12 +158,12 @@ fn strip(list: &mut [u32]) -> usize
 {
     let mut at = 0;
     let mut to = 0;
-    while 4 <= list.len() - at {
+    while EVENT <= list.len() - at {
         to = keep(list, at, to);
-        at += 4;
+        at += EVENT;
     }
     cells::clear(&mut list[to..]);
-    (at - to) / 4
+    (at - to) / EVENT
 }
 
 // Whether the room holds the stored list, and behind it zeros.

@@ -1,6 +1,6 @@
 USES = """use native.Mathlib.Omega.{arith}
 use lib.ListN.{length-set}
-use Rattle.notes.proofs.Core.{pen-not, pen-full, pen-four, put-of}
+use Rattle.notes.proofs.Core.{pen-not, pen-full, pen-event, put-of}
 use Rattle.steps.specs.Steps.{whole}
 """
 S = "(whole ({args} .self) l)"
@@ -13,5 +13,5 @@ ANS = {
     "slice-write-events-3": W,
     "slice-write-events-4": W,
     "same-length": "simp length-set",
-    "returns-3": f"λ l. put-of {S} (pen-four {AT} _ _ _ _ _ ({{if1}} .left) (omega arith) ({{pre}} .1))",
+    "returns-3": f"λ l. put-of {S} (pen-event {AT} _ _ _ _ _ ({{if1}} .left) (omega arith) ({{pre}} .1))",
 }

@@ -9,10 +9,11 @@ H = "({pre} .3 ({if1} .left))"
 W = f"omega (arith, {{pre}} .0 .0, {{pre}} .0 .1, {H} .0, {H} .1)"
 ANS = {
     "returns": "λ l bytes ids er sc v w. shuts-not _ _ ({args} .at) ({if1} .taken) w",
-    "sub-events": f"omega (arith, {H} .0)",
+    "sub-begin": f"omega (arith, {H} .0)",
+    "add-events": W,
     "mul-events": W,
     "slice-write-events": W,
-    "sub-events-2": f"omega (arith, {H} .0)",
+    "add-events-2": W,
     "mul-events-2": W,
     "slice-write-events-2": f"simp length-set ({W})",
     "put-requires": "({pre} .0 .0, simp length-set ({pre} .0 .1))",

@@ -1,6 +1,7 @@
 -- `listing::write::put_event` meets its contract: the sort picks the line.
 use borrow.Author.Needs.{needs}
 use Rattle.kinds.proofs.Spelt.{spelled-as, spelled-none}
+use Rattle.shapes.specs.Sort as Sort
 use Rattle.listing.specs.Listing.{eventLine}
 use Rattle.listing.proofs.Records.{of-sort, of-record, no-sort}
 use Rattle.listing.proofs.write.put_event.Statement.{statement}
@@ -42,7 +43,7 @@ returns c =
     let at-node-line = c .before .before in
     let at-match = at-node-line .before .before in
     let entry = at-match .before .before .before in
-    spelled-as (of-sort (entry .args .errors .now) (entry .args .sort) (entry .args .second) (entry .args .start) (entry .args .end) 1 (at-match .match .keys1)) (at-node-line .node-line .ensures)
+    spelled-as (of-sort (entry .args .errors .now) (entry .args .sort) (entry .args .second) (entry .args .start) (entry .args .end) Sort.BEGIN (at-match .match .keys1)) (at-node-line .node-line .ensures)
 
 same-length-2 : tie.Need-same-length-2
 same-length-2 c = search needs
@@ -53,7 +54,7 @@ returns-2 c =
     let at-node-line2 = c .before .before in
     let at-match = at-node-line2 .before .before in
     let entry = at-match .before .before .before in
-    spelled-as (of-sort (entry .args .errors .now) (entry .args .sort) (entry .args .second) (entry .args .start) (entry .args .end) 2 (at-match .match .keys2)) (at-node-line2 .node-line2 .ensures)
+    spelled-as (of-sort (entry .args .errors .now) (entry .args .sort) (entry .args .second) (entry .args .start) (entry .args .end) Sort.TOKEN (at-match .match .keys2)) (at-node-line2 .node-line2 .ensures)
 
 same-length-3 : tie.Need-same-length-3
 same-length-3 c = search needs
@@ -64,7 +65,7 @@ returns-3 c =
     let at-node-line3 = c .before .before in
     let at-match = at-node-line3 .before .before in
     let entry = at-match .before .before .before in
-    spelled-as (of-sort (entry .args .errors .now) (entry .args .sort) (entry .args .second) (entry .args .start) (entry .args .end) 3 (at-match .match .keys3)) (at-node-line3 .node-line3 .ensures)
+    spelled-as (of-sort (entry .args .errors .now) (entry .args .sort) (entry .args .second) (entry .args .start) (entry .args .end) Sort.END (at-match .match .keys3)) (at-node-line3 .node-line3 .ensures)
 
 same-length-4 : tie.Need-same-length-4
 same-length-4 c = search needs

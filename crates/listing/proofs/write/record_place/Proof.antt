@@ -1,6 +1,5 @@
 -- `listing::write::record_place` meets its contract: after `i` turns `i` records are passed.
 use Prim.Native.Nat.{_-_}
-use native.Mathlib.Omega.{arith}
 use borrow.Author.Needs.{needs}
 use Rattle.listing.proofs.Records.{Passing, passing, passing-on, passed}
 use Rattle.listing.proofs.write.record_place.Statement.{statement}
@@ -15,32 +14,8 @@ abbrev μ-loop : tie.MeasureT-loop
 loop-holds : tie.Need-loop-holds Inv-loop μ-loop
 loop-holds c = passing _ _
 
-mul-rest : tie.Need-mul-rest Inv-loop μ-loop
-mul-rest c = omega (arith, c .before .before .before .good .0 .1, c .before .loop .inv .within)
-
-sub-rest : tie.Need-sub-rest Inv-loop μ-loop
-sub-rest c = c .before .loop .inv .within
-
-part-rest-start : tie.Need-part-rest-start Inv-loop μ-loop
-part-rest-start c = c .before .loop .inv .within
-
-part-rest-end : tie.Need-part-rest-end Inv-loop μ-loop
-part-rest-end c = search needs
-
-number-at-requires : tie.Need-number-at-requires Inv-loop μ-loop
-number-at-requires c κs = search needs
-
-cast-least : tie.Need-cast-least Inv-loop μ-loop
-cast-least c = search needs
-
-add-least : tie.Need-add-least Inv-loop μ-loop
-add-least c = search needs
-
-least-requires : tie.Need-least-requires Inv-loop μ-loop
-least-requires c κs = search needs
-
-add-at : tie.Need-add-at Inv-loop μ-loop
-add-at c = search needs
+next-record-requires : tie.Need-next-record-requires Inv-loop μ-loop
+next-record-requires c κs = search needs
 
 add-i : tie.Need-add-i Inv-loop μ-loop
 add-i c = search needs
@@ -49,11 +24,7 @@ loop-less : tie.Need-loop-less Inv-loop μ-loop
 loop-less c = search needs
 
 loop-again : tie.Need-loop-again Inv-loop μ-loop
-loop-again c =
-    let at-number-at = c .before in
-    let at-loop-test = at-number-at .before .before in
-    let at-loop = at-loop-test .before in
-    passing-on (at-loop .loop .inv) (at-loop-test .loop-test .taken) (at-number-at .number-at .ensures) (c .least .ensures)
+loop-again c = passing-on (c .before .before .loop .inv) (c .before .loop-test .taken) (c .next-record .ensures)
 
 returns : tie.Need-returns Inv-loop μ-loop
 returns c = passed (c .before .loop .inv) (c .loop-test .left)
@@ -65,15 +36,7 @@ record-place-spec =
     Inv-loop
     μ-loop
     loop-holds
-    mul-rest
-    sub-rest
-    part-rest-start
-    part-rest-end
-    number-at-requires
-    cast-least
-    add-least
-    least-requires
-    add-at
+    next-record-requires
     add-i
     loop-less
     loop-again

@@ -4,8 +4,9 @@ use mathlib.Core.Path.{_≡_, refl, ap, sym, _∙_}
 use lib.ListN.{length}
 use native.Mathlib.Omega.{arith}
 use borrow.Author.Needs.{needs}
+use Rattle.shapes.specs.Shapes.{EVENT}
 use Rattle.merger.specs.Count.{counted}
-use Rattle.merger.specs.Events.{markOf, quad-at, rest}
+use Rattle.merger.specs.Events.{markOf, entry-at, rest}
 use Rattle.merger.specs.declared.judge.Tally.the-variants as tally
 use Rattle.merger.proofs.Counting.{comes, comes-first, comes-turn, comes-last, comes-open, tallied-more}
 use Rattle.merger.proofs.Reading.{other-at, rest-end}
@@ -13,7 +14,7 @@ use Rattle.merger.proofs.judge.count.Statement.{statement}
 use Rattle.merger.proofs.judge.count.Tie as tie
 
 abbrev Inv-loop : tie.InvT-loop
-Inv-loop events at₀ nodes₀ left₀ at nodes left = (at ≤ length events) × (4 * nodes ≤ at) × (4 * left ≤ at) × (counted (rest events 0) ≡ comes (tally.Open nodes left) (rest events at))
+Inv-loop events at₀ nodes₀ left₀ at nodes left = (at ≤ length events) × (EVENT * nodes ≤ at) × (EVENT * left ≤ at) × (counted (rest events 0) ≡ comes (tally.Open nodes left) (rest events at))
 
 abbrev μ-loop : tie.MeasureT-loop
 μ-loop events at₀ nodes₀ left₀ at nodes left = length events - at
@@ -75,7 +76,7 @@ loop-again-2 : tie.Need-loop-again-2 Inv-loop μ-loop
 loop-again-2 c =
     let turn = c .before .before .before in
     let events = turn .before .before .args .events .now in
-    let read = other-at events (turn .loop .at) (omega arith) (quad-at events (turn .loop .at)) refl (c .if1 .left) in
+    let read = other-at events (turn .loop .at) (omega arith) (entry-at events (turn .loop .at)) refl (c .if1 .left) in
     (omega arith, omega (arith, turn .loop .inv), omega (arith, turn .loop .inv), turn .loop .inv .3 ∙ comes-turn _ _ _ (turn .loop .nodes) (turn .loop .left) _ read refl)
 
 returns-2 : tie.Need-returns-2 Inv-loop μ-loop

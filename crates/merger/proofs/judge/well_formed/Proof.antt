@@ -3,13 +3,14 @@ use Prim.Native.Nat.{_≤_, _-_, _%_}
 use mathlib.Core.Path.{_≡_, sym, _∙_}
 use lib.ListN.{length}
 use native.Mathlib.Omega.{arith}
+use Rattle.shapes.specs.Shapes.{EVENT}
 use Rattle.definition.specs.Merge as D
 use Rattle.merger.proofs.Listing.{sorts-from, sort-fits, sort-low, sort-high, sorts-end, fours, no-fours}
 use Rattle.merger.proofs.judge.well_formed.Statement.{statement}
 use Rattle.merger.proofs.judge.well_formed.Tie as tie
 
 abbrev Inv-loop : tie.InvT-loop
-Inv-loop events at₀ at = (at ≤ length events) × (at % 4 ≡ 0) × (length events % 4 ≡ 0) × (D.well-formed events ≡ sorts-from events at)
+Inv-loop events at₀ at = (at ≤ length events) × (at % EVENT ≡ 0) × (length events % EVENT ≡ 0) × (D.well-formed events ≡ sorts-from events at)
 
 abbrev μ-loop : tie.MeasureT-loop
 μ-loop events at₀ at = length events - at

@@ -1,7 +1,7 @@
 -- `ended` reads the mark of an ERROR end, with the ERROR begin after it.
 use mathlib.Core.Path.{sym, _∙_}
 use borrow.Author.Needs.{needs}
-use Rattle.merger.specs.Events.{quadOf}
+use Rattle.merger.specs.Events.{entryOf}
 use Rattle.merger.proofs.Reading.{closes-last, joins-at, closes-at}
 use Rattle.merger.proofs.marks.ended.Statement.{statement}
 use Rattle.merger.proofs.marks.ended.Tie as tie
@@ -30,13 +30,13 @@ returns-2 : tie.Need-returns-2
 returns-2 c =
     let s = c .before .before .before .before .before in
     let e = c .before .before .read in
-    record { first = joins-at _ (s .args .at) (s .pre .0) (s .pre .1) (search needs) (quadOf (e .result)) (e .ensures) (sym (c .before .is-error .ensures) ∙ c .if2 .taken); ahead = search needs; within = search needs }
+    record { first = joins-at _ (s .args .at) (s .pre .0) (s .pre .1) (search needs) (entryOf (e .result)) (e .ensures) (sym (c .before .is-error .ensures) ∙ c .if2 .taken); ahead = search needs; within = search needs }
 
 returns-3 : tie.Need-returns-3
 returns-3 c =
     let s = c .before .before .before .before .before in
     let e = c .before .before .read in
-    record { first = closes-at _ (s .args .at) (s .pre .0) (s .pre .1) (search needs) (quadOf (e .result)) (e .ensures) (sym (c .before .is-error .ensures) ∙ c .if2 .left); ahead = search needs; within = search needs }
+    record { first = closes-at _ (s .args .at) (s .pre .0) (s .pre .1) (search needs) (entryOf (e .result)) (e .ensures) (sym (c .before .is-error .ensures) ∙ c .if2 .left); ahead = search needs; within = search needs }
 
 pub ended-spec : {M : Type 1} → statement M
 ended-spec =

@@ -5,7 +5,7 @@ use lib.ListN.{length}
 use native.Mathlib.Omega.{arith}
 use borrow.Author.Needs.{needs}
 use Rattle.definition.specs.Merge.{finished}
-use Rattle.merger.specs.Events.{quadOf, rest}
+use Rattle.merger.specs.Events.{entryOf, rest}
 use Rattle.merger.specs.Pen.{page}
 use Rattle.merger.proofs.Reading.{other-at, rest-end}
 use Rattle.merger.proofs.Drafting.{Draft, started, able, drafted, completed}
@@ -60,7 +60,7 @@ keeps-requires c κs =
     let read = c .before .read in
     let loop = c .before .before .before .before .before .loop in
     let s = c .before .before .before .before .before .before .before .before in
-    able _ _ _ _ _ (other-at (s .args .events .now) (loop .at) (omega arith) (quadOf (read .result)) (read .ensures) (c .before .before .if1 .left)) (loop .inv .2)
+    able _ _ _ _ _ (other-at (s .args .events .now) (loop .at) (omega arith) (entryOf (read .result)) (read .ensures) (c .before .before .if1 .left)) (loop .inv .2)
 
 loop-less-2 : tie.Need-loop-less-2 Inv-loop μ-loop
 loop-less-2 c = omega arith
@@ -71,7 +71,7 @@ loop-again-2 c =
     let read = c .before .before .before .before .read in
     let loop = c .before .before .before .before .before .before .before .before .loop in
     let s = c .before .before .before .before .before .before .before .before .before .before .before in
-    (omega arith, keeps .kept .1 .1 .0 ∙ loop .inv .1, drafted _ _ _ _ _ (other-at (s .args .events .now) (loop .at) (omega arith) (quadOf (read .result)) (read .ensures) (c .before .before .before .before .before .if1 .left)) (loop .inv .2) _ (keeps .ensures))
+    (omega arith, keeps .kept .1 .1 .0 ∙ loop .inv .1, drafted _ _ _ _ _ (other-at (s .args .events .now) (loop .at) (omega arith) (entryOf (read .result)) (read .ensures) (c .before .before .before .before .before .if1 .left)) (loop .inv .2) _ (keeps .ensures))
 
 same-length : tie.Need-same-length Inv-loop μ-loop
 same-length c = c .before .loop .inv .1

@@ -1,6 +1,6 @@
 -- `closes` is what the mark does to room and pen.
 use borrow.Author.Needs.{needs}
-use Rattle.merger.specs.Events.{quadOf}
+use Rattle.merger.specs.Events.{entryOf}
 use Rattle.merger.specs.Pen.{page}
 use Rattle.merger.proofs.Turning.{shuts}
 use Rattle.merger.proofs.pen.Pen.closes.Statement.{statement}
@@ -40,7 +40,7 @@ returns : tie.Need-returns
 returns c =
     let s = c .before .before .before .before .before .before .before .before .before .before .before .before .before .before .args in
     let e = c .before .before .before .before .before .before .before .before .before .before .read in
-    shuts (page (s .room .now) (s .self)) (quadOf (e .result)) (e .ensures) _ _ (c .before .before .before .before .before .before .put .ensures) (c .before .before .put2 .ensures)
+    shuts (page (s .room .now) (s .self)) (entryOf (e .result)) (e .ensures) _ _ (c .before .before .before .before .before .before .put .ensures) (c .before .before .put2 .ensures)
 
 pub closes-spec : {M : Type 1} → statement M
 closes-spec =

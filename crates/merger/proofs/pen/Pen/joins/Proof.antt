@@ -1,6 +1,6 @@
 -- `joins` is what the mark does to room and pen.
 use borrow.Author.Needs.{needs}
-use Rattle.merger.specs.Events.{quadOf}
+use Rattle.merger.specs.Events.{entryOf}
 use Rattle.merger.specs.Pen.{page}
 use Rattle.merger.proofs.Turning.{widens}
 use Rattle.merger.proofs.pen.Pen.joins.Statement.{statement}
@@ -28,7 +28,7 @@ returns : tie.Need-returns
 returns c =
     let s = c .before .before .before .before .before .before .before .before .before .before .args in
     let e = c .before .before .before .before .before .before .read in
-    widens (page (s .room .now) (s .self)) (quadOf (e .result)) (e .ensures) (s .start, s .end) _ _ _ (c .before .before .before .before .before .least .ensures) (c .before .before .before .before .greatest .ensures) (c .before .before .put .ensures)
+    widens (page (s .room .now) (s .self)) (entryOf (e .result)) (e .ensures) (s .start, s .end) _ _ _ (c .before .before .before .before .before .least .ensures) (c .before .before .before .before .greatest .ensures) (c .before .before .put .ensures)
 
 pub joins-spec : {M : Type 1} → statement M
 joins-spec =

@@ -1,6 +1,6 @@
 use native.Mathlib.Omega.{arith}
 use lib.ListN.{length-set}
-use Rattle.notes.proofs.Core.{pen-not, pen-full, pen-four, put-of}
+use Rattle.notes.proofs.Core.{pen-not, pen-full, pen-event, put-of}
 use Rattle.steps.specs.Steps.{whole}
 use borrow.Author.Needs.{needs}
 use Rattle.steps.proofs.state.State.put.Statement.{statement}
@@ -57,7 +57,7 @@ same-length : tie.Need-same-length
 same-length c = simp length-set
 
 returns-3 : tie.Need-returns-3
-returns-3 c = λ l. put-of (whole (c .before .before .before .before .args .self) l) (pen-four (c .before .before .before .before .args .self .ev) (c .before .before .before .before .args .self .evcap) (c .before .before .before .before .args .self .full) _ _ _ _ _ (c .before .before .if1 .left) (omega arith) (c .before .before .before .before .pre .1))
+returns-3 c = λ l. put-of (whole (c .before .before .before .before .args .self) l) (pen-event (c .before .before .before .before .args .self .ev) (c .before .before .before .before .args .self .evcap) (c .before .before .before .before .args .self .full) _ _ _ _ _ (c .before .before .if1 .left) (omega arith) (c .before .before .before .before .pre .1))
 
 pub put-spec : {M : Type 1} → statement M
 put-spec =

@@ -21,8 +21,11 @@ start-of-requires c κs = search needs
 start-of-requires-2 : tie.Need-start-of-requires-2
 start-of-requires-2 c κs = search needs
 
-sub-events : tie.Need-sub-events
-sub-events c = omega (arith, (c .before .before .before .before .before .before .pre .3 (c .before .before .if1 .left)) .0)
+sub-begin : tie.Need-sub-begin
+sub-begin c = omega (arith, (c .before .before .before .before .before .before .pre .3 (c .before .before .if1 .left)) .0)
+
+add-events : tie.Need-add-events
+add-events c = omega (arith, c .before .before .before .before .before .before .pre .0 .0, c .before .before .before .before .before .before .pre .0 .1, (c .before .before .before .before .before .before .pre .3 (c .before .before .if1 .left)) .0, (c .before .before .before .before .before .before .pre .3 (c .before .before .if1 .left)) .1)
 
 mul-events : tie.Need-mul-events
 mul-events c = omega (arith, c .before .before .before .before .before .before .pre .0 .0, c .before .before .before .before .before .before .pre .0 .1, (c .before .before .before .before .before .before .pre .3 (c .before .before .if1 .left)) .0, (c .before .before .before .before .before .before .pre .3 (c .before .before .if1 .left)) .1)
@@ -30,8 +33,8 @@ mul-events c = omega (arith, c .before .before .before .before .before .before .
 slice-write-events : tie.Need-slice-write-events
 slice-write-events c = omega (arith, c .before .before .before .before .before .before .pre .0 .0, c .before .before .before .before .before .before .pre .0 .1, (c .before .before .before .before .before .before .pre .3 (c .before .before .if1 .left)) .0, (c .before .before .before .before .before .before .pre .3 (c .before .before .if1 .left)) .1)
 
-sub-events-2 : tie.Need-sub-events-2
-sub-events-2 c = omega (arith, (c .before .before .before .before .before .before .pre .3 (c .before .before .if1 .left)) .0)
+add-events-2 : tie.Need-add-events-2
+add-events-2 c = omega (arith, c .before .before .before .before .before .before .pre .0 .0, c .before .before .before .before .before .before .pre .0 .1, (c .before .before .before .before .before .before .pre .3 (c .before .before .if1 .left)) .0, (c .before .before .before .before .before .before .pre .3 (c .before .before .if1 .left)) .1)
 
 mul-events-2 : tie.Need-mul-events-2
 mul-events-2 c = omega (arith, c .before .before .before .before .before .before .pre .0 .0, c .before .before .before .before .before .before .pre .0 .1, (c .before .before .before .before .before .before .pre .3 (c .before .before .if1 .left)) .0, (c .before .before .before .before .before .before .pre .3 (c .before .before .if1 .left)) .1)
@@ -55,10 +58,11 @@ shut-spec =
     returns
     start-of-requires
     start-of-requires-2
-    sub-events
+    sub-begin
+    add-events
     mul-events
     slice-write-events
-    sub-events-2
+    add-events-2
     mul-events-2
     slice-write-events-2
     put-requires

@@ -1,0 +1,68 @@
+-- Events and records in a list of numbers: how long they are, read back, and passed over.
+use Prim.Native.Nat.{ℕ, _+_, _*_, _≤_, _<_, min}
+use mathlib.Core.Path.{_≡_, refl, ap, ap₂, sym, _∙_}
+use mathlib.Core.Bool.{Bool, true, false}
+use mathlib.Core.List.{List, [], _∷_, _++_, append-assoc}
+use native.Mathlib.Omega.{arith}
+use native.Mathlib.Nat.{min-eq-left, min-eq-right, min-le-left, le-of-lt}
+use borrow.Author.Tests.{ltb-true, ltb-false}
+use lib.Dec.{ltb}
+use lib.ListN.{length, getD, drop, length-append, drop-of-length-le}
+use lib.Seq.{drop-append-seam, drop-length, drop-drop, getD-append-add, getD-drop}
+use Rattle.shapes.specs.Shapes.{EVENT, Entry, event, flat, entries, HEAD, COUNT, Rec, flat-records, next-record}
+
+pub event-length : (sort kind start end : ℕ) → length (event sort kind start end) ≡ EVENT
+event-length sort kind start end = refl
+
+pub flat-length : (es : List Entry) → length (flat es) ≡ EVENT * length es
+flat-length [] = refl
+flat-length (e ∷ es) = omega (arith, flat-length es)
+
+pub entries-flat : (es : List Entry) → entries (flat es) ≡ es
+entries-flat [] = refl
+entries-flat (e ∷ es) = ap (λ (l : List Entry). e ∷ l) (entries-flat es)
+
+-- THE NEXT RECORD, of any list
+drop-least : (l : List ℕ) (n : ℕ) → drop (min (length l) n) l ≡ drop n l
+drop-least l n = go (ltb (length l) n) refl
+  where
+    go : (t : Bool) → ltb (length l) n ≡ t → drop (min (length l) n) l ≡ drop n l
+    go true e =
+        let h : length l ≤ n = le-of-lt (ltb-true (length l) n e) in
+        ap (λ (k : ℕ). drop k l) (min-eq-left h) ∙ drop-length l ∙ sym (drop-of-length-le l h)
+    go false e = ap (λ (k : ℕ). drop k l) (min-eq-right (ltb-false (length l) n e))
+
+module _ (l : List ℕ) (at : ℕ) where
+  pub next-within : next-record l at ≤ length l
+  next-within = min-le-left (length l) (at + HEAD + getD l (at + COUNT) 0)
+
+  pub next-past : at + HEAD ≤ length l → at + HEAD ≤ next-record l at
+  next-past h = omega arith
+
+  -- from it on stands what stands behind the head and the names
+  pub next-rest : drop (next-record l at) l ≡ drop (HEAD + getD (drop at l) COUNT 0) (drop at l)
+  next-rest =
+      let n : at + HEAD + getD l (at + COUNT) 0 ≡ at + (HEAD + getD (drop at l) COUNT 0) = omega (arith, getD-drop at l COUNT 0) in
+      drop-least l (at + HEAD + getD l (at + COUNT) 0) ∙ ap (λ (k : ℕ). drop k l) n ∙ sym (drop-drop (HEAD + getD (drop at l) COUNT 0) at l)
+
+-- A record that stands behind p, with others behind it: what stands behind the next place are the others
+module _ (p : List ℕ) (q : Rec) (qs : List Rec) where
+  abbrev here : List ℕ
+  here = p ++ (q .0 ∷ q .1 ∷ q .2 ∷ length (q .3) ∷ q .3)
+
+  abbrev all : List ℕ
+  all = p ++ flat-records (q ∷ qs)
+
+  parted : all ≡ here ++ flat-records qs
+  parted = sym (append-assoc p (q .0 ∷ q .1 ∷ q .2 ∷ length (q .3) ∷ q .3) (flat-records qs))
+
+  next-is : next-record all (length p) ≡ length here
+  next-is =
+      let long : length here ≡ length p + HEAD + length (q .3) = omega (arith, length-append p (q .0 ∷ q .1 ∷ q .2 ∷ length (q .3) ∷ q .3)) in
+      let more : length here ≤ length all = omega (arith, ap length parted, length-append here (flat-records qs)) in
+      let count : length p + HEAD + getD all (length p + COUNT) 0 ≡ length here =
+      omega (arith, long, getD-append-add p (flat-records (q ∷ qs)) COUNT 0) in
+      ap (min (length all)) count ∙ min-eq-right more
+
+  pub next-begins : drop (next-record all (length p)) all ≡ flat-records qs
+  next-begins = ap₂ (λ (i : ℕ) (l : List ℕ). drop i l) next-is parted ∙ drop-append-seam here (flat-records qs)

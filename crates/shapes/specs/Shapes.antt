@@ -1,0 +1,58 @@
+-- The shapes of what the reader writes: an event and an error record as numbers, in lists of numbers.
+use Prim.Native.Nat.{ℕ, _+_, min}
+use mathlib.Core.List.{List, [], _∷_, _++_}
+use lib.ListN.{length, getD}
+
+-- EVENTS
+
+-- "An event is four numbers: sort (1 begin, 2 token, 3 end, 4 error), kind or error record index (from 0), start, end."
+abbrev pub EVENT : ℕ
+EVENT = 4
+
+-- where its kind and its end stand in it
+abbrev pub KIND : ℕ
+KIND = 1
+
+abbrev pub END : ℕ
+END = 3
+
+abbrev pub Entry : Type 0
+Entry = ℕ × ℕ × ℕ × ℕ
+
+abbrev pub event : ℕ → ℕ → ℕ → ℕ → List ℕ
+event sort kind start end = sort ∷ kind ∷ start ∷ end ∷ []
+
+abbrev pub flat : List Entry → List ℕ
+flat [] = []
+flat (e ∷ es) = e .0 ∷ e .1 ∷ e .2 ∷ e .3 ∷ flat es
+
+-- the events that a list of numbers has; what is left over is none
+abbrev pub entries : List ℕ → List Entry
+entries [] = []
+entries (a ∷ []) = []
+entries (a ∷ b ∷ []) = []
+entries (a ∷ b ∷ c ∷ []) = []
+entries (a ∷ b ∷ c ∷ d ∷ l) = (a, b, c, d) ∷ entries l
+
+-- ERROR RECORDS
+
+-- "An error record is start, end, form, count of names, then the names.": how many numbers stand before the names, and where those are that are looked up
+abbrev pub HEAD : ℕ
+HEAD = 4
+
+abbrev pub FORM : ℕ
+FORM = 2
+
+abbrev pub COUNT : ℕ
+COUNT = 3
+
+abbrev pub Rec : Type 0
+Rec = ℕ × ℕ × ℕ × List ℕ
+
+abbrev pub flat-records : List Rec → List ℕ
+flat-records [] = []
+flat-records (e ∷ es) = e .0 ∷ e .1 ∷ e .2 ∷ length (e .3) ∷ e .3 ++ flat-records es
+
+-- where the record behind the one at a place begins; the list's end where none can
+abbrev pub next-record : List ℕ → ℕ → ℕ
+next-record l at = min (length l) (at + HEAD + getD l (at + COUNT) 0)

@@ -1,0 +1,13 @@
+// An event: "sort, kind or error record index (from 0), start, end".
+
+// How many numbers it has.
+pub const EVENT: usize = 4;
+
+// Where each of them stands in it.
+pub const SORT: usize = 0;
+
+pub const KIND: usize = 1;
+
+pub const START: usize = 2;
+
+pub const END: usize = 3;
