@@ -186,7 +186,15 @@ pub fn read(
     wipe(scratch);
     let mut notes = [0usize; 68];
     let d = whole(
-        src, ids, ends, fuel, limits, scratch, events, errors, &mut notes,
+        src,
+        ids,
+        ends,
+        fuel,
+        limits,
+        scratch,
+        events,
+        errors,
+        &mut notes,
     );
     let s = d.state;
     if s.full != 0 {

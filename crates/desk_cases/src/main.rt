@@ -3,6 +3,7 @@
 // for each event. Rooms and scratch are lent full of fives: the program looks whether a refusal of 1 to 6 left them as lent, 7 and 8 all zero, and an
 // answer all zero behind its lists and in scratch. Ids, kinds and names have their numbers in docs/KINDS.md.
 use desk::read::Reading;
+use desk::read::base;
 use desk::read::read;
 use libc::STDOUT_FILENO;
 
@@ -191,7 +192,18 @@ fn show(
     errors: &mut [u32],
     listed: bool,
 ) {
-    let r = read(src, ids, starts, ends, fuel, scratch, events, errors);
+    let limits = base();
+    let r = read(
+        src,
+        ids,
+        starts,
+        ends,
+        fuel,
+        limits,
+        scratch,
+        events,
+        errors,
+    );
     tell(name, r, scratch, events, errors, listed);
 }
 
