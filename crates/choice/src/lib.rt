@@ -29,7 +29,7 @@ ghost use Rattle.notes.specs.Did.{Ok, Sound, Coded, Errors};
 ghost use Rattle.choice.specs.Choice.{choiceOf, scan, Noted, Chose, Spelt, Spells};
 
 // Where a row ends; behind the last one, where the source ends.
-pub fn end_of(at: usize, ends: &[u32]) -> u32
+fn end_of(at: usize, ends: &[u32]) -> u32
     requires { ⌜ at ≤ length (now ends) ⌝ }
     ensures { λ r. ⌜ r ≡ getD (now (ends .entry)) at (getD (0 ∷ now (ends .entry)) at 0) ⌝ }
 {
@@ -40,7 +40,7 @@ pub fn end_of(at: usize, ends: &[u32]) -> u32
 }
 
 // The id of a row; behind the last one, UNKNOWN.
-pub fn id_at(at: usize, ids: &[u32]) -> u32
+fn id_at(at: usize, ids: &[u32]) -> u32
     ensures { λ r. ⌜ r ≡ getD (now (ids .entry)) at k.UNKNOWN ⌝ }
 {
     if at < ids.len() {
@@ -63,7 +63,7 @@ fn found(text: &[u8], quote: usize) -> u32
 }
 
 // The same of an unknown row: a comment, a text or a regular expression may have been begun and not closed.
-pub fn unclosed(text: &[u8], quote: usize) -> u32
+fn unclosed(text: &[u8], quote: usize) -> u32
     ensures { λ r. ⌜ ((L : Limits) → L .quote ≡ quote → r ≡ form-unknown L (now (text .entry))) ⌝ }
 {
     if text.len() == 0 {
@@ -86,7 +86,7 @@ pub fn unclosed(text: &[u8], quote: usize) -> u32
 }
 
 // The form of an error at a row with the id and the text.
-pub fn form_of(row_id: u32, text: &[u8], expected: bool, quote: usize) -> u32
+fn form_of(row_id: u32, text: &[u8], expected: bool, quote: usize) -> u32
     ensures { λ r. ⌜ ((L : Limits) → L .quote ≡ quote → r ≡ form-of L «row_id» (now (text .entry)) (choiceOf expected [])) ⌝ }
 {
     if !utf8::valid(text) {
@@ -118,7 +118,7 @@ fn named(expected: bool, form: u32, count: usize) -> usize
 }
 
 // Whether one of the records has the span.
-pub fn pending(start: u32, end: u32, records: &[u32]) -> bool
+fn pending(start: u32, end: u32, records: &[u32]) -> bool
     ensures { λ r. ⌜ r ≡ scan start end 0 (now (records .entry)) ⌝ }
 {
     let mut at = 0;
@@ -160,7 +160,7 @@ pub struct Names {
 }
 
 // Whether the first n names have the name.
-pub fn holds(names: &[u8], n: usize, name: u8) -> bool
+fn holds(names: &[u8], n: usize, name: u8) -> bool
     requires { ⌜ n ≤ length (now names) ⌝ }
     ensures { λ r. ⌜ r ≡ P.has (take n (now (names .entry))) name ⌝ }
 {

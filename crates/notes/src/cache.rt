@@ -16,7 +16,7 @@ pub fn seen(bit: usize, scratch: &[u64]) -> bool
     (word >> (bit % 64)) & 1 == 1
 }
 
-pub fn remember(bit: usize, scratch: &mut [u64])
+fn remember(bit: usize, scratch: &mut [u64])
     requires { ⌜ bit / 64 < length (now scratch) ⌝ }
     ensures { λ _. ⌜ Kept bit (now (scratch .entry)) (now (scratch .exit)) ⌝ }
 {

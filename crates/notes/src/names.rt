@@ -37,7 +37,7 @@ pub const QUOTE: usize = 9;
 pub const CODES: usize = 10;
 
 // Enters a code, unless it is there.
-pub fn enter(code: usize, notes: &mut [usize; 68])
+fn enter(code: usize, notes: &mut [usize; 68])
     requires { ⌜ Coded (now notes) × (code < 58) ⌝ }
     ensures { λ _. ⌜ ((s : Whole) → Enters (P.join (namesIn (beside (now (notes .entry)) s)) (namesOf code)) (beside (now (notes .entry)) s) (beside (now (notes .exit)) s)) ⌝ }
 {
