@@ -8,6 +8,7 @@ does, so row 0 is never read; the second of a `then` is its part with what follo
 Parts that are the same, with what follows them, share a row."""
 import re
 import sys
+import textwrap
 from pathlib import Path
 
 ROOT = Path(__file__).resolve().parent.parent
@@ -200,7 +201,7 @@ def source(table):
     out.append(f"// The row of an item that begins with a rule keyword.\npub const ITEM: usize = {lines['ITEM']};\n")
     out.append(f"pub const ROWS: [u32; {len(table)}] = [\n    {octal(table[0])},")
     for comment, begin, end in sections:
-        out.append(f"    // {comment}")
+        out.extend(f"    // {line}" for line in textwrap.wrap(comment, 150))
         out.extend(f"    {octal(row)}," for row in table[begin:end])
     out.append("];")
     return "\n".join(out) + "\n"

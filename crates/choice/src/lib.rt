@@ -14,14 +14,14 @@ use notes::rows::start_of;
 ghost use mathlib.Core.Path.{_≡_};
 ghost use mathlib.Core.List.{List, _∷_, []};
 ghost use Prim.Native.Nat.{ℕ, _+_, _-_, _≤_, _<_};
-ghost use lib.ListN.{length, getD, take, drop};
+ghost use lib.ListN.{length, getD, take};
 ghost use lib.Seq.{paste};
 ghost use Rattle.kinds.specs.Kinds as k;
 ghost use Rattle.definition.specs.Run as P;
 ghost use Rattle.definition.specs.Run.{Limits};
 ghost use Rattle.definition.specs.Render.{form-found, form-unknown, form-of, names-of};
 ghost use Rattle.kinds.specs.Sets.{setOf, idsOf};
-ghost use Rattle.notes.specs.Whole.{Whole, beside};
+ghost use Rattle.notes.specs.Whole.{Whole, beside, codesOf, countOf, erOf, ercapOf, firstOf};
 ghost use Rattle.notes.specs.Change.{withFull};
 ghost use Rattle.notes.specs.Means as m;
 ghost use Rattle.notes.specs.Means.{source, Rows, namesOf, namesIn};
@@ -220,7 +220,7 @@ impl Names {
 // The names that the codes stand for. They are spelled only here, where an error is chosen.
 fn spelled(notes: &[usize; 68]) -> Names
     requires { ⌜ Coded (now notes) ⌝ }
-    ensures { λ r. ⌜ Spells (m.spelled (take (getD (now (notes .entry)) 2 0) (drop 10 (now (notes .entry))))) r ⌝ }
+    ensures { λ r. ⌜ Spells (m.spelled (take (countOf (now (notes .entry))) (codesOf (now (notes .entry))))) r ⌝ }
 {
     let mut l = Names {
         count: 0,
@@ -244,8 +244,16 @@ pub fn record(
     errors: &mut [u32],
     notes: &mut [usize; 68],
 ) -> u8
-    requires { ⌜ (getD (now notes) 4 0 ≤ getD (now notes) 5 0) × (getD (now notes) 5 0 ≤ length (now errors)) × (count ≤ 85) × (length names ≡ 96) × Coded (now notes) ⌝ }
-    ensures { λ r. ⌜ ((s : Whole) → s .full ≡ 0 → Noted (start ∷ end ∷ form ∷ count ∷ take count names) (beside (now (notes .entry)) s) (withFull r (beside (now (notes .exit)) s)) (now (errors .entry)) (now (errors .exit))) ⌝ }
+    requires { ⌜
+        (erOf (now notes) ≤ ercapOf (now notes))
+        × (ercapOf (now notes) ≤ length (now errors))
+        × (count ≤ 85)
+        × (length names ≡ 96)
+        × Coded (now notes) ⌝ }
+    ensures { λ r. ⌜
+        ((s : Whole) → s .full ≡ 0
+        → Noted (start ∷ end ∷ form ∷ count ∷ take count names) (beside (now (notes .entry)) s) (withFull r (beside (now (notes .exit)) s))
+        (now (errors .entry)) (now (errors .exit))) ⌝ }
 {
     let at = notes[ER];
     if notes[ERCAP] - at < count + 4 {
@@ -270,8 +278,17 @@ fn choose_at(
     errors: &mut [u32],
     notes: &mut [usize; 68],
 ) -> u8
-    requires { ⌜ Rows (source (now src) (now ids) (now ends)) × Sound (length (now ids)) (now notes) × (getD (now notes) 5 0 ≤ length (now errors)) × (getD (now notes) 7 0 ≤ at) × (at ≤ length (now ids)) ⌝ }
-    ensures { λ r. ⌜ ((s : Whole) → s .full ≡ 0 → Ok (length (now (ids .entry))) (beside (now (notes .entry)) s) → Chose (P.add (length (now (ids .entry)) - at) (choiceOf expected (namesIn (beside (now (notes .entry)) s)))) (source (now (src .entry)) (now (ids .entry)) (now (ends .entry))) (beside (now (notes .entry)) s) (withFull r (beside (now (notes .exit)) s)) (now (errors .entry)) (now (errors .exit))) ⌝ }
+    requires { ⌜
+        Rows (source (now src) (now ids) (now ends))
+        × Sound (length (now ids)) (now notes)
+        × (ercapOf (now notes) ≤ length (now errors))
+        × (firstOf (now notes) ≤ at)
+        × (at ≤ length (now ids)) ⌝ }
+    ensures { λ r. ⌜
+        ((s : Whole) → s .full ≡ 0 → Ok (length (now (ids .entry))) (beside (now (notes .entry)) s)
+        → Chose (P.add (length (now (ids .entry)) - at) (choiceOf expected (namesIn (beside (now (notes .entry)) s))))
+        (source (now (src .entry)) (now (ids .entry)) (now (ends .entry))) (beside (now (notes .entry)) s)
+        (withFull r (beside (now (notes .exit)) s)) (now (errors .entry)) (now (errors .exit))) ⌝ }
 {
     let start = start_of(at, ends);
     let end = end_of(at, ends);
@@ -301,8 +318,11 @@ pub fn choose(
     errors: &mut [u32],
     notes: &mut [usize; 68],
 ) -> u8
-    requires { ⌜ Rows (source (now src) (now ids) (now ends)) × Sound (length (now ids)) (now notes) × (getD (now notes) 5 0 ≤ length (now errors)) ⌝ }
-    ensures { λ r. ⌜ ((s : Whole) → s .full ≡ full → Ok (length (now (ids .entry))) (beside (now (notes .entry)) s) → Errors P.choose (source (now (src .entry)) (now (ids .entry)) (now (ends .entry))) (beside (now (notes .entry)) s) (withFull r (beside (now (notes .exit)) s)) (now (errors .entry)) (now (errors .exit))) ⌝ }
+    requires { ⌜ Rows (source (now src) (now ids) (now ends)) × Sound (length (now ids)) (now notes) × (ercapOf (now notes) ≤ length (now errors)) ⌝ }
+    ensures { λ r. ⌜
+        ((s : Whole) → s .full ≡ full → Ok (length (now (ids .entry))) (beside (now (notes .entry)) s)
+        → Errors P.choose (source (now (src .entry)) (now (ids .entry)) (now (ends .entry))) (beside (now (notes .entry)) s)
+        (withFull r (beside (now (notes .exit)) s)) (now (errors .entry)) (now (errors .exit))) ⌝ }
 {
     let want = notes[WANT];
     let unwant = notes[UNWANT];

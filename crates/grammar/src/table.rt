@@ -23,7 +23,8 @@ pub const ROWS: [u32; 284] = [
     0o10_014_000_000,
     0o3_150_055_015,
     0o6_012_016_015,
-    // BOOLEAN_TERM := PATTERN_IDENT ( `at` EXPR | `in` RANGE )? | `true` | `false` | (`not` | `defined`) BOOLEAN_TERM | FOR_EXPR | OF_EXPR | WITH_EXPR | EXPR ( comparison EXPR )* | `(` BOOLEAN_EXPR `)`
+    // BOOLEAN_TERM := PATTERN_IDENT ( `at` EXPR | `in` RANGE )? | `true` | `false` | (`not` | `defined`) BOOLEAN_TERM | FOR_EXPR | OF_EXPR | WITH_EXPR |
+    // EXPR ( comparison EXPR )* | `(` BOOLEAN_EXPR `)`
     0o4_151_063_000,
     0o6_020_020_000,
     0o0_045_045_021,
@@ -78,7 +79,8 @@ pub const ROWS: [u32; 284] = [
     0o4_151_063_077,
     0o6_020_100_077,
     0o0_027_027_101,
-    // TERM := literal | PATTERN_COUNT ( `in` RANGE )? | (PATTERN_OFFSET | PATTERN_LENGTH) ( `[` EXPR `]` )? | `-` TERM | `~` TERM | `(` EXPR `)` | PRIMARY_EXPR ( `.` PRIMARY_EXPR )*
+    // TERM := literal | PATTERN_COUNT ( `in` RANGE )? | (PATTERN_OFFSET | PATTERN_LENGTH) ( `[` EXPR `]` )? | `-` TERM | `~` TERM | `(` EXPR `)` |
+    // PRIMARY_EXPR ( `.` PRIMARY_EXPR )*
     0o0_052_067_000,
     0o7_046_025_000,
     0o0_053_067_104,
@@ -216,7 +218,8 @@ pub const ROWS: [u32; 284] = [
     0o3_143_271_272,
     0o6_253_273_272,
     0o0_006_006_274,
-    // PATTERN_MOD := `ascii` | `wide` | `nocase` | `private` | `fullword` | (`base64` | `base64wide`) ( `(` STRING_LIT `)` )? | `xor` ( `(` INTEGER_LIT ( `-` INTEGER_LIT )? `)` )?
+    // PATTERN_MOD := `ascii` | `wide` | `nocase` | `private` | `fullword` | (`base64` | `base64wide`) ( `(` STRING_LIT `)` )? | `xor` ( `(` INTEGER_LIT (
+    // `-` INTEGER_LIT )? `)` )?
     0o0_025_071_000,
     0o0_001_001_003,
     0o6_277_277_000,
