@@ -19,14 +19,14 @@ use shapes::full;
 ghost use mathlib.Core.Path.{_≡_};
 ghost use mathlib.Core.List.{List, _∷_, []};
 ghost use Prim.Native.Nat.{ℕ, _+_, _-_, _≤_, _<_};
-ghost use lib.ListN.{length, getD, take, drop};
+ghost use lib.ListN.{length, getD, take};
 ghost use lib.Seq.{paste};
 ghost use Rattle.kinds.specs.Kinds as k;
 ghost use Rattle.definition.specs.Run as P;
 ghost use Rattle.definition.specs.Run.{Limits};
 ghost use Rattle.definition.specs.Render.{form-found, form-unknown, form-of, names-of};
 ghost use Rattle.kinds.specs.Sets.{setOf, idsOf};
-ghost use Rattle.notes.specs.Whole.{Whole, beside};
+ghost use Rattle.notes.specs.Whole.{Whole, beside, codesOf, countOf, erOf, ercapOf, firstOf};
 ghost use Rattle.notes.specs.Change.{withFull};
 ghost use Rattle.notes.specs.Means as m;
 ghost use Rattle.notes.specs.Means.{source, Rows, namesOf, namesIn};
@@ -34,7 +34,7 @@ ghost use Rattle.notes.specs.Did.{Ok, Sound, Coded, Errors};
 ghost use Rattle.choice.specs.Choice.{choiceOf, scan, Noted, Chose, Spelt, Spells};
 
 // Where a row ends; behind the last one, where the source ends.
-pub fn end_of(at: usize, ends: &[u32]) -> u32
+fn end_of(at: usize, ends: &[u32]) -> u32
     requires { ⌜ at ≤ length (now ends) ⌝ }
     ensures { λ r. ⌜ r ≡ getD (now (ends .entry)) at (getD (0 ∷ now (ends .entry)) at 0) ⌝ }
 {
@@ -45,7 +45,7 @@ pub fn end_of(at: usize, ends: &[u32]) -> u32
 }
 
 // The id of a row; behind the last one, UNKNOWN.
-pub fn id_at(at: usize, ids: &[u32]) -> u32
+fn id_at(at: usize, ids: &[u32]) -> u32
     ensures { λ r. ⌜ r ≡ getD (now (ids .entry)) at k.UNKNOWN ⌝ }
 {
     if at < ids.len() {
@@ -68,7 +68,7 @@ fn found(text: &[u8], quote: usize) -> u32
 }
 
 // The same of an unknown row: a comment, a text or a regular expression may have been begun and not closed.
-pub fn unclosed(text: &[u8], quote: usize) -> u32
+fn unclosed(text: &[u8], quote: usize) -> u32
     ensures { λ r. ⌜ ((L : Limits) → L .quote ≡ quote → r ≡ form-unknown L (now (text .entry))) ⌝ }
 {
     if text.len() == 0 {
@@ -91,7 +91,7 @@ pub fn unclosed(text: &[u8], quote: usize) -> u32
 }
 
 // The form of an error at a row with the id and the text.
-pub fn form_of(row_id: u32, text: &[u8], expected: bool, quote: usize) -> u32
+fn form_of(row_id: u32, text: &[u8], expected: bool, quote: usize) -> u32
     ensures { λ r. ⌜ ((L : Limits) → L .quote ≡ quote → r ≡ form-of L «row_id» (now (text .entry)) (choiceOf expected [])) ⌝ }
 {
     if !utf8::valid(text) {
@@ -123,7 +123,7 @@ fn named(expected: bool, form: u32, count: usize) -> usize
 }
 
 // Whether one of the records has the span.
-pub fn pending(start: u32, end: u32, records: &[u32]) -> bool
+fn pending(start: u32, end: u32, records: &[u32]) -> bool
     ensures { λ r. ⌜ r ≡ scan start end 0 (now (records .entry)) ⌝ }
 {
     let mut at = 0;
@@ -164,7 +164,7 @@ pub struct Names {
 }
 
 // Whether the first n names have the name.
-pub fn holds(names: &[u8], n: usize, name: u8) -> bool
+fn holds(names: &[u8], n: usize, name: u8) -> bool
     requires { ⌜ n ≤ length (now names) ⌝ }
     ensures { λ r. ⌜ r ≡ P.has (take n (now (names .entry))) name ⌝ }
 {
@@ -224,7 +224,7 @@ impl Names {
 // The names that the codes stand for. They are spelled only here, where an error is chosen.
 fn spelled(notes: &[usize; 68]) -> Names
     requires { ⌜ Coded (now notes) ⌝ }
-    ensures { λ r. ⌜ Spells (m.spelled (take (getD (now (notes .entry)) 2 0) (drop 10 (now (notes .entry))))) r ⌝ }
+    ensures { λ r. ⌜ Spells (m.spelled (take (countOf (now (notes .entry))) (codesOf (now (notes .entry))))) r ⌝ }
 {
     let mut l = Names {
         count: 0,
@@ -248,8 +248,16 @@ pub fn record(
     errors: &mut [u32],
     notes: &mut [usize; 68],
 ) -> u8
-    requires { ⌜ (getD (now notes) 4 0 ≤ getD (now notes) 5 0) × (getD (now notes) 5 0 ≤ length (now errors)) × (count ≤ 85) × (length names ≡ 96) × Coded (now notes) ⌝ }
-    ensures { λ r. ⌜ ((s : Whole) → s .full ≡ 0 → Noted (start ∷ end ∷ form ∷ count ∷ take count names) (beside (now (notes .entry)) s) (withFull r (beside (now (notes .exit)) s)) (now (errors .entry)) (now (errors .exit))) ⌝ }
+    requires { ⌜
+        (erOf (now notes) ≤ ercapOf (now notes))
+        × (ercapOf (now notes) ≤ length (now errors))
+        × (count ≤ 85)
+        × (length names ≡ 96)
+        × Coded (now notes) ⌝ }
+    ensures { λ r. ⌜
+        ((s : Whole) → s .full ≡ 0
+        → Noted (start ∷ end ∷ form ∷ count ∷ take count names) (beside (now (notes .entry)) s) (withFull r (beside (now (notes .exit)) s))
+        (now (errors .entry)) (now (errors .exit))) ⌝ }
 {
     let at = notes[ER];
     if notes[ERCAP] - at < count + HEAD {
@@ -274,8 +282,17 @@ fn choose_at(
     errors: &mut [u32],
     notes: &mut [usize; 68],
 ) -> u8
-    requires { ⌜ Rows (source (now src) (now ids) (now ends)) × Sound (length (now ids)) (now notes) × (getD (now notes) 5 0 ≤ length (now errors)) × (getD (now notes) 7 0 ≤ at) × (at ≤ length (now ids)) ⌝ }
-    ensures { λ r. ⌜ ((s : Whole) → s .full ≡ 0 → Ok (length (now (ids .entry))) (beside (now (notes .entry)) s) → Chose (P.add (length (now (ids .entry)) - at) (choiceOf expected (namesIn (beside (now (notes .entry)) s)))) (source (now (src .entry)) (now (ids .entry)) (now (ends .entry))) (beside (now (notes .entry)) s) (withFull r (beside (now (notes .exit)) s)) (now (errors .entry)) (now (errors .exit))) ⌝ }
+    requires { ⌜
+        Rows (source (now src) (now ids) (now ends))
+        × Sound (length (now ids)) (now notes)
+        × (ercapOf (now notes) ≤ length (now errors))
+        × (firstOf (now notes) ≤ at)
+        × (at ≤ length (now ids)) ⌝ }
+    ensures { λ r. ⌜
+        ((s : Whole) → s .full ≡ 0 → Ok (length (now (ids .entry))) (beside (now (notes .entry)) s)
+        → Chose (P.add (length (now (ids .entry)) - at) (choiceOf expected (namesIn (beside (now (notes .entry)) s))))
+        (source (now (src .entry)) (now (ids .entry)) (now (ends .entry))) (beside (now (notes .entry)) s)
+        (withFull r (beside (now (notes .exit)) s)) (now (errors .entry)) (now (errors .exit))) ⌝ }
 {
     let start = start_of(at, ends);
     let end = end_of(at, ends);
@@ -305,8 +322,11 @@ pub fn choose(
     errors: &mut [u32],
     notes: &mut [usize; 68],
 ) -> u8
-    requires { ⌜ Rows (source (now src) (now ids) (now ends)) × Sound (length (now ids)) (now notes) × (getD (now notes) 5 0 ≤ length (now errors)) ⌝ }
-    ensures { λ r. ⌜ ((s : Whole) → s .full ≡ full → Ok (length (now (ids .entry))) (beside (now (notes .entry)) s) → Errors P.choose (source (now (src .entry)) (now (ids .entry)) (now (ends .entry))) (beside (now (notes .entry)) s) (withFull r (beside (now (notes .exit)) s)) (now (errors .entry)) (now (errors .exit))) ⌝ }
+    requires { ⌜ Rows (source (now src) (now ids) (now ends)) × Sound (length (now ids)) (now notes) × (ercapOf (now notes) ≤ length (now errors)) ⌝ }
+    ensures { λ r. ⌜
+        ((s : Whole) → s .full ≡ full → Ok (length (now (ids .entry))) (beside (now (notes .entry)) s)
+        → Errors P.choose (source (now (src .entry)) (now (ids .entry)) (now (ends .entry))) (beside (now (notes .entry)) s)
+        (withFull r (beside (now (notes .exit)) s)) (now (errors .entry)) (now (errors .exit))) ⌝ }
 {
     let want = notes[WANT];
     let unwant = notes[UNWANT];

@@ -21,8 +21,9 @@ use steps::state::State;
 ghost use mathlib.Core.Path.{_≡_};
 ghost use mathlib.Core.List.{List, []};
 ghost use Prim.Native.Nat.{ℕ, _*_, _≤_, _<_};
-ghost use lib.ListN.{length, getD};
+ghost use lib.ListN.{length};
 ghost use Rattle.definition.specs.Render.{Source};
+ghost use Rattle.notes.specs.Whole.{erOf, ercapOf, farOf, firstOf, itemOf};
 ghost use Rattle.notes.specs.Bits.{Forgot};
 ghost use Rattle.notes.specs.Means.{source, bufs, Lines, Rows};
 ghost use Rattle.notes.specs.Did.{Wf, Coded};
@@ -71,8 +72,11 @@ pub fn tell(
     events: &mut [u32],
     notes: &mut [usize; 68],
 ) -> Desk
-    requires { ⌜ Fits s (now events) × (getD (now notes) 6 0 ≤ getD (now notes) 4 0) × (getD (now notes) 4 0 ≤ length (now errors)) ⌝ }
-    ensures { λ r. ⌜ ((x : Source) (sc : List ℕ) → Wf x (bufs (now (events .entry)) (now (errors .entry)) sc) (whole s (now (notes .entry))) → Tells x (whole s (now (notes .entry))) before (tally r (now (notes .exit))) (bufs (now (events .entry)) (now (errors .entry)) sc) (bufs (now (events .exit)) (now (errors .entry)) sc)) ⌝ }
+    requires { ⌜ Fits s (now events) × (itemOf (now notes) ≤ erOf (now notes)) × (erOf (now notes) ≤ length (now errors)) ⌝ }
+    ensures { λ r. ⌜
+        ((x : Source) (sc : List ℕ) → Wf x (bufs (now (events .entry)) (now (errors .entry)) sc) (whole s (now (notes .entry)))
+        → Tells x (whole s (now (notes .entry))) before (tally r (now (notes .exit))) (bufs (now (events .entry)) (now (errors .entry)) sc)
+        (bufs (now (events .exit)) (now (errors .entry)) sc)) ⌝ }
 {
     let item = notes[ITEM];
     let er = notes[ER];
@@ -111,8 +115,18 @@ pub fn stray(
     notes: &mut [usize; 68],
     sets: &[[u64; 2]; 55],
 ) -> Desk
-    requires { ⌜ Ready (now ids) (now ends) s (now notes) (now events) × (getD (now notes) 5 0 ≤ length (now errors)) × (s .pos < length (now ids)) × (s .full ≡ 0) × Tabled (now sets) ⌝ }
-    ensures { λ r. ⌜ ((bytes sc : List ℕ) → Wf (source bytes (now (ids .entry)) (now (ends .entry))) (bufs (now (events .entry)) (now (errors .entry)) sc) (whole s (now (notes .entry))) → Strays (source bytes (now (ids .entry)) (now (ends .entry))) (whole s (now (notes .entry))) before (tally r (now (notes .exit))) (bufs (now (events .entry)) (now (errors .entry)) sc) (bufs (now (events .exit)) (now (errors .exit)) sc)) ⌝ }
+    requires { ⌜
+        Ready (now ids) (now ends) s (now notes) (now events)
+        × (ercapOf (now notes) ≤ length (now errors))
+        × (s .pos < length (now ids))
+        × (s .full ≡ 0)
+        × Tabled (now sets) ⌝ }
+    ensures { λ r. ⌜
+        ((bytes sc : List ℕ)
+        → Wf (source bytes (now (ids .entry)) (now (ends .entry))) (bufs (now (events .entry)) (now (errors .entry)) sc)
+        (whole s (now (notes .entry)))
+        → Strays (source bytes (now (ids .entry)) (now (ends .entry))) (whole s (now (notes .entry))) before (tally r (now (notes .exit)))
+        (bufs (now (events .entry)) (now (errors .entry)) sc) (bufs (now (events .exit)) (now (errors .exit)) sc)) ⌝ }
 {
     let at = s.pos;
     let start = start_of(at, ends);
@@ -141,8 +155,14 @@ pub fn at_hand(
     table: &[u32; 284],
     sets: &[[u64; 2]; 55],
 ) -> Desk
-    requires { ⌜ Rows (source (now src) (now ids) (now ends)) × Wf (source (now src) (now ids) (now ends)) (bufs (now events) (now errors) (now scratch)) (whole s (now notes)) × Lends (now table) (now sets) ⌝ }
-    ensures { λ r. ⌜ Hands depth (source (now (src .entry)) (now (ids .entry)) (now (ends .entry))) (whole s (now (notes .entry))) before (tally r (now (notes .exit))) (bufs (now (events .entry)) (now (errors .entry)) (now (scratch .entry))) (bufs (now (events .exit)) (now (errors .exit)) (now (scratch .exit))) ⌝ }
+    requires { ⌜
+        Rows (source (now src) (now ids) (now ends))
+        × Wf (source (now src) (now ids) (now ends)) (bufs (now events) (now errors) (now scratch)) (whole s (now notes))
+        × Lends (now table) (now sets) ⌝ }
+    ensures { λ r. ⌜
+        Hands depth (source (now (src .entry)) (now (ids .entry)) (now (ends .entry))) (whole s (now (notes .entry))) before
+        (tally r (now (notes .exit))) (bufs (now (events .entry)) (now (errors .entry)) (now (scratch .entry)))
+        (bufs (now (events .exit)) (now (errors .exit)) (now (scratch .exit))) ⌝ }
 {
     if s.full != 0 {
         return Desk {
@@ -182,8 +202,11 @@ pub fn at_hand(
 
 // What an item leaves behind is given up, but for place, fuel and outputs.
 pub fn settle(d: Desk, scratch: &mut [u64], notes: &mut [usize; 68]) -> Desk
-    requires { ⌜ (2 * getD (now notes) 8 0 ≤ 64 * length (now scratch)) × Coded (now notes) ⌝ }
-    ensures { λ r. ⌜ (whole (r .state) (now (notes .exit)) ≡ settled (whole (d .state) (now (notes .entry)))) × (r .before ≡ d .before) × Forgot (getD (now (notes .entry)) 7 0) (getD (now (notes .entry)) 8 0) (now (scratch .entry)) (now (scratch .exit)) ⌝ }
+    requires { ⌜ (2 * farOf (now notes) ≤ 64 * length (now scratch)) × Coded (now notes) ⌝ }
+    ensures { λ r. ⌜
+        (whole (r .state) (now (notes .exit)) ≡ settled (whole (d .state) (now (notes .entry))))
+        × (r .before ≡ d .before)
+        × Forgot (firstOf (now (notes .entry))) (farOf (now (notes .entry))) (now (scratch .entry)) (now (scratch .exit)) ⌝ }
 {
     let mut s = d.state;
     let from = notes[FIRST];
@@ -234,8 +257,15 @@ pub fn item(
     table: &[u32; 284],
     sets: &[[u64; 2]; 55],
 ) -> Desk
-    requires { ⌜ Rows (source (now src) (now ids) (now ends)) × Wf (source (now src) (now ids) (now ends)) (bufs (now events) (now errors) (now scratch)) (whole (d .state) (now notes)) × Settled (whole (d .state) (now notes)) × Lends (now table) (now sets) ⌝ }
-    ensures { λ r. ⌜ Goes depth 1 (source (now (src .entry)) (now (ids .entry)) (now (ends .entry))) (tally d (now (notes .entry))) (tally r (now (notes .exit))) (bufs (now (events .entry)) (now (errors .entry)) (now (scratch .entry))) (bufs (now (events .exit)) (now (errors .exit)) (now (scratch .exit))) ⌝ }
+    requires { ⌜
+        Rows (source (now src) (now ids) (now ends))
+        × Wf (source (now src) (now ids) (now ends)) (bufs (now events) (now errors) (now scratch)) (whole (d .state) (now notes))
+        × Settled (whole (d .state) (now notes))
+        × Lends (now table) (now sets) ⌝ }
+    ensures { λ r. ⌜
+        Goes depth 1 (source (now (src .entry)) (now (ids .entry)) (now (ends .entry))) (tally d (now (notes .entry)))
+        (tally r (now (notes .exit))) (bufs (now (events .entry)) (now (errors .entry)) (now (scratch .entry)))
+        (bufs (now (events .exit)) (now (errors .exit)) (now (scratch .exit))) ⌝ }
 {
     let s = d.state;
     if over(s, ids) {
@@ -274,8 +304,15 @@ pub fn items(
     table: &[u32; 284],
     sets: &[[u64; 2]; 55],
 ) -> Desk
-    requires { ⌜ Rows (source (now src) (now ids) (now ends)) × Wf (source (now src) (now ids) (now ends)) (bufs (now events) (now errors) (now scratch)) (whole (d .state) (now notes)) × Settled (whole (d .state) (now notes)) × Lends (now table) (now sets) ⌝ }
-    ensures { λ r. ⌜ Goes depth (length (now (ids .entry))) (source (now (src .entry)) (now (ids .entry)) (now (ends .entry))) (tally d (now (notes .entry))) (tally r (now (notes .exit))) (bufs (now (events .entry)) (now (errors .entry)) (now (scratch .entry))) (bufs (now (events .exit)) (now (errors .exit)) (now (scratch .exit))) ⌝ }
+    requires { ⌜
+        Rows (source (now src) (now ids) (now ends))
+        × Wf (source (now src) (now ids) (now ends)) (bufs (now events) (now errors) (now scratch)) (whole (d .state) (now notes))
+        × Settled (whole (d .state) (now notes))
+        × Lends (now table) (now sets) ⌝ }
+    ensures { λ r. ⌜
+        Goes depth (length (now (ids .entry))) (source (now (src .entry)) (now (ids .entry)) (now (ends .entry))) (tally d (now (notes .entry)))
+        (tally r (now (notes .exit))) (bufs (now (events .entry)) (now (errors .entry)) (now (scratch .entry)))
+        (bufs (now (events .exit)) (now (errors .exit)) (now (scratch .exit))) ⌝ }
 {
     let mut n = ids.len();
     while n > 0 {

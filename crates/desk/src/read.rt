@@ -101,8 +101,15 @@ fn whole(
     errors: &mut [u32],
     notes: &mut [usize; 68],
 ) -> Desk
-    requires { ⌜ Rows (source (now src) (now ids) (now ends)) × (now scratch ≡ replicate (length (now scratch)) 0) × (2 * (length (now ids) + 1) ≤ 64 * length (now scratch)) × (EVENT ≤ length (now events)) × (now notes ≡ replicate 68 0) ⌝ }
-    ensures { λ r. ⌜ Framed (limitsOf limits) (source (now (src .entry)) (now (ids .entry)) (now (ends .entry))) fuel (length (now (events .entry))) (length (now (errors .entry))) (tally r (now (notes .exit))) (now (events .exit)) (now (errors .exit)) ⌝ }
+    requires { ⌜
+        Rows (source (now src) (now ids) (now ends))
+        × (now scratch ≡ replicate (length (now scratch)) 0)
+        × (2 * (length (now ids) + 1) ≤ 64 * length (now scratch))
+        × (EVENT ≤ length (now events))
+        × (now notes ≡ replicate 68 0) ⌝ }
+    ensures { λ r. ⌜
+        Framed (limitsOf limits) (source (now (src .entry)) (now (ids .entry)) (now (ends .entry))) fuel (length (now (events .entry)))
+        (length (now (errors .entry))) (tally r (now (notes .exit))) (now (events .exit)) (now (errors .exit)) ⌝ }
 {
     let size = src.len() as u32;
     events[0] = sort::BEGIN;
@@ -138,7 +145,10 @@ fn whole(
 
 // A room was exceeded: everything is zero.
 fn spoilt(number: u32, scratch: &mut [u64], events: &mut [u32], errors: &mut [u32]) -> Reading
-    ensures { λ r. ⌜ afterOf r (now (events .exit)) (now (errors .exit)) (now (scratch .exit)) ≡ refusing number (replicate (length (now (events .entry))) 0) (replicate (length (now (errors .entry))) 0) (replicate (length (now (scratch .entry))) 0) ⌝ }
+    ensures { λ r. ⌜
+        afterOf r (now (events .exit)) (now (errors .exit)) (now (scratch .exit))
+        ≡ refusing number (replicate (length (now (events .entry))) 0) (replicate (length (now (errors .entry))) 0)
+        (replicate (length (now (scratch .entry))) 0) ⌝ }
 {
     wipe(scratch);
     clear(events);
@@ -155,7 +165,9 @@ fn answered(
     errors: &mut [u32],
 ) -> Reading
     requires { ⌜ (d .state .ev + EVENT ≤ length (now events)) × (er ≤ length (now errors)) ⌝ }
-    ensures { λ r. ⌜ afterOf r (now (events .exit)) (now (errors .exit)) (now (scratch .exit)) ≡ answering d er (now (events .entry)) (now (errors .entry)) (now (scratch .entry)) ⌝ }
+    ensures { λ r. ⌜
+        afterOf r (now (events .exit)) (now (errors .exit)) (now (scratch .exit))
+        ≡ answering d er (now (events .entry)) (now (errors .entry)) (now (scratch .entry)) ⌝ }
 {
     let s = d.state;
     wipe(scratch);
@@ -183,7 +195,11 @@ pub fn read(
     events: &mut [u32],
     errors: &mut [u32],
 ) -> Reading
-    ensures { λ r. ⌜ afterOf r (now (events .exit)) (now (errors .exit)) (now (scratch .exit)) ≡ after (limitsOf limits) (desk (now (src .entry)) (now (ids .entry)) (now (starts .entry)) (now (ends .entry)) fuel (now (scratch .entry)) (now (events .entry)) (now (errors .entry))) ⌝ }
+    ensures { λ r. ⌜
+        afterOf r (now (events .exit)) (now (errors .exit)) (now (scratch .exit))
+        ≡ after (limitsOf limits)
+        (desk (now (src .entry)) (now (ids .entry)) (now (starts .entry)) (now (ends .entry)) fuel
+        (now (scratch .entry)) (now (events .entry)) (now (errors .entry))) ⌝ }
 {
     let n = judged(src, ids, starts, ends, scratch.len());
     if n != 0 {
@@ -195,7 +211,15 @@ pub fn read(
     wipe(scratch);
     let mut notes = [0usize; 68];
     let d = whole(
-        src, ids, ends, fuel, limits, scratch, events, errors, &mut notes,
+        src,
+        ids,
+        ends,
+        fuel,
+        limits,
+        scratch,
+        events,
+        errors,
+        &mut notes,
     );
     let s = d.state;
     if s.full != 0 {

@@ -2,7 +2,9 @@
 // covered, counts of events and of error records, and fuel left stand behind it; a line for each error record follows, and where they are asked for one
 // for each event. Rooms and scratch are lent full of fives: the program looks whether a refusal of 1 to 6 left them as lent, 7 and 8 all zero, and an
 // answer all zero behind its lists and in scratch. Ids, kinds and names have their numbers in docs/KINDS.md.
+use desk::read::Limits;
 use desk::read::Reading;
+use desk::read::base;
 use desk::read::read;
 use libc::STDOUT_FILENO;
 use shapes::event::EVENT;
@@ -179,7 +181,18 @@ fn show(
     errors: &mut [u32],
     listed: bool,
 ) {
-    let r = read(src, ids, starts, ends, fuel, scratch, events, errors);
+    let limits = base();
+    let r = read(
+        src,
+        ids,
+        starts,
+        ends,
+        fuel,
+        limits,
+        scratch,
+        events,
+        errors,
+    );
     tell(name, r, scratch, events, errors, listed);
 }
 
@@ -515,6 +528,29 @@ fn text(name: &[u8], src: &[u8], end: u32) {
     case(name, src, &ids, &starts, &ends, 9);
 }
 
+// The same by other limits than document 01's.
+fn limited(name: &[u8], src: &[u8], end: u32, depth: usize, quote: usize) {
+    let ids = [37, 0, 80];
+    let starts = [0, 4, 5];
+    let ends = [4, 5, end];
+    let mut scratch = [5u64; 1];
+    let mut events = [5u32; 128];
+    let mut errors = [5u32; 32];
+    let limits = Limits { depth, quote };
+    let r = read(
+        src,
+        &ids,
+        &starts,
+        &ends,
+        9,
+        limits,
+        &mut scratch,
+        &mut events,
+        &mut errors,
+    );
+    tell(name, r, &scratch, &events, &errors, false);
+}
+
 fn copy(from: &[u8], to: &mut [u8]) {
     let mut i = 0;
     while i < to.len() {
@@ -612,6 +648,15 @@ fn main() {
     stray_rooms();
     text(b"text of 15", b"rule 123456789012345", 20);
     text(b"text of 16", b"rule 1234567890123456", 21);
+    limited(b"text of 15, 14 quoted", b"rule 123456789012345", 20, 9, 14);
+    limited(
+        b"text of 16, 16 quoted",
+        b"rule 1234567890123456",
+        21,
+        9,
+        16,
+    );
+    limited(b"no node may be open", b"rule 123456789012345", 20, 0, 16);
     signs(b"1016 signs", 1016);
     signs(b"1017 signs", 1017);
 }

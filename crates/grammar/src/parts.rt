@@ -148,7 +148,10 @@ fn step(
     sets: &[[u64; 2]; 55],
 ) -> State
     requires { ⌜ Whence (now src) (now ids) (now ends) s (now notes) (now events) (now errors) × (set < 55) × Tabled (now sets) ⌝ }
-    ensures { λ r. ⌜ Both (reads d optional (stepOf which set)) (source (now (src .entry)) (now (ids .entry)) (now (ends .entry))) (whole s (now (notes .entry))) (whole r (now (notes .exit))) (now (events .entry)) (now (events .exit)) (now (errors .entry)) (now (errors .exit)) ⌝ }
+    ensures { λ r. ⌜
+        Both (reads d optional (stepOf which set)) (source (now (src .entry)) (now (ids .entry)) (now (ends .entry)))
+        (whole s (now (notes .entry))) (whole r (now (notes .exit))) (now (events .entry)) (now (events .exit)) (now (errors .entry))
+        (now (errors .exit)) ⌝ }
 {
     if which == UNLESS {
         return s.unless(set, ids, ends, events, notes, sets);
@@ -185,8 +188,15 @@ fn exec(
     table: &[u32; 284],
     sets: &[[u64; 2]; 55],
 ) -> State
-    requires { ⌜ Rows (source (now src) (now ids) (now ends)) × Wf (source (now src) (now ids) (now ends)) (bufs (now events) (now errors) (now scratch)) (whole s (now notes)) × Row i × Lends (now table) (now sets) ⌝ }
-    ensures { λ r. ⌜ Did (reads d optional (prog i)) (source (now (src .entry)) (now (ids .entry)) (now (ends .entry))) (whole s (now (notes .entry))) (whole r (now (notes .exit))) (bufs (now (events .entry)) (now (errors .entry)) (now (scratch .entry))) (bufs (now (events .exit)) (now (errors .exit)) (now (scratch .exit))) ⌝ }
+    requires { ⌜
+        Rows (source (now src) (now ids) (now ends))
+        × Wf (source (now src) (now ids) (now ends)) (bufs (now events) (now errors) (now scratch)) (whole s (now notes))
+        × Row i
+        × Lends (now table) (now sets) ⌝ }
+    ensures { λ r. ⌜
+        Did (reads d optional (prog i)) (source (now (src .entry)) (now (ids .entry)) (now (ends .entry))) (whole s (now (notes .entry)))
+        (whole r (now (notes .exit))) (bufs (now (events .entry)) (now (errors .entry)) (now (scratch .entry)))
+        (bufs (now (events .exit)) (now (errors .exit)) (now (scratch .exit))) ⌝ }
 {
     while i > 0 {
         match part_at(i, table) {
@@ -368,8 +378,15 @@ fn node(
     table: &[u32; 284],
     sets: &[[u64; 2]; 55],
 ) -> State
-    requires { ⌜ Rows (source (now src) (now ids) (now ends)) × Wf (source (now src) (now ids) (now ends)) (bufs (now events) (now errors) (now scratch)) (whole s (now notes)) × Line kind line × Lends (now table) (now sets) ⌝ }
-    ensures { λ r. ⌜ Did (P.run d optional (production kind)) (source (now (src .entry)) (now (ids .entry)) (now (ends .entry))) (whole s (now (notes .entry))) (whole r (now (notes .exit))) (bufs (now (events .entry)) (now (errors .entry)) (now (scratch .entry))) (bufs (now (events .exit)) (now (errors .exit)) (now (scratch .exit))) ⌝ }
+    requires { ⌜
+        Rows (source (now src) (now ids) (now ends))
+        × Wf (source (now src) (now ids) (now ends)) (bufs (now events) (now errors) (now scratch)) (whole s (now notes))
+        × Line kind line
+        × Lends (now table) (now sets) ⌝ }
+    ensures { λ r. ⌜
+        Did (P.run d optional (production kind)) (source (now (src .entry)) (now (ids .entry)) (now (ends .entry))) (whole s (now (notes .entry)))
+        (whole r (now (notes .exit))) (bufs (now (events .entry)) (now (errors .entry)) (now (scratch .entry)))
+        (bufs (now (events .exit)) (now (errors .exit)) (now (scratch .exit))) ⌝ }
 {
     s = s.begin(d, ids, ends, events);
     let from = s.pos;
@@ -436,8 +453,17 @@ fn cached(
     table: &[u32; 284],
     sets: &[[u64; 2]; 55],
 ) -> State
-    requires { ⌜ Rows (source (now src) (now ids) (now ends)) × Wf (source (now src) (now ids) (now ends)) (bufs (now events) (now errors) (now scratch)) (whole s (now notes)) × Line kind line × Cached kind × Lends (now table) (now sets) ⌝ }
-    ensures { λ r. ⌜ Did (P.memos (K.kind (production kind)) (P.run d optional (production kind))) (source (now (src .entry)) (now (ids .entry)) (now (ends .entry))) (whole s (now (notes .entry))) (whole r (now (notes .exit))) (bufs (now (events .entry)) (now (errors .entry)) (now (scratch .entry))) (bufs (now (events .exit)) (now (errors .exit)) (now (scratch .exit))) ⌝ }
+    requires { ⌜
+        Rows (source (now src) (now ids) (now ends))
+        × Wf (source (now src) (now ids) (now ends)) (bufs (now events) (now errors) (now scratch)) (whole s (now notes))
+        × Line kind line
+        × Cached kind
+        × Lends (now table) (now sets) ⌝ }
+    ensures { λ r. ⌜
+        Did (P.memos (K.kind (production kind)) (P.run d optional (production kind)))
+        (source (now (src .entry)) (now (ids .entry)) (now (ends .entry))) (whole s (now (notes .entry))) (whole r (now (notes .exit)))
+        (bufs (now (events .entry)) (now (errors .entry)) (now (scratch .entry)))
+        (bufs (now (events .exit)) (now (errors .exit)) (now (scratch .exit))) ⌝ }
 {
     if s.mode != 0 {
         return s;
@@ -487,8 +513,15 @@ fn many(
     table: &[u32; 284],
     sets: &[[u64; 2]; 55],
 ) -> State
-    requires { ⌜ Rows (source (now src) (now ids) (now ends)) × Wf (source (now src) (now ids) (now ends)) (bufs (now events) (now errors) (now scratch)) (whole s (now notes)) × Row p × Lends (now table) (now sets) ⌝ }
-    ensures { λ r. ⌜ Did (reads d true (G.many (prog p))) (source (now (src .entry)) (now (ids .entry)) (now (ends .entry))) (whole s (now (notes .entry))) (whole r (now (notes .exit))) (bufs (now (events .entry)) (now (errors .entry)) (now (scratch .entry))) (bufs (now (events .exit)) (now (errors .exit)) (now (scratch .exit))) ⌝ }
+    requires { ⌜
+        Rows (source (now src) (now ids) (now ends))
+        × Wf (source (now src) (now ids) (now ends)) (bufs (now events) (now errors) (now scratch)) (whole s (now notes))
+        × Row p
+        × Lends (now table) (now sets) ⌝ }
+    ensures { λ r. ⌜
+        Did (reads d true (G.many (prog p))) (source (now (src .entry)) (now (ids .entry)) (now (ends .entry))) (whole s (now (notes .entry)))
+        (whole r (now (notes .exit))) (bufs (now (events .entry)) (now (errors .entry)) (now (scratch .entry)))
+        (bufs (now (events .exit)) (now (errors .exit)) (now (scratch .exit))) ⌝ }
 {
     if s.mode != 0 {
         return s;
@@ -536,8 +569,15 @@ pub fn rule_item(
     table: &[u32; 284],
     sets: &[[u64; 2]; 55],
 ) -> State
-    requires { ⌜ Rows (source (now src) (now ids) (now ends)) × Wf (source (now src) (now ids) (now ends)) (bufs (now events) (now errors) (now scratch)) (whole s (now notes)) × Lends (now table) (now sets) ⌝ }
-    ensures { λ r. ⌜ ((L : P.Limits) → L .depth ≡ depth → Did (P.read-rule L) (source (now (src .entry)) (now (ids .entry)) (now (ends .entry))) (whole s (now (notes .entry))) (whole r (now (notes .exit))) (bufs (now (events .entry)) (now (errors .entry)) (now (scratch .entry))) (bufs (now (events .exit)) (now (errors .exit)) (now (scratch .exit)))) ⌝ }
+    requires { ⌜
+        Rows (source (now src) (now ids) (now ends))
+        × Wf (source (now src) (now ids) (now ends)) (bufs (now events) (now errors) (now scratch)) (whole s (now notes))
+        × Lends (now table) (now sets) ⌝ }
+    ensures { λ r. ⌜
+        ((L : P.Limits) → L .depth ≡ depth
+        → Did (P.read-rule L) (source (now (src .entry)) (now (ids .entry)) (now (ends .entry))) (whole s (now (notes .entry)))
+        (whole r (now (notes .exit))) (bufs (now (events .entry)) (now (errors .entry)) (now (scratch .entry)))
+        (bufs (now (events .exit)) (now (errors .exit)) (now (scratch .exit)))) ⌝ }
 {
     exec(
         ITEM,

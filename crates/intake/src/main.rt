@@ -329,6 +329,7 @@ fn answer(source: &[u8], ids: &[u32], starts: &[u32], ends: &[u32], fuel: u32) {
         starts,
         ends,
         fuel,
+        desk::read::base(),
         &mut scratch,
         &mut events,
         &mut errors,

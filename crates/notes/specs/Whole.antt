@@ -54,6 +54,28 @@ beside l s =
       codes = drop 10 l;
     }
 
+-- cells by the names that they have there, as contracts speak of them
+abbrev pub countOf : List ℕ → ℕ
+countOf l = getD l 2 0
+
+abbrev pub erOf : List ℕ → ℕ
+erOf l = getD l 4 0
+
+abbrev pub ercapOf : List ℕ → ℕ
+ercapOf l = getD l 5 0
+
+abbrev pub itemOf : List ℕ → ℕ
+itemOf l = getD l 6 0
+
+abbrev pub firstOf : List ℕ → ℕ
+firstOf l = getD l 7 0
+
+abbrev pub farOf : List ℕ → ℕ
+farOf l = getD l 8 0
+
+abbrev pub codesOf : List ℕ → List ℕ
+codesOf l = drop 10 l
+
 -- a state that rests at a row, where only what is noted counts
 abbrev pub resting : ℕ → Whole
 resting p = record { pos = p; fuel = 0; mode = 0; ev = 0; evcap = 0; full = 0; want = 0; unwant = 0; count = 0; mask = 0; codes = []; er = 0; ercap = 0; item = 0; first = 0; far = 0; quote = 0 }

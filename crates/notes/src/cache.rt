@@ -2,9 +2,9 @@
 use crate::names::FAR;
 ghost use mathlib.Core.Path.{_≡_};
 ghost use Prim.Native.Nat.{_+_, _*_, _/_, _≤_, _<_, max};
-ghost use lib.ListN.{length, getD};
+ghost use lib.ListN.{length};
 ghost use Rattle.notes.specs.Bits.{bitAt, Kept, Forgot};
-ghost use Rattle.notes.specs.Whole.{Whole, beside};
+ghost use Rattle.notes.specs.Whole.{Whole, beside, farOf};
 ghost use Rattle.notes.specs.Change.{withFar};
 ghost use Rattle.notes.specs.Did.{Coded};
 
@@ -16,7 +16,7 @@ pub fn seen(bit: usize, scratch: &[u64]) -> bool
     (word >> (bit % 64)) & 1 == 1
 }
 
-pub fn remember(bit: usize, scratch: &mut [u64])
+fn remember(bit: usize, scratch: &mut [u64])
     requires { ⌜ bit / 64 < length (now scratch) ⌝ }
     ensures { λ _. ⌜ Kept bit (now (scratch .entry)) (now (scratch .exit)) ⌝ }
 {
@@ -43,7 +43,9 @@ pub fn forget(from: usize, to: usize, scratch: &mut [u64])
 // Remembers a failure by its bit, and that its row is to be forgotten.
 pub fn remembers(bit: usize, scratch: &mut [u64], notes: &mut [usize; 68])
     requires { ⌜ (bit / 64 < length (now scratch)) × Coded (now notes) ⌝ }
-    ensures { λ _. ⌜ ((s : Whole) → beside (now (notes .exit)) s ≡ withFar (max (getD (now (notes .entry)) 8 0) (bit / 2 + 1)) (beside (now (notes .entry)) s)) × Kept bit (now (scratch .entry)) (now (scratch .exit)) ⌝ }
+    ensures { λ _. ⌜
+        ((s : Whole) → beside (now (notes .exit)) s ≡ withFar (max (farOf (now (notes .entry))) (bit / 2 + 1)) (beside (now (notes .entry)) s))
+        × Kept bit (now (scratch .entry)) (now (scratch .exit)) ⌝ }
 {
     remember(bit, scratch);
     let far = bit / 2 + 1;

@@ -37,9 +37,11 @@ pub const QUOTE: usize = 9;
 pub const CODES: usize = 10;
 
 // Enters a code, unless it is there.
-pub fn enter(code: usize, notes: &mut [usize; 68])
+fn enter(code: usize, notes: &mut [usize; 68])
     requires { ⌜ Coded (now notes) × (code < 58) ⌝ }
-    ensures { λ _. ⌜ ((s : Whole) → Enters (P.join (namesIn (beside (now (notes .entry)) s)) (namesOf code)) (beside (now (notes .entry)) s) (beside (now (notes .exit)) s)) ⌝ }
+    ensures { λ _. ⌜
+        ((s : Whole)
+        → Enters (P.join (namesIn (beside (now (notes .entry)) s)) (namesOf code)) (beside (now (notes .entry)) s) (beside (now (notes .exit)) s)) ⌝ }
 {
     let mask = notes[MASK];
     if (mask >> code) & 1 == 1 {
@@ -54,7 +56,9 @@ pub fn enter(code: usize, notes: &mut [usize; 68])
 // Names were expected at the row.
 pub fn expected(code: usize, at: usize, notes: &mut [usize; 68])
     requires { ⌜ Coded (now notes) × (code < 58) × (at ≤ 65536) ⌝ }
-    ensures { λ _. ⌜ ((x : Source) (s : Whole) → Ok (length (x .ids)) (beside (now (notes .entry)) s) → Peeked (x .ids) (s .pos) at → Plain (P.expected (namesOf code)) x (beside (now (notes .entry)) s) (beside (now (notes .exit)) s)) ⌝ }
+    ensures { λ _. ⌜
+        ((x : Source) (s : Whole) → Ok (length (x .ids)) (beside (now (notes .entry)) s) → Peeked (x .ids) (s .pos) at
+        → Plain (P.expected (namesOf code)) x (beside (now (notes .entry)) s) (beside (now (notes .exit)) s)) ⌝ }
 {
     let row = at + 1;
     let want = notes[WANT];
@@ -74,7 +78,9 @@ pub fn expected(code: usize, at: usize, notes: &mut [usize; 68])
 // A row was matched that must not stand there.
 pub fn unexpected(at: usize, notes: &mut [usize; 68])
     requires { ⌜ at ≤ 65536 ⌝ }
-    ensures { λ _. ⌜ ((x : Source) (s : Whole) → Ok (length (x .ids)) (beside (now (notes .entry)) s) → Peeked (x .ids) (s .pos) at → Plain P.unexpected x (beside (now (notes .entry)) s) (beside (now (notes .exit)) s)) ⌝ }
+    ensures { λ _. ⌜
+        ((x : Source) (s : Whole) → Ok (length (x .ids)) (beside (now (notes .entry)) s) → Peeked (x .ids) (s .pos) at
+        → Plain P.unexpected x (beside (now (notes .entry)) s) (beside (now (notes .exit)) s)) ⌝ }
 {
     if notes[UNWANT] < at + 1 {
         notes[UNWANT] = at + 1;

@@ -71,7 +71,9 @@ fn tiles(size: usize, starts: &[u32], ends: &[u32]) -> bool
 
 // The number of the first refusal of 1 to 6 that applies, or 0, where so many words of scratch are lent.
 pub fn judged(src: &[u8], ids: &[u32], starts: &[u32], ends: &[u32], scratch: usize) -> u32
-    ensures { λ r. ⌜ ((fuel : ℕ) (sc ev er : List ℕ) → length sc ≡ scratch → r ≡ refusal (desk (now (src .entry)) (now (ids .entry)) (now (starts .entry)) (now (ends .entry)) fuel sc ev er)) ⌝ }
+    ensures { λ r. ⌜
+        ((fuel : ℕ) (sc ev er : List ℕ) → length sc ≡ scratch
+        → r ≡ refusal (desk (now (src .entry)) (now (ids .entry)) (now (starts .entry)) (now (ends .entry)) fuel sc ev er)) ⌝ }
 {
     let rows = ids.len();
     if src.len() > 1048576 {

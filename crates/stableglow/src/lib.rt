@@ -1,13 +1,14 @@
 // The public face: what C and Rust link.
 use cutter::Cut;
 use desk::read::Reading;
+use desk::read::base;
 use merger::Merged;
 use shapes::refusal;
 ghost use mathlib.Core.Path.{_≡_};
+ghost use Rattle.definition.specs.Run.{base};
 ghost use Rattle.definition.specs.Answer.{after};
 ghost use Rattle.definition.specs.Merge.{merging};
 ghost use Rattle.refusals.specs.Judge.{desk};
-ghost use Rattle.notes.specs.Means.{limits};
 ghost use Rattle.cutter.specs.Rows.{cut};
 ghost use Rattle.stableglow.specs.Face.{face, faced, readFace, readFaced, cutFace, cutFaced};
 
@@ -49,9 +50,20 @@ pub extern "C" fn stableglow_read(
     errors: &mut [u32],
     answer: &mut [u32; 5],
 ) -> u32
-    ensures { λ r. ⌜ readFaced r (now (answer .exit)) (now (events .exit)) (now (errors .exit)) (now (scratch .exit)) ≡ readFace (after limits (desk (now (source .entry)) (now (ids .entry)) (now (starts .entry)) (now (ends .entry)) fuel (now (scratch .entry)) (now (events .entry)) (now (errors .entry)))) ⌝ }
+    ensures { λ r. ⌜ readFaced r (now (answer .exit)) (now (events .exit)) (now (errors .exit)) (now (scratch .exit)) ≡ readFace (after base (desk (now (source .entry)) (now (ids .entry)) (now (starts .entry)) (now (ends .entry)) fuel (now (scratch .entry)) (now (events .entry)) (now (errors .entry)))) ⌝ }
 {
-    let reading = desk::read::read(source, ids, starts, ends, fuel, scratch, events, errors);
+    let limits = base();
+    let reading = desk::read::read(
+        source,
+        ids,
+        starts,
+        ends,
+        fuel,
+        limits,
+        scratch,
+        events,
+        errors,
+    );
     match reading {
         Reading::Refused(number) => {
             *answer = [0, 0, 0, 0, 0];

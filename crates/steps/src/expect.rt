@@ -25,7 +25,9 @@ impl State {
     // No row of the set stands at hand: names are entered, and the state fails.
     fn miss(mut self, code: usize, at: usize, notes: &mut [usize; 68]) -> Self
         requires { ⌜ Coded (now notes) × (code < 58) × (at ≤ 65536) ⌝ }
-        ensures { λ r. ⌜ ((x : Source) → Ok (length (x .ids)) (whole self (now (notes .entry))) → Peeked (x .ids) (self .pos) at → Plain (λ a. P.turn P.failed (P.expected (namesOf code) a)) x (whole self (now (notes .entry))) (whole r (now (notes .exit)))) ⌝ }
+        ensures { λ r. ⌜
+            ((x : Source) → Ok (length (x .ids)) (whole self (now (notes .entry))) → Peeked (x .ids) (self .pos) at
+            → Plain (λ a. P.turn P.failed (P.expected (namesOf code) a)) x (whole self (now (notes .entry))) (whole r (now (notes .exit)))) ⌝ }
     {
         expected(code, at, notes);
         self.mode = mode::FAILED;
@@ -44,7 +46,9 @@ impl State {
         sets: &[[u64; 2]; 55],
     ) -> Self
         requires { ⌜ Ready (now ids) (now ends) self (now notes) (now events) × (code < 58) × Tabled (now sets) ⌝ }
-        ensures { λ r. ⌜ Eats (P.eats (setOf set) (namesOf code)) (now (ids .entry)) (now (ends .entry)) self (now (notes .entry)) r (now (notes .exit)) (now (events .entry)) (now (events .exit)) ⌝ }
+        ensures { λ r. ⌜
+            Eats (P.eats (setOf set) (namesOf code)) (now (ids .entry)) (now (ends .entry)) self (now (notes .entry)) r (now (notes .exit))
+            (now (events .entry)) (now (events .exit)) ⌝ }
     {
         if self.mode != mode::OK {
             return self;
@@ -63,7 +67,9 @@ impl State {
     // Takes up trivia and the row behind them, in good order.
     fn take(mut self, kind: u32, at: usize, ids: &[u32], ends: &[u32], events: &mut [u32]) -> Self
         requires { ⌜ Lines (now ids) (now ends) × Fits self (now events) × (self .mode ≡ 0) × Peeked (now ids) (self .pos) at × (at < length (now ids)) ⌝ }
-        ensures { λ r. ⌜ ((S N : List ℕ) → P.next S (drop (self .pos) (now (ids .entry))) ≡ P.Next.hit kind (drop (suc at) (now (ids .entry))) → Writes (P.eats S N) (now (ids .entry)) (now (ends .entry)) self r (now (events .entry)) (now (events .exit))) ⌝ }
+        ensures { λ r. ⌜
+            ((S N : List ℕ) → P.next S (drop (self .pos) (now (ids .entry))) ≡ P.Next.hit kind (drop (suc at) (now (ids .entry)))
+            → Writes (P.eats S N) (now (ids .entry)) (now (ends .entry)) self r (now (events .entry)) (now (events .exit))) ⌝ }
     {
         self = self.trivia(ids, ends, events);
         let start = start_of(at, ends);
@@ -92,7 +98,11 @@ impl State {
     // Goes on without a part that begins with a row of the set, which does not stand there: its names are entered.
     pub fn pass(self, set: usize, ids: &[u32], notes: &mut [usize; 68])
         requires { ⌜ (length (now ids) ≤ 65536) × (self .pos ≤ length (now ids)) × Coded (now notes) × (set < 55) ⌝ }
-        ensures { λ _. ⌜ ((bytes ends : List ℕ) → Ok (length (now (ids .entry))) (whole self (now (notes .entry))) → ahead (setOf set) (now (ids .entry)) (whole self []) ≡ false → Plain (P.branches (setOf set) (λ a. a)) (source bytes (now (ids .entry)) ends) (whole self (now (notes .entry))) (whole self (now (notes .exit)))) ⌝ }
+        ensures { λ _. ⌜
+            ((bytes ends : List ℕ) → Ok (length (now (ids .entry))) (whole self (now (notes .entry)))
+            → ahead (setOf set) (now (ids .entry)) (whole self []) ≡ false
+            → Plain (P.branches (setOf set) (λ a. a)) (source bytes (now (ids .entry)) ends) (whole self (now (notes .entry)))
+            (whole self (now (notes .exit)))) ⌝ }
     {
         if self.mode != mode::OK {
             return;
@@ -115,7 +125,9 @@ impl State {
         sets: &[[u64; 2]; 55],
     ) -> Self
         requires { ⌜ Ready (now ids) (now ends) self (now notes) (now events) × Tabled (now sets) ⌝ }
-        ensures { λ r. ⌜ Eats (P.refuses (setOf set)) (now (ids .entry)) (now (ends .entry)) self (now (notes .entry)) r (now (notes .exit)) (now (events .entry)) (now (events .exit)) ⌝ }
+        ensures { λ r. ⌜
+            Eats (P.refuses (setOf set)) (now (ids .entry)) (now (ends .entry)) self (now (notes .entry)) r (now (notes .exit))
+            (now (events .entry)) (now (events .exit)) ⌝ }
     {
         if self.mode != mode::OK {
             return self;

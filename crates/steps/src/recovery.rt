@@ -12,13 +12,13 @@ ghost use mathlib.Core.Path.{_≡_};
 ghost use mathlib.Core.List.{List};
 ghost use Prim.Native.Nat.{ℕ, _-_, _≤_, _<_};
 ghost use lib.Dec.{eqb};
-ghost use lib.ListN.{length, getD};
+ghost use lib.ListN.{length};
 ghost use Rattle.kinds.specs.Kinds as k;
 ghost use Rattle.kinds.specs.Sets.{setOf};
 ghost use Rattle.shapes.specs.Shapes.{EVENT};
 ghost use Rattle.definition.specs.Render.{Source};
 ghost use Rattle.definition.specs.Run as P;
-ghost use Rattle.notes.specs.Whole.{Whole, beside};
+ghost use Rattle.notes.specs.Whole.{Whole, beside, ercapOf};
 ghost use Rattle.notes.specs.Bits.{ifb};
 ghost use Rattle.notes.specs.Means.{source, bufs, Rows};
 ghost use Rattle.notes.specs.Did.{Ok, Wf, Coded, Plain, Errors, Both, Shuts, Peeked};
@@ -39,8 +39,17 @@ impl State {
         errors: &mut [u32],
         notes: &mut [usize; 68],
     ) -> Self
-        requires { ⌜ Whence (now src) (now ids) (now ends) self (now notes) (now events) (now errors) × (from ≤ self .pos) × (self .full ≡ 0 → (EVENT ≤ at) × (at ≤ self .ev)) ⌝ }
-        ensures { λ r. ⌜ ((sc : List ℕ) → Wf (source (now (src .entry)) (now (ids .entry)) (now (ends .entry))) (bufs (now (events .entry)) (now (errors .entry)) sc) (whole self (now (notes .entry))) → Shuts (P.finish optional kind (length (now (ids .entry)) - from)) at (source (now (src .entry)) (now (ids .entry)) (now (ends .entry))) (whole self (now (notes .entry))) (whole r (now (notes .exit))) (bufs (now (events .entry)) (now (errors .entry)) sc) (bufs (now (events .exit)) (now (errors .exit)) sc)) ⌝ }
+        requires { ⌜
+            Whence (now src) (now ids) (now ends) self (now notes) (now events) (now errors)
+            × (from ≤ self .pos)
+            × (self .full ≡ 0 → (EVENT ≤ at) × (at ≤ self .ev)) ⌝ }
+        ensures { λ r. ⌜
+            ((sc : List ℕ)
+            → Wf (source (now (src .entry)) (now (ids .entry)) (now (ends .entry))) (bufs (now (events .entry)) (now (errors .entry)) sc)
+            (whole self (now (notes .entry)))
+            → Shuts (P.finish optional kind (length (now (ids .entry)) - from)) at
+            (source (now (src .entry)) (now (ids .entry)) (now (ends .entry))) (whole self (now (notes .entry))) (whole r (now (notes .exit)))
+            (bufs (now (events .entry)) (now (errors .entry)) sc) (bufs (now (events .exit)) (now (errors .exit)) sc)) ⌝ }
     {
         self = self.told(optional, src, ids, ends, errors, notes);
         self.shut(shown(kind, self.mode), from, at, ends, events)
@@ -56,8 +65,14 @@ impl State {
         errors: &mut [u32],
         notes: &mut [usize; 68],
     ) -> Self
-        requires { ⌜ Rows (source (now src) (now ids) (now ends)) × Ok (length (now ids)) (whole self (now notes)) × (getD (now notes) 5 0 ≤ length (now errors)) ⌝ }
-        ensures { λ r. ⌜ Errors (tells optional) (source (now (src .entry)) (now (ids .entry)) (now (ends .entry))) (whole self (now (notes .entry))) (whole r (now (notes .exit))) (now (errors .entry)) (now (errors .exit)) × (r .mode ≡ self .mode) ⌝ }
+        requires { ⌜
+            Rows (source (now src) (now ids) (now ends))
+            × Ok (length (now ids)) (whole self (now notes))
+            × (ercapOf (now notes) ≤ length (now errors)) ⌝ }
+        ensures { λ r. ⌜
+            Errors (tells optional) (source (now (src .entry)) (now (ids .entry)) (now (ends .entry))) (whole self (now (notes .entry)))
+            (whole r (now (notes .exit))) (now (errors .entry)) (now (errors .exit))
+            × (r .mode ≡ self .mode) ⌝ }
     {
         if self.mode == mode::OK {
             return self;
@@ -84,7 +99,10 @@ impl State {
         sets: &[[u64; 2]; 55],
     ) -> Self
         requires { ⌜ Whence (now src) (now ids) (now ends) self (now notes) (now events) (now errors) × Tabled (now sets) ⌝ }
-        ensures { λ r. ⌜ Both (P.swallow d optional (setOf set)) (source (now (src .entry)) (now (ids .entry)) (now (ends .entry))) (whole self (now (notes .entry))) (whole r (now (notes .exit))) (now (events .entry)) (now (events .exit)) (now (errors .entry)) (now (errors .exit)) ⌝ }
+        ensures { λ r. ⌜
+            Both (P.swallow d optional (setOf set)) (source (now (src .entry)) (now (ids .entry)) (now (ends .entry)))
+            (whole self (now (notes .entry))) (whole r (now (notes .exit))) (now (events .entry)) (now (events .exit)) (now (errors .entry))
+            (now (errors .exit)) ⌝ }
     {
         self = self.begin(d, ids, ends, events);
         let from = self.pos;
@@ -119,7 +137,10 @@ impl State {
         sets: &[[u64; 2]; 55],
     ) -> Self
         requires { ⌜ Whence (now src) (now ids) (now ends) self (now notes) (now events) (now errors) × (set < 55) × Tabled (now sets) ⌝ }
-        ensures { λ r. ⌜ Both (P.recovery d optional (setOf set)) (source (now (src .entry)) (now (ids .entry)) (now (ends .entry))) (whole self (now (notes .entry))) (whole r (now (notes .exit))) (now (events .entry)) (now (events .exit)) (now (errors .entry)) (now (errors .exit)) ⌝ }
+        ensures { λ r. ⌜
+            Both (P.recovery d optional (setOf set)) (source (now (src .entry)) (now (ids .entry)) (now (ends .entry)))
+            (whole self (now (notes .entry))) (whole r (now (notes .exit))) (now (events .entry)) (now (events .exit)) (now (errors .entry))
+            (now (errors .exit)) ⌝ }
     {
         if self.mode > mode::FAILED {
             return self;
@@ -168,7 +189,9 @@ fn shown(kind: u32, mode: u8) -> u32
 // Where no error of the item is pending, the set's names are entered first.
 fn first_names(set: usize, at: usize, notes: &mut [usize; 68])
     requires { ⌜ Coded (now notes) × (set < 55) × (at ≤ 65536) ⌝ }
-    ensures { λ _. ⌜ ((x : Source) (s : Whole) → Ok (length (x .ids)) (beside (now (notes .entry)) s) → Peeked (x .ids) (s .pos) at → Plain (λ a. P.first-names (a .chosen) (setOf set) a) x (beside (now (notes .entry)) s) (beside (now (notes .exit)) s)) ⌝ }
+    ensures { λ _. ⌜
+        ((x : Source) (s : Whole) → Ok (length (x .ids)) (beside (now (notes .entry)) s) → Peeked (x .ids) (s .pos) at
+        → Plain (λ a. P.first-names (a .chosen) (setOf set) a) x (beside (now (notes .entry)) s) (beside (now (notes .exit)) s)) ⌝ }
 {
     if notes[ER] == notes[ITEM] {
         expected(set, at, notes);

@@ -87,7 +87,8 @@ impl State {
 
     // Takes one fuel for a node, where d more may be open. The first stop stands.
     fn charge(mut self, d: usize) -> Self
-        ensures { λ r. ⌜ ((x : Source) (l : List ℕ) → Ok (length (x .ids)) (whole self l) → Plain (λ a. P.charge d (a .fuel) a) x (whole self l) (whole r l)) ⌝ }
+        ensures { λ r. ⌜
+            ((x : Source) (l : List ℕ) → Ok (length (x .ids)) (whole self l) → Plain (λ a. P.charge d (a .fuel) a) x (whole self l) (whole r l)) ⌝ }
     {
         if self.fuel == 0 {
             if self.mode < mode::SPENT {
@@ -110,7 +111,9 @@ impl State {
     // Begins a node: its event is written, fuel or not.
     pub fn begin(mut self, d: usize, ids: &[u32], ends: &[u32], events: &mut [u32]) -> Self
         requires { ⌜ Lines (now ids) (now ends) × Fits self (now events) × (self .pos ≤ length (now ids)) ⌝ }
-        ensures { λ r. ⌜ ((bytes l : List ℕ) → Ok (length (now (ids .entry))) (whole self l) → Began d (source bytes (now (ids .entry)) (now (ends .entry))) (whole self l) (whole r l) (now (events .entry)) (now (events .exit))) ⌝ }
+        ensures { λ r. ⌜
+            ((bytes l : List ℕ) → Ok (length (now (ids .entry))) (whole self l)
+            → Began d (source bytes (now (ids .entry)) (now (ends .entry))) (whole self l) (whole r l) (now (events .entry)) (now (events .exit))) ⌝ }
     {
         self = self.trivia(ids, ends, events);
         self = self.charge(d);
@@ -121,7 +124,11 @@ impl State {
     // Closes a node that began at row `from`, its event before `at`: that event gets kind and end, and the end event is written.
     pub fn shut(self, kind: u32, from: usize, at: usize, ends: &[u32], events: &mut [u32]) -> Self
         requires { ⌜ Fits self (now events) × (self .pos ≤ length (now ends)) × (from ≤ self .pos) × (self .full ≡ 0 → (EVENT ≤ at) × (at ≤ self .ev)) ⌝ }
-        ensures { λ r. ⌜ ((l bytes ids er sc : List ℕ) → Lines ids (now (ends .entry)) → Wf (source bytes ids (now (ends .entry))) (bufs (now (events .entry)) er sc) (whole self l) → Shuts (shutA kind (length ids - from)) at (source bytes ids (now (ends .entry))) (whole self l) (whole r l) (bufs (now (events .entry)) er sc) (bufs (now (events .exit)) er sc)) ⌝ }
+        ensures { λ r. ⌜
+            ((l bytes ids er sc : List ℕ) → Lines ids (now (ends .entry))
+            → Wf (source bytes ids (now (ends .entry))) (bufs (now (events .entry)) er sc) (whole self l)
+            → Shuts (shutA kind (length ids - from)) at (source bytes ids (now (ends .entry))) (whole self l) (whole r l)
+            (bufs (now (events .entry)) er sc) (bufs (now (events .exit)) er sc)) ⌝ }
     {
         if self.full != 0 {
             return self;

@@ -233,6 +233,7 @@ fn same_answer(
         starts,
         ends,
         fuel,
+        desk::read::base(),
         &mut scratch,
         &mut list,
         &mut notes,

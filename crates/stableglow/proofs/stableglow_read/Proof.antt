@@ -1,5 +1,8 @@
 -- The C face of the reader: each case of the enum in numbers.
 use mathlib.Core.Path.{sym, ap, _∙_}
+use Rattle.definition.specs.Run.{Limits}
+use Rattle.definition.specs.Answer.{after}
+use Rattle.refusals.specs.Judge.{desk}
 use Rattle.desk.specs.declared.read.Reading.{Reading}
 use Rattle.desk.specs.Framing.{afterOf}
 use Rattle.stableglow.specs.Face.{readFace}
@@ -8,7 +11,11 @@ use Rattle.stableglow.proofs.stableglow_read.Statement.{statement}
 use Rattle.stableglow.proofs.stableglow_read.Tie as tie
 use Rattle.stableglow.proofs.stableglow_read.Reads as reads
 use Rattle.stableglow.proofs.stableglow_read.Lts as lts
+use Rattle.desk.proofs.read.base.Reads as base-reads
 use Rattle.desk.proofs.read.read.Reads as read-reads
+
+base-requires : tie.Need-base-requires
+base-requires c κs = search needs
 
 read-requires : tie.Need-read-requires
 read-requires c κs = search needs
@@ -35,7 +42,7 @@ same-length-3 : tie.Need-same-length-3
 same-length-3 c = search needs
 
 returns : tie.Need-returns
-returns c = ap (λ (m : Reading). readFace (afterOf m (c .before .before .before .before .before .before .before .before .before .before .read .last .1 .1 .1 .1 .1 .1 .0) (c .before .before .before .before .before .before .before .before .before .before .read .last .1 .1 .1 .1 .1 .1 .1 .0) (c .before .before .before .before .before .before .before .before .before .before .read .last .1 .1 .1 .1 .1 .0))) (sym (c .before .before .reading .given .1)) ∙ ap readFace (c .before .before .before .before .before .before .before .before .before .before .read .ensures)
+returns c = ap (λ (m : Reading). readFace (afterOf m (c .before .before .before .before .before .before .before .before .before .before .read .last .1 .1 .1 .1 .1 .1 .1 .0) (c .before .before .before .before .before .before .before .before .before .before .read .last .1 .1 .1 .1 .1 .1 .1 .1 .0) (c .before .before .before .before .before .before .before .before .before .before .read .last .1 .1 .1 .1 .1 .1 .0))) (sym (c .before .before .reading .given .1)) ∙ ap readFace (c .before .before .before .before .before .before .before .before .before .before .read .ensures ∙ ap (λ (L : Limits). after L (desk (c .before .before .before .before .before .before .before .before .before .before .before .before .before .before .before .before .before .before .before .before .before .before .args .source .now) (c .before .before .before .before .before .before .before .before .before .before .before .before .before .before .before .before .before .before .before .before .before .before .args .ids .now) (c .before .before .before .before .before .before .before .before .before .before .before .before .before .before .before .before .before .before .before .before .before .before .args .starts .now) (c .before .before .before .before .before .before .before .before .before .before .before .before .before .before .before .before .before .before .before .before .before .before .args .ends .now) (c .before .before .before .before .before .before .before .before .before .before .before .before .before .before .before .before .before .before .before .before .before .before .args .fuel) (c .before .before .before .before .before .before .before .before .before .before .before .before .before .before .before .before .before .before .before .before .before .before .args .scratch .now) (c .before .before .before .before .before .before .before .before .before .before .before .before .before .before .before .before .before .before .before .before .before .before .args .events .now) (c .before .before .before .before .before .before .before .before .before .before .before .before .before .before .before .before .before .before .before .before .before .before .args .errors .now))) (c .before .before .before .before .before .before .before .before .before .before .before .before .before .before .base .ensures))
 
 same-length-4 : tie.Need-same-length-4
 same-length-4 c = search needs
@@ -47,12 +54,13 @@ same-length-6 : tie.Need-same-length-6
 same-length-6 c = search needs
 
 returns-2 : tie.Need-returns-2
-returns-2 c = ap (λ (m : Reading). readFace (afterOf m (c .before .before .before .before .before .before .before .before .before .before .read .last .1 .1 .1 .1 .1 .1 .0) (c .before .before .before .before .before .before .before .before .before .before .read .last .1 .1 .1 .1 .1 .1 .1 .0) (c .before .before .before .before .before .before .before .before .before .before .read .last .1 .1 .1 .1 .1 .0))) (sym (c .before .before .reading2 .given .1)) ∙ ap readFace (c .before .before .before .before .before .before .before .before .before .before .read .ensures)
+returns-2 c = ap (λ (m : Reading). readFace (afterOf m (c .before .before .before .before .before .before .before .before .before .before .read .last .1 .1 .1 .1 .1 .1 .1 .0) (c .before .before .before .before .before .before .before .before .before .before .read .last .1 .1 .1 .1 .1 .1 .1 .1 .0) (c .before .before .before .before .before .before .before .before .before .before .read .last .1 .1 .1 .1 .1 .1 .0))) (sym (c .before .before .reading2 .given .1)) ∙ ap readFace (c .before .before .before .before .before .before .before .before .before .before .read .ensures ∙ ap (λ (L : Limits). after L (desk (c .before .before .before .before .before .before .before .before .before .before .before .before .before .before .before .before .before .before .before .before .before .before .args .source .now) (c .before .before .before .before .before .before .before .before .before .before .before .before .before .before .before .before .before .before .before .before .before .before .args .ids .now) (c .before .before .before .before .before .before .before .before .before .before .before .before .before .before .before .before .before .before .before .before .before .before .args .starts .now) (c .before .before .before .before .before .before .before .before .before .before .before .before .before .before .before .before .before .before .before .before .before .before .args .ends .now) (c .before .before .before .before .before .before .before .before .before .before .before .before .before .before .before .before .before .before .before .before .before .before .args .fuel) (c .before .before .before .before .before .before .before .before .before .before .before .before .before .before .before .before .before .before .before .before .before .before .args .scratch .now) (c .before .before .before .before .before .before .before .before .before .before .before .before .before .before .before .before .before .before .before .before .before .before .args .events .now) (c .before .before .before .before .before .before .before .before .before .before .before .before .before .before .before .before .before .before .before .before .before .before .args .errors .now))) (c .before .before .before .before .before .before .before .before .before .before .before .before .before .before .base .ensures))
 
 pub stableglow-read-spec : {M : Type 1} → statement M
 stableglow-read-spec =
     tie.close
     (tie.spec
+    base-requires
     read-requires
     enum-known-reading
     enum-known-reading-2
