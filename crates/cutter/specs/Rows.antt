@@ -8,6 +8,7 @@ use mathlib.Core.Bool.{Bool, true, false, cond, _&&_, _||_}
 use mathlib.Core.Option.{Option, none, some}
 use lib.Dec.{ltb, eqb}
 use lib.ListN.{length, take, drop}
+use Rattle.shapes.specs.Refusal as Refusal
 use Rattle.kinds.specs.Kinds as k
 use Rattle.kinds.specs.Sets.{trivial}
 use Rattle.cutter.specs.Classes as c
@@ -135,8 +136,8 @@ unfoldable pub cut : List ℕ → List ℕ → List ℕ → List ℕ → After
 cut s ids starts ends =
     let rs = cutting s in
     let n = length rs in
-    cond (ltb 1048576 (length s)) (refused 1 ids starts ends)
-    (cond (ltb (length ids) n || ltb (length starts) n || ltb (length ends) n) (refused 13 ids starts ends)
+    cond (ltb 1048576 (length s)) (refused Refusal.LONG ids starts ends)
+    (cond (ltb (length ids) n || ltb (length starts) n || ltb (length ends) n) (refused Refusal.ROWS ids starts ends)
     (record {
       number = 0;
       count = n;

@@ -6,6 +6,7 @@ use crate::table::FINALS;
 use crate::table::KEYS;
 use crate::table::NEXT;
 use crate::table::WIDES;
+use shapes::refusal;
 ghost use mathlib.Core.Path.{_≡_};
 ghost use mathlib.Core.Bool.{_||_};
 ghost use Prim.Native.Nat.{ℕ};
@@ -42,7 +43,7 @@ pub fn cut(source: &[u8], ids: &mut [u32], starts: &mut [u32], ends: &mut [u32])
     ensures { λ r. ⌜ returning r (now (ids .exit)) (now (starts .exit)) (now (ends .exit)) ≡ cut (now (source .entry)) (now (ids .entry)) (now (starts .entry)) (now (ends .entry)) ⌝ }
 {
     if 1048576 < source.len() {
-        return Cut::Refused(1);
+        return Cut::Refused(refusal::LONG);
     }
     let classes = CLASSES;
     let states = NEXT;
@@ -51,7 +52,7 @@ pub fn cut(source: &[u8], ids: &mut [u32], starts: &mut [u32], ends: &mut [u32])
     let keys = KEYS;
     let room = lesser(lesser(ids.len(), starts.len()), ends.len());
     if !fits(source, room, &classes, &states, &finals, &ranges, &keys) {
-        return Cut::Refused(13);
+        return Cut::Refused(refusal::ROWS);
     }
     let n = fill(
         source,

@@ -219,7 +219,7 @@ pub run-adds : (d : ℕ) (o : Bool) (a : Production) (s : State) → Adding s (r
 run-adds d o a = run-kept (stepped Adding adding) d o a
 
 -- CLOSING, as the code meets it: o is what stood written when the node's opening had been, b what stands when its body has run. The opening
--- ends at 4 * length o.
+-- ends at EVENT * length o.
 pub buffer-closes : (x : Source) (a n m j : ℕ) (before o b : List Event) → o ≡ opened j ∷ before → Adds o b →
     buffer x (closed a n m ∷ b) ≡ patch (EVENT * length o) a (span-end x n m) (buffer x b) ++ event Sort.END a (starts-at x n) (span-end x n m)
 buffer-closes x a n m j before o b e p =

@@ -11,6 +11,7 @@ use Rattle.kinds.specs.Kinds as kinds
 use Rattle.shapes.specs.Sort as Sort
 use Rattle.shapes.specs.Refusal as Refusal
 use Rattle.shapes.specs.Shapes.{EVENT, flat, entries, flat-records}
+use Rattle.shapes.proofs.Laws.{flat-length}
 use Rattle.definition.specs.Prog.{RULE-DECL}
 use Rattle.definition.specs.Ford.{Res, Ford, rules, star, nt, strip, Accepts}
 use Rattle.definition.specs.Run as P
@@ -21,7 +22,7 @@ use Rattle.definition.specs.Remaining.{Running, standing, remaining, Continued}
 use Rattle.theorems.proofs.Answered.{number-of, given-is, answered}
 use Rattle.definition.specs.Merge.{marks, finished, merged, merger}
 use Rattle.definition.specs.Merge as M
-use Rattle.theorems.proofs.Joined.{Orderly, flat-length, never-9-or-10, read-in-order}
+use Rattle.theorems.proofs.Joined.{Orderly, never-9-or-10, read-in-order}
 use Rattle.theorems.proofs.Demands as theorems
 use Rattle.desk.specs.declared.read.Reading as D
 use Rattle.desk.specs.declared.read.Reading.the-variants.{Refused, Answered}

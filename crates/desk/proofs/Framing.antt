@@ -14,6 +14,7 @@ use lib.Seq.{take-append-add, take-append-le, length-take-le}
 use Rattle.kinds.specs.Kinds as k
 use Rattle.shapes.specs.Sort as Sort
 use Rattle.shapes.specs.Shapes.{EVENT, Entry, event, flat, Rec, flat-records}
+use Rattle.shapes.proofs.Laws.{flat-length}
 use Rattle.definition.specs.Run as P
 use Rattle.definition.specs.Run.{Mode, ok, failed, stopped}
 use Rattle.definition.specs.Buffer.{buffer}
@@ -81,10 +82,6 @@ none-chosen L x fuel = items-chosen L (length (x .ids)) (P.start (x .ids) fuel) 
 flat-end : (a : List Entry) (q : Entry) → flat (a ++ (q ∷ [])) ≡ flat a ++ event (q .0) (q .1) (q .2) (q .3)
 flat-end [] q = refl
 flat-end (e ∷ a) q = ap (λ (l : List ℕ). e .0 ∷ e .1 ∷ e .2 ∷ e .3 ∷ l) (flat-end a q)
-
-flat-length : (a : List Entry) → length (flat a) ≡ EVENT * length a
-flat-length [] = refl
-flat-length (e ∷ a) = omega (arith, flat-length a)
 
 module _ (L : P.Limits) (x : Source) (fuel evcap R : ℕ) {d : Tally} {t : Whole} {ev₁ ev₂ er sc : List ℕ}
     (B : Between L (evcap + EVENT) R x d (bufs ev₁ er sc) (reading L x fuel)) (w : Wf x (bufs ev₁ er sc) (d .state)) (put : Put (event Sort.END k.SOURCE-FILE 0 (length (x .bytes))) (d .state) t ev₁ ev₂) where

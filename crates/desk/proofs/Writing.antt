@@ -126,9 +126,10 @@ module _ {records : List ℕ} {before : ℕ} {s r : Whole} {ev ev′ : List ℕ}
   pub flush-open : (r .ev ≤ r .evcap) × (r .evcap ≤ length ev′)
   flush-open = (omega (arith, f .puts .fits, ap (λ (y : Whole). y .evcap) (f .puts .is)), f .fits)
 
-  pub flush-on : {t : Whole} {ev₂ : List ℕ} → at + HEAD ≤ length records → (index ≡ most → ⊥) → Put (event Sort.ERROR index (getD records at 0) (getD records (at + 1) 0)) r t ev′ ev₂ → Flushing records before s t ev ev₂ (next-record records at) (index + 1)
-  flush-on {t} {ev₂} h n v =
+  pub flush-on : {t : Whole} {ev₂ : List ℕ} {next : ℕ} → at + HEAD ≤ length records → (index ≡ most → ⊥) → Put (event Sort.ERROR index (getD records at 0) (getD records (at + 1) 0)) r t ev′ ev₂ → next ≡ next-record records at → Flushing records before s t ev ev₂ next (index + 1)
+  flush-on {t} {ev₂} {next} h n v e =
       let q = event Sort.ERROR index (getD records at 0) (getD records (at + 1) 0) in
+      subst (λ (i : ℕ). Flushing records before s t ev ev₂ i (index + 1)) (sym e)
       record {
         done = f .done ++ q;
         joins =

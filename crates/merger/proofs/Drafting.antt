@@ -9,6 +9,7 @@ use lib.Seq.{take-at}
 use native.Mathlib.Omega.{arith}
 use Rattle.shapes.specs.Sort as Sort
 use Rattle.shapes.specs.Shapes.{EVENT, Entry, flat}
+use Rattle.shapes.proofs.Laws.{flat-length}
 use Rattle.definition.specs.Merge.{Mark, opens, joins, closes, keeps, Span, widened, paired, reach, merge, error-event}
 use Rattle.merger.specs.Events.{entry-at, put-at}
 use Rattle.merger.specs.Pen.{Page, page, pen-at, link, around, span-of, begun, joined, turn, Roomy, Inside, Able}
@@ -18,10 +19,6 @@ use Rattle.merger.proofs.Bools.{never}
 flat-append : (a b : List Entry) → flat (a ++ b) ≡ flat a ++ flat b
 flat-append [] b = refl
 flat-append (e ∷ a) b = ap (λ (l : List ℕ). e .0 ∷ e .1 ∷ e .2 ∷ e .3 ∷ l) (flat-append a b)
-
-pub length-flat : (a : List Entry) → length (flat a) ≡ EVENT * length a
-length-flat [] = refl
-length-flat (e ∷ a) = let h = length-flat a in omega arith
 
 -- a node that is open: the events between the begin event around it and its own, and its span so far
 abbrev pub Frame : Type 0
@@ -65,7 +62,7 @@ length-laid : (fs : List Frame) → length (laid fs) ≡ place fs
 length-laid [] = refl
 length-laid (f ∷ fs) =
     let h = length-laid fs in
-    let n = length-flat (f .0) in
+    let n = flat-length (f .0) in
     simp length-append (omega arith)
 
 length-done : (r : ℕ → Span → Span) (fs : List Frame) → EVENT * length (done r fs) ≡ place fs
@@ -89,13 +86,13 @@ module _ (fs : List Frame) (since : List Entry) where
 
   length-written : length written ≡ place fs + EVENT * length since
   unfolding written
-  length-written = let a = length-laid fs in let b = length-flat since in simp length-append (omega arith)
+  length-written = let a = length-laid fs in let b = flat-length since in simp length-append (omega arith)
 
   pub appended : (l tail : List ℕ) (to : ℕ) (e : Entry) → l ≡ laid fs ++ (flat since ++ tail) → to ≡ place fs + EVENT * length since → to + EVENT ≤ length l → put-at l to e ≡ laid fs ++ (flat (since ++ (e ∷ [])) ++ drop EVENT tail)
   unfolding written
   appended l tail to e h p n =
       let at : to ≡ length written = p ∙ sym length-written in
-      let long : EVENT ≤ length tail = omega (arith, ap length h, length-append (laid fs) (flat since ++ tail), length-append (flat since) tail, length-laid fs, length-flat since) in
+      let long : EVENT ≤ length tail = omega (arith, ap length h, length-append (laid fs) (flat since ++ tail), length-append (flat since) tail, length-laid fs, flat-length since) in
       let cells : l ≡ amid written (entry-at tail 0) (drop EVENT tail) = h ∙ sym (append-assoc (laid fs) (flat since) tail) ∙ ap (λ (t : List ℕ). written ++ t) (split tail long) in
       ap₂ (λ (t : List ℕ) (i : ℕ). put-at t i e) cells at
       ∙ put-amid written (drop EVENT tail) (entry-at tail 0) e
@@ -235,5 +232,5 @@ completed out ms g h d = let n = subst (λ (l : List Mark). Draft out l g) h d i
         let e : out ≡ since = l .whole ∙ append-nil since in
         ap (take (EVENT * length out)) (l .cells)
         ∙ ap (λ (es : List Entry). take (EVENT * length out) (flat es ++ tail)) (sym e)
-        ∙ take-at (flat out) tail (EVENT * length out) (length-flat out)
+        ∙ take-at (flat out) tail (EVENT * length out) (flat-length out)
     go (f ∷ fs) since tail l = never (l .nested)

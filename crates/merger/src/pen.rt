@@ -85,7 +85,10 @@ impl Pen {
         put(room, begin, e);
         e.sort = sort::END;
         put(room, to, e);
-        Pen { to: to + EVENT, node }
+        Pen {
+            to: to + EVENT,
+            node,
+        }
     }
 
     fn keeps(self, e: Event, room: &mut [u32]) -> Self

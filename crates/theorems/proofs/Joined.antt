@@ -12,6 +12,7 @@ use Rattle.kinds.specs.Kinds as k
 use Rattle.shapes.specs.Sort as Sort
 use Rattle.shapes.specs.Refusal as Refusal
 use Rattle.shapes.specs.Shapes.{EVENT, Entry, flat, entries}
+use Rattle.shapes.proofs.Laws.{flat-length, entries-flat}
 use Rattle.definition.specs.Run.{State, Limits, Event, opened, leaf, closed, bad, read}
 use Rattle.definition.specs.Render.{Source, starts-at, ends-at, span-end, bads, render, inside, Reading, rendered}
 use Rattle.definition.specs.Answer.{Desk, tile, answer, given, source-of}
@@ -272,14 +273,6 @@ sorts-render x (t ∷ st) (opened n ∷ w) l e = sorts-render x st w ((Sort.BEGI
 sorts-render x st (leaf a n ∷ w) l e = sorts-render x st w ((Sort.TOKEN, a, starts-at x n, ends-at x n) ∷ l) e
 sorts-render x st (closed a n m ∷ w) l e = sorts-render x ((a, span-end x n m) ∷ st) w ((Sort.END, a, starts-at x n, span-end x n m) ∷ l) e
 sorts-render x st (bad n c ∷ w) l e = sorts-render x st w ((Sort.ERROR, bads w, starts-at x n, ends-at x n) ∷ l) e
-
-pub entries-flat : (es : List Entry) → entries (flat es) ≡ es
-entries-flat [] = refl
-entries-flat (e ∷ es) = ap (λ (l : List Entry). e ∷ l) (entries-flat es)
-
-pub flat-length : (es : List Entry) → length (flat es) ≡ EVENT * length es
-flat-length [] = refl
-flat-length (e ∷ es) = omega (arith, flat-length es)
 
 -- merging makes no list longer
 merge-shorter : (ms : List Mark) (st : List Span) → length (merge ms st) ≤ length ms

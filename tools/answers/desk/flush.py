@@ -20,7 +20,7 @@ ANS = {
     "put-requires": f"flush-open {INV}",
     "add-index": f"omega (arith, {{if1}} .left, {INV} .low)",
     "loop-less": "omega (arith, next-past ({args} .records .now) ({loop} .at) ({loop-test} .taken))",
-    "loop-again": f"λ l. flush-on ({{loop}} .inv l) ({{loop-test}} .taken) ({{if1}} .left) ({{put}} .ensures l)",
+    "loop-again": f"λ l. flush-on ({{loop}} .inv l) ({{loop-test}} .taken) ({{if1}} .left) ({{put}} .ensures l) ({{next-record}} .ensures)",
     "same-length-2": f"{INV} .puts .long",
     "returns-2": "λ l. flush-out ({loop} .inv l) ({loop-test} .left)",
 }

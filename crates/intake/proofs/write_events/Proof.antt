@@ -2,14 +2,15 @@
 use borrow.Author.Needs.{needs}
 use Prim.Native.Nat.{_≤_, _-_, _/_}
 use lib.ListN.{length}
+use Rattle.shapes.specs.Shapes.{EVENT}
 use Rattle.intake.proofs.write_events.Statement.{statement}
 use Rattle.intake.proofs.write_events.Tie as tie
 
 abbrev Inv-loop : tie.InvT-loop
-Inv-loop events errors i₀ i = i ≤ length events / 4
+Inv-loop events errors i₀ i = i ≤ length events / EVENT
 
 abbrev μ-loop : tie.MeasureT-loop
-μ-loop events errors i₀ i = length events / 4 - i
+μ-loop events errors i₀ i = length events / EVENT - i
 
 loop-holds : tie.Need-loop-holds Inv-loop μ-loop
 loop-holds c = search needs

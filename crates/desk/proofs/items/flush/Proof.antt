@@ -4,12 +4,14 @@ use mathlib.Core.List.{List, []}
 use native.Mathlib.Omega.{arith}
 use lib.ListN.{length}
 use Rattle.steps.specs.Steps.{whole}
+use Rattle.shapes.proofs.Laws.{next-past}
 use Rattle.desk.proofs.Writing.{Flushing, flushing, flush-open, flush-on, flush-out, flush-most}
 use borrow.Author.Needs.{needs}
 use Rattle.desk.proofs.items.flush.Statement.{statement}
 use Rattle.desk.proofs.items.flush.Tie as tie
 use Rattle.desk.proofs.items.flush.Reads as reads
 use Rattle.desk.proofs.items.flush.Lts as lts
+use Rattle.shapes.proofs.record.next_record.Reads as next-record-reads
 use Rattle.steps.proofs.state.State.put.Reads as put-reads
 
 abbrev Inv-loop : tie.InvT-loop
@@ -45,35 +47,20 @@ mul-end c = search needs
 shared-slice-read-end : tie.Need-shared-slice-read-end Inv-loop μ-loop
 shared-slice-read-end c = search needs
 
-add-names : tie.Need-add-names Inv-loop μ-loop
-add-names c = search needs
-
-mul-names : tie.Need-mul-names Inv-loop μ-loop
-mul-names c = search needs
-
-shared-slice-read-names : tie.Need-shared-slice-read-names Inv-loop μ-loop
-shared-slice-read-names c = search needs
-
-cast-names : tie.Need-cast-names Inv-loop μ-loop
-cast-names c = omega (arith, c .shared-slice-known4 .given (c .before .before .before .before .before .loop .at + 3))
-
 put-requires : tie.Need-put-requires Inv-loop μ-loop
-put-requires c κs = flush-open (c .before .before .before .before .before .before .loop .inv [])
+put-requires c κs = flush-open (c .before .before .before .before .before .loop .inv [])
 
 add-index : tie.Need-add-index Inv-loop μ-loop
-add-index c = omega (arith, c .before .before .before .before .before .before .before .if1 .left, (c .before .before .before .before .before .before .before .before .before .loop .inv []) .low)
+add-index c = omega (arith, c .before .before .before .before .before .before .if1 .left, (c .before .before .before .before .before .before .before .before .loop .inv []) .low)
 
-add-at : tie.Need-add-at Inv-loop μ-loop
-add-at c = omega (arith, c .before .before .before .before .shared-slice-known4 .given (c .before .before .before .before .before .before .before .before .before .loop .at + 3), c .before .before .before .before .before .before .before .before .before .before .before .before .good)
-
-add-at-2 : tie.Need-add-at-2 Inv-loop μ-loop
-add-at-2 c = omega (arith, c .before .before .before .before .shared-slice-known4 .given (c .before .before .before .before .before .before .before .before .before .loop .at + 3), c .before .before .before .before .before .before .before .before .before .before .before .before .good)
+next-record-requires : tie.Need-next-record-requires Inv-loop μ-loop
+next-record-requires c κs = search needs
 
 loop-less : tie.Need-loop-less Inv-loop μ-loop
-loop-less c = omega arith
+loop-less c = omega (arith, next-past (c .before .before .before .before .before .before .before .before .before .before .before .before .args .records .now) (c .before .before .before .before .before .before .before .before .before .loop .at) (c .before .before .before .before .before .before .before .before .loop-test .taken))
 
 loop-again : tie.Need-loop-again Inv-loop μ-loop
-loop-again c = λ l. flush-on (c .before .before .before .before .before .before .before .before .before .loop .inv l) (c .before .before .before .before .before .before .before .before .loop-test .taken) (c .before .before .before .before .before .before .before .if1 .left) (omega (arith, c .before .before .before .before .shared-slice-known4 .given (c .before .before .before .before .before .before .before .before .before .loop .at + 3))) (c .before .before .put .ensures l)
+loop-again c = λ l. flush-on (c .before .before .before .before .before .before .before .before .before .loop .inv l) (c .before .before .before .before .before .before .before .before .loop-test .taken) (c .before .before .before .before .before .before .before .if1 .left) (c .before .before .before .put .ensures l) (c .next-record .ensures)
 
 same-length-2 : tie.Need-same-length-2 Inv-loop μ-loop
 same-length-2 c = (c .before .loop .inv []) .puts .long
@@ -96,14 +83,9 @@ flush-spec =
     add-end
     mul-end
     shared-slice-read-end
-    add-names
-    mul-names
-    shared-slice-read-names
-    cast-names
     put-requires
     add-index
-    add-at
-    add-at-2
+    next-record-requires
     loop-less
     loop-again
     same-length-2

@@ -1,5 +1,6 @@
 -- The finished lists, with zeros behind them.
 use Prim.Native.Nat.{_+_, _/_}
+use Rattle.shapes.specs.Shapes.{EVENT}
 use Rattle.cells.proofs.Zeros.{cleared}
 use borrow.Author.Needs.{needs}
 use Rattle.desk.proofs.read.answered.Statement.{statement}
@@ -59,7 +60,7 @@ same-length-3 : tie.Need-same-length-3
 same-length-3 c = search needs
 
 returns : tie.Need-returns
-returns c = λ i. record { number = 0; outcome = c .outcome .ensures i; covered = (c .before .before .before .before .before .before .before .before .before .before .before .before .before .before .before .before .before .before .args .d .state) .pos; event-count = ((c .before .before .before .before .before .before .before .before .before .before .before .before .before .before .before .before .before .before .args .d .state) .ev + 4) / 4; error-count = c .before .before .before .before .before .before .before .before .before .before .before .before .before .before .before .before .before .before .args .d .before; left = (c .before .before .before .before .before .before .before .before .before .before .before .before .before .before .before .before .before .before .args .d .state) .fuel; events = cleared (c .before .before .before .before .before .before .before .before .before .before .before .before .before .before .before .before .before .before .args .events .now) _ ((c .before .before .before .before .before .before .before .before .before .before .before .before .before .before .before .before .before .before .args .d .state) .ev + 4) (c .before .before .before .before .before .before .before .before .before .before .before .before .before .before .before .before .before .before .pre .0) (c .before .before .before .before .before .before .before .clear .ensures) i; errors = cleared (c .before .before .before .before .before .before .before .before .before .before .before .before .before .before .before .before .before .before .args .errors .now) _ (c .before .before .before .before .before .before .before .before .before .before .before .before .before .before .before .before .before .before .args .er) (c .before .before .before .before .before .before .before .before .before .before .before .before .before .before .before .before .before .before .pre .1) (c .before .before .before .clear2 .ensures) i; scratch = c .before .before .before .before .before .before .before .before .before .before .before .before .wipe .ensures i }
+returns c = λ i. record { number = 0; outcome = c .outcome .ensures i; covered = (c .before .before .before .before .before .before .before .before .before .before .before .before .before .before .before .before .before .before .args .d .state) .pos; event-count = ((c .before .before .before .before .before .before .before .before .before .before .before .before .before .before .before .before .before .before .args .d .state) .ev + EVENT) / EVENT; error-count = c .before .before .before .before .before .before .before .before .before .before .before .before .before .before .before .before .before .before .args .d .before; left = (c .before .before .before .before .before .before .before .before .before .before .before .before .before .before .before .before .before .before .args .d .state) .fuel; events = cleared (c .before .before .before .before .before .before .before .before .before .before .before .before .before .before .before .before .before .before .args .events .now) _ ((c .before .before .before .before .before .before .before .before .before .before .before .before .before .before .before .before .before .before .args .d .state) .ev + EVENT) (c .before .before .before .before .before .before .before .before .before .before .before .before .before .before .before .before .before .before .pre .0) (c .before .before .before .before .before .before .before .clear .ensures) i; errors = cleared (c .before .before .before .before .before .before .before .before .before .before .before .before .before .before .before .before .before .before .args .errors .now) _ (c .before .before .before .before .before .before .before .before .before .before .before .before .before .before .before .before .before .before .args .er) (c .before .before .before .before .before .before .before .before .before .before .before .before .before .before .before .before .before .before .pre .1) (c .before .before .before .clear2 .ensures) i; scratch = c .before .before .before .before .before .before .before .before .before .before .before .before .wipe .ensures i }
 
 pub answered-spec : {M : Type 1} → statement M
 answered-spec =
