@@ -4,7 +4,6 @@ use mathlib.Core.List.{List, [], _∷_, _++_}
 use mathlib.Core.Bool.{Bool, true, false, _&&_, _||_, not}
 use lib.Dec.{eqb, ltb}
 use lib.ListN.{length, replicate}
-use Rattle.kinds.specs.Kinds as k
 use Rattle.kinds.specs.Sets.{isId}
 pub use Rattle.definition.specs.Run.{any}
 use Rattle.definition.specs.Run.{Limits, State, read}
@@ -26,10 +25,6 @@ pub record Desk : Type 0 where
 abbrev pub no-id : ℕ → Bool
 no-id i = not (isId i)
 
--- 5: "an import or include row"
-abbrev pub elsewhere : ℕ → Bool
-elsewhere i = eqb i k.IMPORT-KW || eqb i k.INCLUDE-KW
-
 -- 4: "rows do not tile: first start not 0, an end not past its start, a start not the previous end, last end not the source length; or no rows
 -- and a source not empty". The rows tile the source from a on, z its length.
 abbrev pub tile : ℕ → ℕ → List ℕ → List ℕ → Bool
@@ -42,7 +37,7 @@ tile a z (s ∷ ss) (e ∷ es) = eqb s a && ltb s e && tile e z ss es
 abbrev pub words : ℕ → ℕ
 words rows = (2 * (rows + 1) + 63) / 64
 
--- the list's rows 1 to 6: whether it applies, and its number
+-- the list's rows 1 to 6: whether it applies, and its number; "5 is no longer given; its number is not used again"
 abbrev pub grounds : Desk → List (Bool × ℕ)
 grounds d =
     let n = length (d .ids) in
@@ -51,7 +46,6 @@ grounds d =
     ∷ (not (eqb n (length (d .starts)) && eqb n (length (d .ends))), 2)
     ∷ (any no-id (d .ids), 3)
     ∷ (not (tile 0 z (d .starts) (d .ends)), 4)
-    ∷ (any elsewhere (d .ids), 5)
     ∷ (ltb (length (d .scratch)) (words n), 6)
     ∷ []
 
