@@ -128,8 +128,13 @@ LINES = [
      seq(opt(node("RULE_MODS")), eat("RULE_KW"), eat("IDENT"), when("COLON", seq(node("RULE_TAGS"), recover("L_BRACE"))), eat("L_BRACE"),
          when("META_KW", seq(node("META_BLK"), recover("STRINGS_OR_CONDITION"))), when("STRINGS_KW", seq(node("PATTERNS_BLK"), recover("CONDITION_KW"))),
          then(seq(node("CONDITION_BLK"), recover("R_BRACE"))), eat("R_BRACE"))),
-    ("an item that begins with a rule keyword", seq(node("RULE_DECL"), recover("RULE_OR_IMPORT"))),
+    ("IMPORT_STMT := `import` STRING_LIT", seq(eat("IMPORT_KW"), eat("STRING_LIT"))),
+    ("INCLUDE_STMT := `include` STRING_LIT", seq(eat("INCLUDE_KW"), eat("STRING_LIT"))),
+    ("RULE_ITEM: an item that begins with a rule keyword", seq(node("RULE_DECL"), recover("RULE_OR_IMPORT"))),
+    ("IMPORT_ITEM: an item that begins with `import`", node("IMPORT_STMT")),
+    ("INCLUDE_ITEM: an item that begins with `include`", node("INCLUDE_STMT")),
 ]
+ITEMS = ["RULE_ITEM", "IMPORT_ITEM", "INCLUDE_ITEM"]
 
 END = ("Eat", 0, 0, 0)
 rows, known, sections, lines = [END], {}, [], {}
@@ -180,8 +185,7 @@ def numbered():
     for comment, part in LINES:
         begin = len(rows)
         root = row(part)
-        name = comment.split(" :=")[0] if ":=" in comment else "ITEM"
-        lines[name] = root
+        lines[re.match(r"\w+", comment).group()] = root
         sections.append((comment, begin, len(rows)))
     out = []
     for op, a, b, then in rows:
@@ -197,7 +201,8 @@ def octal(row):
 
 def source(table):
     out = ["// The grammar's lines as rows, in octal: the combinator's number, then three digits for each of its operands. Row 0 is never read: as an operand it says\n// that nothing follows. Written by tools/table.py.\n"]
-    out.append(f"// The row of an item that begins with a rule keyword.\npub const ITEM: usize = {lines['ITEM']};\n")
+    out.append("// The rows of items, by their first row.")
+    out.extend(f"pub const {name}: usize = {lines[name]};\n" for name in ITEMS)
     out.append(f"pub const ROWS: [u32; {len(table)}] = [\n    {octal(table[0])},")
     for comment, begin, end in sections:
         out.append(f"    // {comment}")
@@ -209,7 +214,10 @@ def source(table):
 def spec(table):
     head = "-- The rows of the grammar's table, as the code has them. Written by tools/table.py.\n"
     head += "use Prim.Native.Nat.{ℕ}\nuse mathlib.Core.List.{List, [], _∷_}\n\n"
-    head += f"-- how many there are, and the row of an item that begins with a rule keyword\nabbrev pub size : ℕ\nsize = {len(table)}\n\nabbrev pub item : ℕ\nitem = {lines['ITEM']}\n\n"
+    head += f"-- how many there are, and the rows of items, by their first row\nabbrev pub size : ℕ\nsize = {len(table)}\n\n"
+    for name in ITEMS:
+        known = name.lower().replace("_", "-")
+        head += f"abbrev pub {known} : ℕ\n{known} = {lines[name]}\n\n"
     head += "abbrev pub rows : List ℕ\nrows =\n"
     return head + "\n".join(f"    {'' if i == 0 else '∷ '}{octal(row)}" for i, row in enumerate(table)) + "\n    ∷ []\n"
 
@@ -225,7 +233,7 @@ def main():
             (ROOT / path).write_text(text)
     if wrong:
         raise SystemExit("not as tools/table.py writes them: " + ", ".join(wrong))
-    print(f"table: {len(table)} rows, {len(LINES) - 1} productions")
+    print(f"table: {len(table)} rows, {len(LINES) - len(ITEMS)} productions")
 
 
 main()

@@ -2,12 +2,18 @@
 use Prim.Native.Nat.{ℕ}
 use mathlib.Core.List.{List, [], _∷_}
 
--- how many there are, and the row of an item that begins with a rule keyword
+-- how many there are, and the rows of items, by their first row
 abbrev pub size : ℕ
-size = 284
+size = 288
 
-abbrev pub item : ℕ
-item = 283
+abbrev pub rule-item : ℕ
+rule-item = 285
+
+abbrev pub import-item : ℕ
+import-item = 286
+
+abbrev pub include-item : ℕ
+include-item = 287
 
 abbrev pub rows : List ℕ
 rows =
@@ -293,6 +299,10 @@ rows =
     ∷ 0o0_004_004_426
     ∷ 0o0_003_003_427
     ∷ 0o5_406_430_000
+    ∷ 0o0_000_000_324
+    ∷ 0o0_002_002_324
     ∷ 0o2_012_000_000
-    ∷ 0o3_131_431_432
+    ∷ 0o3_131_431_434
+    ∷ 0o3_170_432_000
+    ∷ 0o3_171_433_000
     ∷ []

@@ -1,10 +1,14 @@
 // The grammar's lines as rows, in octal: the combinator's number, then three digits for each of its operands. Row 0 is never read: as an operand it says
 // that nothing follows. Written by tools/table.py.
 
-// The row of an item that begins with a rule keyword.
-pub const ITEM: usize = 283;
+// The rows of items, by their first row.
+pub const RULE_ITEM: usize = 285;
 
-pub const ROWS: [u32; 284] = [
+pub const IMPORT_ITEM: usize = 286;
+
+pub const INCLUDE_ITEM: usize = 287;
+
+pub const ROWS: [u32; 288] = [
     0o0_000_000_000,
     // PATTERN_IDENT_TUPLE := `(` PATTERN_IDENT `*`? ( `,` PATTERN_IDENT `*`? )* `)`
     0o0_065_065_000,
@@ -318,7 +322,15 @@ pub const ROWS: [u32; 284] = [
     0o0_004_004_426,
     0o0_003_003_427,
     0o5_406_430_000,
-    // an item that begins with a rule keyword
+    // IMPORT_STMT := `import` STRING_LIT
+    0o0_000_000_324,
+    // INCLUDE_STMT := `include` STRING_LIT
+    0o0_002_002_324,
+    // RULE_ITEM: an item that begins with a rule keyword
     0o2_012_000_000,
-    0o3_131_431_432,
+    0o3_131_431_434,
+    // IMPORT_ITEM: an item that begins with `import`
+    0o3_170_432_000,
+    // INCLUDE_ITEM: an item that begins with `include`
+    0o3_171_433_000,
 ];
