@@ -8,8 +8,7 @@ use native.Mathlib.Omega.{arith}
 use lib.Dec.{leb}
 use lib.ListN.{length, take, replicate, length-append}
 use Rattle.kinds.specs.Kinds as kinds
-use Rattle.definition.specs.Prog.{RULE-DECL}
-use Rattle.definition.specs.Ford.{Res, Ford, rules, star, nt, strip, Accepts}
+use Rattle.definition.specs.Ford.{Res, Ford, rules, star, strip, any-item, Accepts}
 use Rattle.definition.specs.Run as P
 use Rattle.definition.specs.Run.{Limits}
 use Rattle.definition.specs.Render.{Reading, inside, flat, flat-records}
@@ -128,7 +127,7 @@ module _ (d : Desk) {o c e k f : ℕ} {ev er sc : List ℕ} (p : Promised d (Ans
       ((λ h. i .0 (sym q ∙ h)), λ h. q ∙ i .1 h)
 
   -- and as one parsing expression of Ford's
-  pub read-accepts-ford : o ≡ 0 → (k ≡ 0) ↔ ((n : ℕ) × Ford rules (star (nt RULE-DECL)) (strip (d .ids)) n (Res.yes []))
+  pub read-accepts-ford : o ≡ 0 → (k ≡ 0) ↔ ((n : ℕ) × Ford rules (star any-item) (strip (d .ids)) n (Res.yes []))
   read-accepts-ford z =
       let i = theorems.demand-2-ford limits d zero-number (sym (ap (λ (a : After). a .outcome) p) ∙ z) in
       let q : k ≡ (after limits d) .error-count = ap (λ (a : After). a .error-count) p in

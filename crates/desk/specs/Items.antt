@@ -99,7 +99,7 @@ blamed p x a = since p (p .records ++ recorded x ((length (a .rest), P.stray) �
 abbrev pub Free : Past → Whole → ℕ → P.State → Type 0
 Free p s before a = s .full ≡ 0 → (a .chosen ≡ []) × (before ≡ length (p .records)) × (before < most)
 
--- a row that begins no rule was written as an error
+-- a row that begins no item was written as an error
 pub record Strays (x : Source) (s : Whole) (before : ℕ) (r : Tally) (b b′ : Bufs) : Type 0 where
   pub does : (p : Past) (a : P.State) → Stands p x s b a → Free p s before a → Stands (blamed p x a) x (r .state) b′ (P.stray-item a)
   pub count : (p : Past) (a : P.State) → Stands p x s b a → Free p s before a → r .state .full ≡ 0 → r .before ≡ length (blamed p x a .records)
@@ -110,7 +110,7 @@ pub record Strays (x : Source) (s : Whole) (before : ℕ) (r : Tally) (b b′ : 
 
 -- by the row at hand
 abbrev pub at-hand : P.Reader
-at-hand a = P.item-at limits (P.sought P.rule-keywords (a .rest)) a
+at-hand a = P.item-at limits (P.sought P.item-keywords (a .rest)) a
 
 -- the rooms, and the records of the errors that stand written
 abbrev pub pastOf : ℕ → ℕ → Source → P.State → Past

@@ -1,6 +1,6 @@
 // Items, one after another.
 use choice::record;
-use grammar::parts::rule_item;
+use grammar::parts::read_item;
 use kinds::kind;
 use kinds::set;
 use kinds::within;
@@ -97,7 +97,7 @@ pub fn junk(
     s.shut(kind::ERROR, from, at, ends, events)
 }
 
-// A row that begins no rule: error form 10 on it, its record before its event, and an ERROR node.
+// A row that begins no item: error form 10 on it, its record before its event, and an ERROR node.
 pub fn stray(
     mut s: State,
     before: u32,
@@ -123,7 +123,7 @@ pub fn stray(
     }
 }
 
-// By the row at hand: a rule, or a row that begins none; or nothing is left.
+// By the row at hand: an item, or a row that begins none; or nothing is left.
 pub fn at_hand(
     s: State,
     before: u32,
@@ -134,7 +134,7 @@ pub fn at_hand(
     errors: &mut [u32],
     scratch: &mut [u64],
     notes: &mut [usize; 67],
-    table: &[u32; 284],
+    table: &[u32; 288],
     sets: &[[u64; 2]; 55],
 ) -> Desk
     requires { ⌜ Rows (source (now src) (now ids) (now ends)) × Wf (source (now src) (now ids) (now ends)) (bufs (now events) (now errors) (now scratch)) (whole s (now notes)) × Lends (now table) (now sets) ⌝ }
@@ -154,8 +154,9 @@ pub fn at_hand(
         };
     }
     let id = ids[at];
-    if within(set::RULE_KEYWORDS, id, sets) {
-        let t = rule_item(
+    if within(set::RULE_OR_IMPORT, id, sets) {
+        let t = read_item(
+            id,
             s,
             src,
             ids,
@@ -225,7 +226,7 @@ pub fn item(
     errors: &mut [u32],
     scratch: &mut [u64],
     notes: &mut [usize; 67],
-    table: &[u32; 284],
+    table: &[u32; 288],
     sets: &[[u64; 2]; 55],
 ) -> Desk
     requires { ⌜ Rows (source (now src) (now ids) (now ends)) × Wf (source (now src) (now ids) (now ends)) (bufs (now events) (now errors) (now scratch)) (whole (d .state) (now notes)) × Settled (whole (d .state) (now notes)) × Lends (now table) (now sets) ⌝ }
@@ -263,7 +264,7 @@ pub fn items(
     errors: &mut [u32],
     scratch: &mut [u64],
     notes: &mut [usize; 67],
-    table: &[u32; 284],
+    table: &[u32; 288],
     sets: &[[u64; 2]; 55],
 ) -> Desk
     requires { ⌜ Rows (source (now src) (now ids) (now ends)) × Wf (source (now src) (now ids) (now ends)) (bufs (now events) (now errors) (now scratch)) (whole (d .state) (now notes)) × Settled (whole (d .state) (now notes)) × Lends (now table) (now sets) ⌝ }

@@ -15,7 +15,7 @@ use Rattle.definition.specs.Answer.{Desk, given, words, refusal, exceeded, answ
 use Rattle.definition.specs.Remaining.{Running, standing, rows-before, written, recorded, remaining, Continued, Keyless, Astray, Solid, Junk}
 use Rattle.definition.specs.Ford.{Res, Exp, Ford, nt, star, rules, ford, strip, any-statement, any-item, Accepts}
 use Rattle.definition.specs.Grammar.{grammar, kind}
-use Rattle.theorems.proofs.Answered.{reading, number-of, number-is, refused-lent, refused-blank, records-count, done, given-is, is-given, answered}
+use Rattle.theorems.proofs.Answered.{reading, number-of, number-is, five-not-given, refused-lent, refused-blank, records-count, done, given-is, is-given, answered}
 use Rattle.definition.proofs.File.{no-error-iff-accepted}
 use Rattle.definition.proofs.Peg.{Peg}
 use Rattle.definition.proofs.Published.{accepts-is-ford, peg-is-ford, det}
@@ -30,6 +30,10 @@ use Rattle.theorems.proofs.Bound.{Within, bound-never-ends, too-deep-id
 -- that applies, then 7 or 8 by the first moment that exceeds a room, else 0
 pub demand-1-number : (L : Limits) (d : Desk) → (after L d) .number ≡ number-of L d
 demand-1-number = number-is
+
+-- REQUEST (ii): "Refusals: 5 is no longer given; its number is not used again."
+pub never-five : (L : Limits) (d : Desk) → (after L d) .number ≡ 5 → ⊥
+never-five = five-not-given
 
 -- "with results and buffers as it says": "A refusal returns its number and zeros.", "The reader's 7 and 8 leave events, errors and scratch all zero;
 -- every other refusal leaves all as lent."
