@@ -17,6 +17,8 @@ OPS = ["Eat", "Unless", "Recover", "Node", "Memo", "Seq", "Then", "When", "Many"
 # A code is a set's number, for the set's ids, or 55 to 57 for the three descriptions, whose names are 82 to 84.
 FIRST_NAME = 27
 FOLLOWED = ("Eat", "Unless", "Recover", "Node", "Memo", "Many")
+# The items' rows by their names, and what `item-of` has for each.
+ITEMS = {"RULE_ITEM": "rule-decl", "IMPORT_ITEM": "node IMPORT-STMT", "INCLUDE_ITEM": "node INCLUDE-STMT"}
 
 
 def text_of(path):
@@ -64,7 +66,7 @@ def defined():
         name, *rest = head.split()
         if name == "grammar":
             lines[rest[0]] = term(words(body))
-        elif name != "kind":
+        elif name not in ("kind", "item-of"):
             short[name] = (rest, term(words(body)))
     return short, lines
 
@@ -182,7 +184,8 @@ class Table:
 
 def source(table):
     out = ["// The grammar's lines as rows, in octal: the combinator's number, then three digits for each of its operands. Row 0 is never read: as an operand it says\n// that nothing follows. Written by tools/table.py from crates/definition/specs/Grammar.antt, the comments too: the part behind `if` is read only\n// where such a row is next, `!` is a row that must not be there, and `recover` skips to such a row after a failure.\n"]
-    out.append(f"// The row of an item that begins with a rule keyword.\npub const ITEM: usize = {table.lines['rule-decl']};\n")
+    out.append("// The rows of items, by their first row.")
+    out.extend(f"pub const {name}: usize = {table.lines[name]};\n" for name in ITEMS)
     out.append(f"pub const ROWS: [u32; {len(table.rows)}] = [\n    {table.octal(table.rows[0])},")
     for comment, begin, end in table.sections:
         out.extend("    // " + line for line in textwrap.wrap(comment, 145, break_long_words=False, break_on_hyphens=False))
@@ -194,15 +197,19 @@ def source(table):
 def spec(table):
     head = "-- The rows of the grammar's table, as the code has them. Written by tools/table.py.\n"
     head += "use Prim.Native.Nat.{ℕ}\nuse mathlib.Core.List.{List, [], _∷_}\n\n"
-    head += f"-- how many there are, and the row of an item that begins with a rule keyword\nabbrev pub size : ℕ\nsize = {len(table.rows)}\n\nabbrev pub item : ℕ\nitem = {table.lines['rule-decl']}\n\n"
+    head += f"-- how many there are, and the rows of items, by their first row\nabbrev pub size : ℕ\nsize = {len(table.rows)}\n\n"
+    for name in ITEMS:
+        known = name.lower().replace("_", "-")
+        head += f"abbrev pub {known} : ℕ\n{known} = {table.lines[name]}\n\n"
     head += "abbrev pub rows : List ℕ\nrows =\n"
     return head + "\n".join(f"    {'' if i == 0 else '∷ '}{table.octal(row)}" for i, row in enumerate(table.rows)) + "\n    ∷ []\n"
 
 
 def main():
     short, productions = defined()
-    lines = [(name, opened(body, short)) for name, body in reversed(productions.items())] + [("rule-decl", opened(short["rule-decl"][1], short))]
-    table = Table([(name, f"{name.replace('-', '_') if name.isupper() else 'an item'} <- {said(part)}", part) for name, part in lines])
+    lines = [(name, body) for name, body in reversed(productions.items())] + [(name, term(words(text))) for name, text in ITEMS.items()]
+    parts = [(name, opened(body, short)) for name, body in lines]
+    table = Table([(name, f"{name.replace('-', '_')} <- {said(part)}", part) for name, part in parts])
     wrong = []
     for path, text in (("crates/grammar/src/table.rt", source(table)), ("crates/grammar/specs/Rows.antt", spec(table))):
         if "--check" in sys.argv:

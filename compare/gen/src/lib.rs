@@ -22,21 +22,23 @@ pub enum Sort {
     File,
     Edge,
     Noise,
+    Items,
     Nest,
     Room,
     Refusal,
 }
 
 /// The sorts, and how many cases of each there are in a round of 40.
-pub const SORTS: [(Sort, usize); 11] = [
+pub const SORTS: [(Sort, usize); 12] = [
     (Sort::Sentence, 4),
-    (Sort::Mutant, 10),
+    (Sort::Mutant, 9),
     (Sort::Short, 6),
     (Sort::Starved, 3),
-    (Sort::Again, 8),
+    (Sort::Again, 6),
     (Sort::File, 2),
     (Sort::Edge, 2),
     (Sort::Noise, 1),
+    (Sort::Items, 3),
     (Sort::Room, 2),
     (Sort::Refusal, 1),
     (Sort::Nest, 1),
@@ -69,6 +71,11 @@ pub fn case(sort: Sort, seed: u64, number: u64) -> Question {
             let ids: Vec<u32> = (0..rng.below(40)).map(|_| any_id(rng)).collect();
             finish(ids, 10, rng)
         }
+        Sort::Items => {
+            let faults = rng.pick(&[0, 0, 1, 2]);
+            let ids = spoil::mutate(sentence::items(rng), faults, rng);
+            finish(ids, 5, rng)
+        }
         Sort::Nest => {
             let ids = if rng.percent(90) { sentence::nest(rng) } else { sentence::hex_nest(rng) };
             let mut question = Question::new(&text::rows(&ids, 0, rng), 5 * PLENTY);
@@ -82,18 +89,12 @@ pub fn case(sort: Sort, seed: u64, number: u64) -> Question {
 
 /// A case of one of the sorts that tile and have room.
 fn plain(rng: &mut Rng) -> Question {
-    let (sort, _) = rng.pick(&SORTS[..8]);
+    let (sort, _) = rng.pick(&SORTS[..9]);
     case(sort, rng.number(), rng.number() >> 44)
 }
 
-/// Any id that the reader takes.
 pub fn any_id(rng: &mut Rng) -> u32 {
-    loop {
-        let id = rng.below(IDS.len()) as u32;
-        if !matches!(id, id::IMPORT_KW | id::INCLUDE_KW) {
-            return id;
-        }
-    }
+    rng.below(IDS.len()) as u32
 }
 
 fn finish(ids: Vec<u32>, odd_percent: usize, rng: &mut Rng) -> Question {
@@ -138,8 +139,10 @@ fn starve(question: &mut Question, rng: &mut Rng) {
 
 /// What stands before and after the enumerated rows, and the words that they run over. Words joined by `_`
 /// go together. The last ones read a `with` or a `for` several times.
-const CONTEXTS: [(&str, &str, &str); 10] = [
+const CONTEXTS: [(&str, &str, &str); 12] = [
     ("", "", "rule global private a { } : x"),
+    ("", "rule a { condition : true }", "import include \"s\" rule a @ { condition_:_true_}"),
+    ("rule a { condition : true }", "", "import include \"s\" global rule_a_{_condition_:_true_} } 1 condition"),
     ("rule a {", "}", "meta strings condition : a = 1 true $a \"s\" -"),
     ("rule a { strings :", "condition : true }", "$a = \"s\" /r/ { } h00 ( ) | [ ] - 1 xor base64 ascii"),
     ("rule a { condition :", "}", "a 1 ( ) [ ] . - % of any $a in at , true and"),

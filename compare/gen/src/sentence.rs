@@ -4,16 +4,57 @@ use crate::rng::Rng;
 use crate::spoil;
 use crate::text;
 use common::kinds::ID_OF_KIND;
-use model::grammar::{Part, BOOLEAN_EXPR, RULE_DECL};
+use model::grammar::{Part, BOOLEAN_EXPR, ITEM, RULE_DECL};
 
-/// One to three rules, as ids without trivia.
+/// One to three rules, and now and then imports and includes around them, as ids without trivia.
 pub fn rules(rng: &mut Rng) -> Vec<u32> {
     let mut ids = Vec::new();
     let depth = 1 + rng.below(9);
+    let others = rng.pick(&[0, 0, 20]);
     for _ in 0..1 + rng.below(3) {
+        while rng.percent(others) {
+            derive(&ITEM, depth, rng, &mut ids);
+        }
         derive(&RULE_DECL, depth, rng, &mut ids);
     }
     ids
+}
+
+/// Imports, includes and rules, whole and cut short, and rows that begin none of them.
+const ITEMS: [&str; 26] = [
+    "import \"pe\"",
+    "include \"other\"",
+    "import \"pe\" import \"elf\"",
+    "import",
+    "include",
+    "import import \"pe\"",
+    "include import",
+    "import pe",
+    "include 1 \"other\"",
+    "\"pe\"",
+    "@",
+    "@ import \"pe\"",
+    "} include \"other\"",
+    "rule a { condition : true }",
+    "private rule b { condition : any of them }",
+    "rule c { strings : $a = \"x\" condition : $a }",
+    "rule d { condition : import \"pe\" }",
+    "rule e { condition : true include \"other\" }",
+    "rule f { meta : include = \"x\" condition : true }",
+    "rule g { strings : $a = import \"pe\" condition : $a }",
+    "rule h { strings : import condition : true }",
+    "rule import { condition : true }",
+    "rule i { condition : true",
+    "rule j {",
+    "rule",
+    "global import",
+];
+
+/// Import and include rows everywhere: at item position, in front of and within rows that begin no item, inside
+/// rules and behind damaged ones.
+pub fn items(rng: &mut Rng) -> Vec<u32> {
+    let words: Vec<&str> = (0..1 + rng.below(6)).map(|_| rng.pick(&ITEMS)).collect();
+    words.iter().flat_map(|w| w.split(' ')).map(text::id_of).collect()
 }
 
 /// With no depth left only flat alternatives are taken; every cycle of the grammar has one on its way.
@@ -99,6 +140,9 @@ const CONDITIONS: [&str; 24] = [
 /// A file of plausible rules, most of them whole.
 pub fn file(rng: &mut Rng) -> Vec<u32> {
     let mut words = Vec::new();
+    while rng.percent(30) {
+        words.push(rng.pick(&["import \"pe\"", "include \"other\""]));
+    }
     for _ in 0..1 + rng.below(5) {
         words.push(rng.pick(&[
             "rule a",

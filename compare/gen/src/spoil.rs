@@ -77,7 +77,7 @@ pub fn refused(mut question: Question, rng: &mut Rng) -> Question {
 fn refuse(q: &mut Question, rng: &mut Rng) {
     let at = rng.below(q.ids.len() + 1);
     let long = rng.percent(2);
-    match rng.below(11) {
+    match rng.below(10) {
         0 if long => q.source.resize(rng.pick(&[1_048_576, 1_048_577]), b' '),
         1 if long => q.ids.resize(rng.pick(&[65_536, 65_537]), id::COMMA),
         2 => drop(q.ids.pop()),
@@ -87,7 +87,6 @@ fn refuse(q: &mut Question, rng: &mut Rng) {
         6 => q.starts.iter_mut().skip(at).take(1).for_each(|s| *s = s.wrapping_add(1)),
         7 => q.ends.iter_mut().skip(at).take(1).for_each(|e| *e = e.wrapping_sub(1)),
         8 => q.source.push(b' '),
-        9 => q.ids.iter_mut().skip(at).take(1).for_each(|i| *i = rng.pick(&[id::IMPORT_KW, id::INCLUDE_KW])),
         _ => q.scratch -= rng.below(q.scratch.min(2) + 1),
     }
 }

@@ -63,6 +63,13 @@ pub static RULE_DECL: Part = seq!(
     Recover(set!(GLOBAL_KW PRIVATE_KW RULE_KW IMPORT_KW INCLUDE_KW))
 );
 
+pub static IMPORT_STMT: Part = node!(IMPORT_STMT, expect!(IMPORT_KW), expect!(STRING_LIT));
+
+pub static INCLUDE_STMT: Part = node!(INCLUDE_STMT, expect!(INCLUDE_KW), expect!(STRING_LIT));
+
+/// An item of any sort, as acceptance has it.
+pub static ITEM: Part = alt!(Call(&RULE_DECL), Call(&IMPORT_STMT), Call(&INCLUDE_STMT));
+
 static RULE_MODS: Part = node!(RULE_MODS,
     alt!(
         seq!(expect!(PRIVATE_KW), opt!(GLOBAL_KW)),

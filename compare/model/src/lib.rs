@@ -10,7 +10,7 @@ pub mod program;
 mod reader;
 pub mod utf8;
 
-use common::kinds::{id, IDS};
+use common::kinds::IDS;
 use common::{scratch_words, Merged, Question, Reply, Side, LENT, LENT_WORD};
 
 pub struct Model;
@@ -57,7 +57,7 @@ fn numbers(record: &common::Record) -> Vec<u32> {
     [&head[..], &record.names].concat()
 }
 
-/// Refusals 1 to 6, in the desk's order; 7 and 8 are found by reading.
+/// Refusals 1 to 6, in the desk's order, 5 not among them since request (ii); 7 and 8 are found by reading.
 fn refusal(q: &Question) -> u32 {
     let lengths = [q.ids.len(), q.starts.len(), q.ends.len()];
     if q.source.len() > 1_048_576 || lengths.iter().any(|l| *l > 65_536) {
@@ -68,8 +68,6 @@ fn refusal(q: &Question) -> u32 {
         3
     } else if !tiles(q) {
         4
-    } else if q.ids.iter().any(|i| matches!(*i, id::IMPORT_KW | id::INCLUDE_KW)) {
-        5
     } else if q.scratch < scratch_words(q.ids.len()) {
         6
     } else {

@@ -1,16 +1,16 @@
 //! Acceptance: Ford's parsing expressions over the same productions, without events, errors or fuel.
 
-use crate::grammar::{Part, Set, RULE_DECL};
+use crate::grammar::{Part, Set, ITEM};
 use common::kinds::{is_trivia, ID_OF_KIND};
 use std::collections::HashMap;
 
-/// Whether the rows, trivia aside, are a run of none or more rules from first to last.
+/// Whether the rows, trivia aside, are a run of none or more items from first to last.
 pub fn accepts(ids: &[u32]) -> bool {
     let rows: Vec<u32> = ids.iter().copied().filter(|i| !is_trivia(*i)).collect();
     let mut peg = Peg { rows: &rows, known: HashMap::new() };
     let mut at = 0;
     while at < rows.len() {
-        match peg.run(&RULE_DECL, at) {
+        match peg.run(&ITEM, at) {
             Some(next) => at = next,
             None => return false,
         }

@@ -1,6 +1,6 @@
 //! How steps behave, by document 01. Rooms are only watched: they change nothing of a reading.
 
-use crate::grammar::{Part, Set, RULE_DECL};
+use crate::grammar::{Part, Set, IMPORT_STMT, INCLUDE_STMT, RULE_DECL};
 use crate::utf8;
 use common::kinds::{id, is_trivia, kind, ID_OF_KIND};
 use common::{Event, Question, Record, BEGIN, END, ERROR, TOKEN};
@@ -82,10 +82,12 @@ impl<'a> Reader<'a> {
 
     fn item(&mut self) {
         self.trivia();
-        if self.begins_rule(self.at) {
-            self.run(&RULE_DECL);
-        } else if self.at < self.question.ids.len() {
-            self.junk();
+        match self.question.ids.get(self.at) {
+            Some(&id::IMPORT_KW) => self.run(&IMPORT_STMT),
+            Some(&id::INCLUDE_KW) => self.run(&INCLUDE_STMT),
+            Some(_) if self.begins_rule(self.at) => self.run(&RULE_DECL),
+            Some(_) => self.junk(),
+            None => {}
         }
         self.expected.clear();
         self.unexpected.clear();

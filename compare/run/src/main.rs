@@ -21,7 +21,7 @@ use tally::{all_same_utf8, report, Tally};
 
 const USAGE: &str = "run cases FOLDER | run compare COUNT [SEED [SORT]] | run merge COUNT [SEED] | \
     run cut COUNT SEED [SORT] | run modes [COUNT SEED] | run differences | run show SORT SEED NUMBER | \
-    run vectors COUNT SEED [FOLDER]";
+    run vectors COUNT SEED [FOLDER | only SORT]";
 
 fn main() {
     // The Rust goes down one call per node.
@@ -52,9 +52,12 @@ fn work() -> Result<(), String> {
             print!("{}", minimise::show(&case(named(sort)?, number(seed)?, number(at)?)));
             Ok(())
         }
-        ["vectors", count, seed] => vectors::print(number(count)? as usize, number(seed)?, None),
+        ["vectors", count, seed] => vectors::print(number(count)? as usize, number(seed)?, None, None),
         ["vectors", count, seed, folder] => {
-            vectors::print(number(count)? as usize, number(seed)?, Some(Path::new(folder)))
+            vectors::print(number(count)? as usize, number(seed)?, Some(Path::new(folder)), None)
+        }
+        ["vectors", count, seed, "only", sort] => {
+            vectors::print(number(count)? as usize, number(seed)?, None, Some(named(sort)?))
         }
         _ => Err(USAGE.to_string()),
     }

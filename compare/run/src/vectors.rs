@@ -52,8 +52,8 @@ fn is_wanted(number: usize, count: usize, seen: &Seen, line: &str) -> bool {
 }
 
 /// Prints a vector for each stored case of a folder, if one is given, and then as many made from the seed as
-/// asked for, no two alike. What they are is told on the other stream.
-pub fn print(count: usize, seed: u64, folder: Option<&Path>) -> Result<(), String> {
+/// asked for, no two alike, of one sort if one is named. What they are is told on the other stream.
+pub fn print(count: usize, seed: u64, folder: Option<&Path>, only: Option<Sort>) -> Result<(), String> {
     if let Some(folder) = folder {
         print_stored(folder).map_err(|e| e.to_string())?;
     }
@@ -61,12 +61,13 @@ pub fn print(count: usize, seed: u64, folder: Option<&Path>) -> Result<(), Strin
     let mut made = vec![0; SORTS.len()];
     let mut distinct = HashSet::new();
     let file = round(|sort| sort == Sort::File)[0];
-    let others = round(|sort| !matches!(sort, Sort::File | Sort::Room | Sort::Refusal));
+    let is_other = |sort| !matches!(sort, Sort::File | Sort::Room | Sort::Refusal);
+    let others = round(|sort| only.map_or(is_other(sort), |s| s == sort));
     for other in others.into_iter().cycle() {
         if distinct.len() == count {
             break;
         }
-        let i = if is_file(distinct.len()) { file } else { other };
+        let i = if only.is_none() && is_file(distinct.len()) { file } else { other };
         for _ in 0..TRIES {
             let question = question(SORTS[i].0, seed, made[i], has_texts(distinct.len()));
             let seen = judge(&question, library())

@@ -10,8 +10,8 @@ use Rattle.kinds.specs.Sets.{kindOf, trivial}
 use Rattle.shapes.specs.Sort as Sort
 use Rattle.shapes.specs.Shapes.{EVENT, KIND, END, Entry, event, flat}
 use Rattle.definition.specs.Prog.{Prog, Production}
-use Rattle.definition.specs.Grammar.{rule-decl}
-use Rattle.definition.specs.Run.{State, Reader, Limits, Event, opened, leaf, closed, bad, Mode, ok, failed, stopped, next, past, trivia-out, trivia, seek-out, take, turn, charge, begin, finish, nodes, exec, run, read, Choice, stray, Next, end, other, hit, sought, seek, errors, rule-keywords, read-rule, stray-item, item-at, flush, again, item}
+use Rattle.definition.specs.Grammar.{item-of}
+use Rattle.definition.specs.Run.{State, Reader, Limits, Event, opened, leaf, closed, bad, Mode, ok, failed, stopped, next, past, trivia-out, trivia, seek-out, take, turn, charge, begin, finish, nodes, exec, run, read, Choice, stray, Next, end, other, hit, sought, seek, errors, rule-keywords, item-keywords, read-item, stray-item, item-at, flush, again, item}
 use Rattle.definition.specs.Render.{Source, starts-at, ends-at, span-end, bads, render, inside}
 use Rattle.definition.specs.Buffer.{patch, buffered, buffer}
 use Rattle.definition.specs.Open.{Nest, Adds, Open}
@@ -268,9 +268,9 @@ errors-added : (c : List (ℕ × Choice)) (o : List Event) → Adds o (errors c 
 errors-added [] o = none-added o
 errors-added (e ∷ c) o = adds-trans o (bad (e .0) (e .1) ∷ o) (errors c (bad (e .0) (e .1) ∷ o)) (record { new = bad (e .0) (e .1) ∷ []; joins = refl; nest = λ h. refl }) (errors-added c (bad (e .0) (e .1) ∷ o))
 
-rule-adds : (L : Limits) (s : State) → Adding s (read-rule L s)
-unfolding read-rule
-rule-adds L s = exec-adds (L .depth) rule-decl false s
+reads-adds : (L : Limits) (p : Prog) (s : State) → Adding s (read-item L p s)
+unfolding read-item
+reads-adds L p s = exec-adds (L .depth) p false s
 
 stray-adds : (s : State) → Adding s (stray-item s)
 stray-adds s =
@@ -288,11 +288,11 @@ flush-adds u = go (u .mode) u
 
 pub item-adds : (L : Limits) (s : State) → Adding s (item L s)
 item-adds L s =
-    let x : Next = sought rule-keywords ((trivia s) .rest) in
+    let x : Next = sought item-keywords ((trivia s) .rest) in
     let u : State = item-at L x (trivia s) in
     adds-trans (s .out) (u .out) ((item L s) .out) (adds-trans (s .out) ((trivia s) .out) (u .out) (gap-added (s .mode) (s .rest) (s .out)) (at x (trivia s))) (flush-adds u)
   where
     at : (x : Next) (t : State) → Adding t (item-at L x t)
     at end t = none-added (t .out)
     at other t = stray-adds t
-    at (hit a is) t = rule-adds L t
+    at (hit a is) t = reads-adds L (item-of a) t

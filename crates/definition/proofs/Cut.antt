@@ -8,7 +8,7 @@ use lib.ListN.{length, getD, take, drop, take-append-drop, length-take, length-d
 use native.Mathlib.Omega.{arith}
 use Rattle.definition.specs.Run.{State}
 use Rattle.definition.specs.Render.{Source}
-use Rattle.definition.specs.Answer.{Desk, tile, any, no-id, elsewhere, words, grounds, first-of, refusal, source-of}
+use Rattle.definition.specs.Answer.{Desk, tile, any, no-id, words, grounds, first-of, refusal, source-of}
 use Rattle.definition.specs.Remaining.{back-by, rows-before, place, remaining}
 use Rattle.definition.proofs.Every.{and-left, and-right, never}
 use Rattle.definition.proofs.Shown.{put-off, later, Before}
@@ -51,7 +51,6 @@ pub record Rows (d : Desk) : Type 0 where
   pub ends-level : length (d .ids) ≡ length (d .ends)
   pub ids-known : any no-id (d .ids) ≡ false
   pub tiled : T (tile 0 (length (d .bytes)) (d .starts) (d .ends))
-  pub rules-only : any elsewhere (d .ids) ≡ false
 
 -- none of the grounds applies
 abbrev Clear : List (Bool × ℕ) → Type 0
@@ -114,9 +113,8 @@ rows-of d e =
         ends-level = eqb→eq n (length (d .ends)) (and-right (eqb n (length (d .starts))) (eqb n (length (d .ends))) l);
         ids-known = k .1 .1 .0;
         tiled = not-false (tile 0 z (d .starts) (d .ends)) (k .1 .1 .1 .0);
-        rules-only = k .1 .1 .1 .1 .0;
       },
-      not-less (length (d .scratch)) (words n) (k .1 .1 .1 .1 .1 .0),
+      not-less (length (d .scratch)) (words n) (k .1 .1 .1 .1 .0),
     )
 
 pub no-refusal : (d : Desk) → Rows d → words (length (d .ids)) ≤ length (d .scratch) → refusal d ≡ 0
@@ -128,7 +126,7 @@ no-refusal d r w =
       none-of (ltb 1048576 z) (ltb 65536 m) (at-most 1048576 z (r .short .0)) (at-most 65536 m (omega (arith, r .short .1, r .starts-level, r .ends-level))),
       (
         false-not (eqb n (length (d .starts)) && eqb n (length (d .ends))) (level n (length (d .starts)) (length (d .ends)) (r .starts-level) (r .ends-level)),
-        (r .ids-known, (false-not (tile 0 z (d .starts) (d .ends)) (r .tiled), (r .rules-only, (at-most (length (d .scratch)) (words n) w, tt)))),
+        (r .ids-known, (false-not (tile 0 z (d .starts) (d .ends)) (r .tiled), (at-most (length (d .scratch)) (words n) w, tt))),
       ),
     )
   where
@@ -170,7 +168,7 @@ module _ (d : Desk) (s : State) (sc ev er : List ℕ) (r : Rows d) where
   pub rest-bytes : length (rest .bytes) ≡ length (d .bytes) - p
   rest-bytes = length-drop p (d .bytes)
 
-  -- THE THEOREM: the remaining rows tile the remaining bytes, and no refusal of 1 to 5 meets them
+  -- THE THEOREM: the remaining rows tile the remaining bytes, and no refusal of 1 to 4 meets them
   pub rest-rows : Rows rest
   rest-rows = record {
     short = (omega (arith, r .short .0, rest-bytes), omega (arith, r .short .1, length-drop n (d .ids)));
@@ -178,7 +176,6 @@ module _ (d : Desk) (s : State) (sc ev er : List ℕ) (r : Rows d) where
     ends-level = length-drop n (d .ids) ∙ ap (λ (i : ℕ). i - n) (r .ends-level) ∙ sym (length-map (drop n (d .ends)) (λ i. i - p) ∙ length-drop n (d .ends));
     ids-known = any-drop no-id n (d .ids) (r .ids-known);
     tiled = subst (λ (i : ℕ). T (tile 0 i (rest .starts) (rest .ends))) (sym rest-bytes) (cut-tiled .0);
-    rules-only = any-drop elsewhere n (d .ids) (r .rules-only);
   }
 
   abbrev pub front : List ℕ

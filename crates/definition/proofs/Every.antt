@@ -8,7 +8,7 @@ use lib.Dec.{T, eqb, eqb→eq}
 use lib.ListN.{getD}
 use native.Mathlib.Omega.{arith}
 use Rattle.kinds.specs.Kinds as kinds
-use Rattle.definition.specs.Prog.{Production, RULE-DECL, RULE-MODS, RULE-TAGS, META-BLK, META-DEF, PATTERNS-BLK, PATTERN-DEF, PATTERN-MODS, PATTERN-MOD, HEX-PATTERN, HEX-SUB-PATTERN, HEX-ALTERNATIVE, HEX-JUMP, CONDITION-BLK, BOOLEAN-EXPR, BOOLEAN-TERM, EXPR, FUNC-CALL, RANGE, TERM, PRIMARY-EXPR, FOR-EXPR, OF-EXPR, WITH-EXPR, WITH-DECLS, WITH-DECL, QUANTIFIER, ITERABLE, BOOLEAN-EXPR-TUPLE, EXPR-TUPLE, PATTERN-IDENT-TUPLE}
+use Rattle.definition.specs.Prog.{Production, RULE-DECL, RULE-MODS, RULE-TAGS, META-BLK, META-DEF, PATTERNS-BLK, PATTERN-DEF, PATTERN-MODS, PATTERN-MOD, HEX-PATTERN, HEX-SUB-PATTERN, HEX-ALTERNATIVE, HEX-JUMP, CONDITION-BLK, BOOLEAN-EXPR, BOOLEAN-TERM, EXPR, FUNC-CALL, RANGE, TERM, PRIMARY-EXPR, FOR-EXPR, OF-EXPR, WITH-EXPR, WITH-DECLS, WITH-DECL, QUANTIFIER, ITERABLE, BOOLEAN-EXPR-TUPLE, EXPR-TUPLE, PATTERN-IDENT-TUPLE, IMPORT-STMT, INCLUDE-STMT}
 use Rattle.definition.specs.Grammar.{kind}
 
 -- what cannot be: `never cc`, where two different constructors are said to be one
@@ -35,7 +35,8 @@ unfoldable pub productions : List Production
 productions =
     RULE-DECL ∷ RULE-MODS ∷ RULE-TAGS ∷ META-BLK ∷ META-DEF ∷ PATTERNS-BLK ∷ PATTERN-DEF ∷ PATTERN-MODS ∷ PATTERN-MOD ∷ HEX-PATTERN ∷ HEX-SUB-PATTERN
     ∷ HEX-ALTERNATIVE ∷ HEX-JUMP ∷ CONDITION-BLK ∷ BOOLEAN-EXPR ∷ BOOLEAN-TERM ∷ EXPR ∷ FUNC-CALL ∷ RANGE ∷ TERM ∷ PRIMARY-EXPR
-    ∷ FOR-EXPR ∷ OF-EXPR ∷ WITH-EXPR ∷ WITH-DECLS ∷ WITH-DECL ∷ QUANTIFIER ∷ ITERABLE ∷ BOOLEAN-EXPR-TUPLE ∷ EXPR-TUPLE ∷ PATTERN-IDENT-TUPLE ∷ []
+    ∷ FOR-EXPR ∷ OF-EXPR ∷ WITH-EXPR ∷ WITH-DECLS ∷ WITH-DECL ∷ QUANTIFIER ∷ ITERABLE ∷ BOOLEAN-EXPR-TUPLE ∷ EXPR-TUPLE ∷ PATTERN-IDENT-TUPLE
+    ∷ IMPORT-STMT ∷ INCLUDE-STMT ∷ []
 
 unkind : ℕ → Production
 unkind n = getD productions (n - kinds.RULE-DECL) RULE-DECL
@@ -73,6 +74,8 @@ unkind-kind ITERABLE = refl
 unkind-kind BOOLEAN-EXPR-TUPLE = refl
 unkind-kind EXPR-TUPLE = refl
 unkind-kind PATTERN-IDENT-TUPLE = refl
+unkind-kind IMPORT-STMT = refl
+unkind-kind INCLUDE-STMT = refl
 
 pub kind-inj : (a b : Production) → kind a ≡ kind b → a ≡ b
 kind-inj a b e = sym (unkind-kind a) ∙ ap unkind e ∙ unkind-kind b

@@ -1,29 +1,28 @@
--- A reading that did not stop has no error exactly where the rows, trivia aside, are none or more rules from first to last.
+-- A reading that did not stop has no error exactly where the rows, trivia aside, are none or more items from first to last.
 use Prim.Native.Nat.{ℕ, zero, suc, _+_, _≤_, _<_}
 use mathlib.Core.Path.{_≡_, refl, ap, sym, _∙_, subst}
 use mathlib.Core.Logic.{_↔_}
 use mathlib.Core.List.{List, [], _∷_}
 use mathlib.Core.Bool.{false}
 use mathlib.Core.Option.{Option, none, some}
-use lib.Dec.{T}
 use lib.ListN.{length}
 use native.Mathlib.Omega.{arith}
-use Rattle.kinds.specs.Sets.{idOf, pick}
-use Rattle.definition.specs.Prog.{RULE-DECL, node}
-use Rattle.definition.specs.Grammar.{grammar, rule-decl}
-use Rattle.definition.specs.Run.{State, Mode, ok, failed, stopped, Event, Choice, stray, Next, end, other, hit, sought, skip, trivia, turn, put, run, Limits, rule-keywords, read-rule, stray-item, item-at, errors, flush, again, item, items, start, read}
-use Rattle.definition.specs.Ford.{strip, Res, Rules, no-more, one-rule}
+use Rattle.kinds.specs.Sets.{pick}
+use Rattle.definition.specs.Prog.{Prog}
+use Rattle.definition.specs.Grammar.{item-of}
+use Rattle.definition.specs.Run.{State, Mode, ok, failed, stopped, Event, Choice, stray, Next, end, other, hit, sought, skip, trivia, turn, put, run, Limits, rule-keywords, item-keywords, read-item, stray-item, item-at, errors, flush, again, item, items, start, read}
+use Rattle.definition.specs.Ford.{strip, Res, Items, no-more, one-item}
 use Rattle.definition.proofs.Gap.{gap}
 use Rattle.definition.proofs.Peg.{Peg}
 use Rattle.definition.proofs.Every.{never}
 use Rattle.definition.proofs.Induct.{exec-kept, run-kept}
 use Rattle.definition.proofs.Order.{Running, ordered}
-use Rattle.definition.proofs.Grows.{bads, Unsaid, unsaid, gap-bads, seek-bads}
+use Rattle.definition.proofs.Grows.{bads, Unsaid, unsaid, gap-bads, seek-bads, sought-hit}
 use Rattle.definition.proofs.Shrink.{size, strip-gap, strip-head, not-failed, strip-le, size-nil}
 use Rattle.definition.proofs.Agree.{nil-cons}
 use Rattle.definition.proofs.Det.{det, yes-no}
-use Rattle.definition.proofs.First.{dies, dies-no}
-use Rattle.definition.proofs.Published.{to-ford, from-ford}
+use Rattle.definition.proofs.First.{dies-no}
+use Rattle.definition.proofs.Published.{an-item, item-dies, to-ford, from-ford}
 use Rattle.definition.proofs.Doom.{Off, off-miss, next-off}
 use Rattle.definition.proofs.Accept.{Fresh, accepted, unblamed}
 
@@ -62,9 +61,9 @@ no-chosen : (c : List (ℕ × Choice)) (o : List Event) → bads (errors c o) �
 no-chosen [] o e = refl
 no-chosen (x ∷ c) o e = absurd (omega (arith, errors-bads (x ∷ c) o))
 
-pub rule-unsaid : (L : Limits) → (s : State) → bads ((read-rule L s) .out) ≡ bads (s .out)
-unfolding read-rule
-rule-unsaid L s = exec-kept (ordered Unsaid unsaid) (L .depth) (run (L .depth)) (run-kept (ordered Unsaid unsaid) (L .depth)) rule-decl false s
+pub reads-unsaid : (L : Limits) (p : Prog) (s : State) → bads ((read-item L p s) .out) ≡ bads (s .out)
+unfolding read-item
+reads-unsaid L p s = exec-kept (ordered Unsaid unsaid) (L .depth) (run (L .depth)) (run-kept (ordered Unsaid unsaid) (L .depth)) p false s
 
 pub trivia-fresh : (s : State) → Fresh s → Fresh (trivia s)
 trivia-fresh s f = record { is-ok = f .is-ok; no-want = f .no-want; no-unwant = f .no-unwant; no-chosen = f .no-chosen; no-cache = f .no-cache }
@@ -86,14 +85,14 @@ again-running u = go (u .mode) u
     go failed u r = tt
     go (stopped w) u r = r
 
--- a stray item L says so
+-- a stray item says so
 stray-said : (s : State) → bads (s .out) < bads ((stray-item s) .out)
 stray-said s = omega (arith, seek-bads rule-keywords (s .rest) (Event.opened (length (s .rest)) ∷ Event.bad (length (s .rest)) stray ∷ s .out))
 
 item-grows : (L : Limits) → (x : Next) (s : State) → bads (s .out) ≤ bads ((item-at L x s) .out)
 item-grows L end s = omega arith
 item-grows L other s = omega (arith, stray-said s)
-item-grows L (hit a is) s = omega (arith, rule-unsaid L s)
+item-grows L (hit a is) s = omega (arith, reads-unsaid L (item-of a) s)
 
 -- one item: what it leaves, if nothing stopped
 flushed : (L : Limits) → (x : Next) (t : State) → Running ((again (flush (item-at L x t))) .mode) → bads (t .out) ≤ bads ((again (flush (item-at L x t))) .out)
@@ -113,8 +112,15 @@ items-grow L (suc n) s r = go (s .rest) (s .mode) s (items-grow L n) r
     go (j ∷ js) ok s H r =
         let t : State = turn ok (put (j ∷ js) (s .out) s) in
         let h = H (item L t) r in
-        let k = flushed L (sought rule-keywords ((trivia t) .rest)) (trivia t) (items-stopped L n (item L t) r) in
+        let k = flushed L (sought item-keywords ((trivia t) .rest)) (trivia t) (items-stopped L n (item L t) r) in
         omega (arith, gap-bads ok (j ∷ js) (s .out))
+
+pub pick-of : (S : List ℕ) (i a : ℕ) (is js : List ℕ) → sought S (i ∷ js) ≡ hit a is → pick S i ≡ some a
+pick-of S i a is js = go (pick S i)
+  where
+    go : (x : Option ℕ) → _≡_ {A = Next} (elim x [ none ↦ other | some b ↦ hit b js ]) (hit a is) → x ≡ some a
+    go none e = never cc
+    go (some b) e = cc
 
 pub sought-end : (S l : List ℕ) → sought S l ≡ end → l ≡ []
 sought-end S [] e = refl
@@ -124,16 +130,27 @@ sought-end S (i ∷ is) e = at (pick S i) e
     at none e = never cc
     at (some b) e = never cc
 
--- no error: rules from here to the last row
-sound-items : (L : Limits) → (n : ℕ) (s : State) → Fresh s → size s ≤ n → Running ((items L n s) .mode) → bads ((items L n s) .out) ≡ bads (s .out) → Rules (strip (s .rest))
-sound-items L zero s f l r e = subst Rules (sym (size-nil (strip (s .rest)) l)) no-more
+-- the row at hand begins an item
+pub here : (s : State) → Fresh s → (a : ℕ) (is : List ℕ) → sought item-keywords ((trivia s) .rest) ≡ hit a is → (i : ℕ) × (pick item-keywords i ≡ some a) × (strip ((trivia s) .rest) ≡ i ∷ strip is)
+here s f a is h =
+    let p = sought-hit item-keywords ((trivia s) .rest) a is h in
+    (p .0, pick-of item-keywords (p .0) a is is (ap (sought item-keywords) (sym (p .1)) ∙ h), strip-gap (s .mode) (s .rest) ∙ strip-head (s .rest) (p .0) is (sym (gap-ok (s .mode) (f .is-ok)) ∙ p .1))
+  where
+    gap-ok : (m : Mode) → m ≡ ok → gap m (s .rest) ≡ skip (s .rest)
+    gap-ok ok e = refl
+    gap-ok failed e = not-failed e
+    gap-ok (stopped v) e = Rattle.definition.proofs.Shrink.not-stopped v e
+
+-- no error: items from here to the last row
+sound-items : (L : Limits) → (n : ℕ) (s : State) → Fresh s → size s ≤ n → Running ((items L n s) .mode) → bads ((items L n s) .out) ≡ bads (s .out) → Items (strip (s .rest))
+sound-items L zero s f l r e = subst Items (sym (size-nil (strip (s .rest)) l)) no-more
 sound-items L (suc n) s f l r e = by-rest (s .rest) refl (sound-items L n)
   where
     t : State
     t = trivia s
 
-    by-next : (x : Next) → sought rule-keywords ((trivia s) .rest) ≡ x → let v : State = again (flush (item-at L x (trivia s))) in ((u : State) → Fresh u → size u ≤ n → Running ((items L n u) .mode) → bads ((items L n u) .out) ≡ bads (u .out) → Rules (strip (u .rest))) → Running ((items L n v) .mode) → bads ((items L n v) .out) ≡ bads (s .out) → Rules (strip (s .rest))
-    by-next end h H r e = subst Rules (ap strip (sym (sought-end rule-keywords ((trivia s) .rest) h)) ∙ strip-gap (s .mode) (s .rest)) no-more
+    by-next : (x : Next) → sought item-keywords ((trivia s) .rest) ≡ x → let v : State = again (flush (item-at L x (trivia s))) in ((u : State) → Fresh u → size u ≤ n → Running ((items L n u) .mode) → bads ((items L n u) .out) ≡ bads (u .out) → Items (strip (u .rest))) → Running ((items L n v) .mode) → bads ((items L n v) .out) ≡ bads (s .out) → Items (strip (s .rest))
+    by-next end h H r e = subst Items (ap strip (sym (sought-end item-keywords ((trivia s) .rest) h)) ∙ strip-gap (s .mode) (s .rest)) no-more
     by-next other h H r e =
         let u : State = stray-item (trivia s) in
         let v : State = again (flush u) in
@@ -141,88 +158,77 @@ sound-items L (suc n) s f l r e = by-rest (s .rest) refl (sound-items L n)
         let z = after-item u (again-running u rv) in
         absurd (omega (arith, items-grow L n v r, stray-said (trivia s), errors-bads (u .chosen) (u .out), ap bads (z .2), gap-bads (s .mode) (s .rest) (s .out)))
     by-next (hit a is) h H r e =
-        let u : State = read-rule L (trivia s) in
+        let u : State = read-item L (item-of a) (trivia s) in
         let v : State = again (flush u) in
         let rv = items-stopped L n v r in
         let z = after-item u (again-running u rv) in
         let g = items-grow L n v r in
-        let c : u .chosen ≡ [] = no-chosen (u .chosen) (u .out) (omega (arith, errors-bads (u .chosen) (u .out), ap bads (z .2), rule-unsaid L (trivia s), gap-bads (s .mode) (s .rest) (s .out))) in
-        let p = accepted L (trivia s) (trivia-fresh s f) (again-running u rv, c) in
-        let w : Rules (strip (v .rest)) = H v (z .0) (omega (arith, p .1, ap (λ (q : List ℕ). length (strip q)) (z .1), ap length (strip-gap (s .mode) (s .rest)))) r (omega (arith, errors-bads (u .chosen) (u .out), ap bads (z .2), rule-unsaid L (trivia s), gap-bads (s .mode) (s .rest) (s .out), ap length c)) in
-        one-rule (to-ford (subst (λ (q : List ℕ). Peg (node RULE-DECL) q (Res.yes (strip (u .rest)))) (strip-gap (s .mode) (s .rest)) (p .0)) .1) (subst (λ (q : List ℕ). Rules (strip q)) (z .1) w)
+        let c : u .chosen ≡ [] = no-chosen (u .chosen) (u .out) (omega (arith, errors-bads (u .chosen) (u .out), ap bads (z .2), reads-unsaid L (item-of a) (trivia s), gap-bads (s .mode) (s .rest) (s .out))) in
+        let b = here s f a is h in
+        let p = accepted L (trivia s) (b .0) a (strip is) (b .1) (b .2) (trivia-fresh s f) (again-running u rv, c) in
+        let w : Items (strip (v .rest)) = H v (z .0) (omega (arith, p .1, ap (λ (q : List ℕ). length (strip q)) (z .1), ap length (strip-gap (s .mode) (s .rest)))) r (omega (arith, errors-bads (u .chosen) (u .out), ap bads (z .2), reads-unsaid L (item-of a) (trivia s), gap-bads (s .mode) (s .rest) (s .out), ap length c)) in
+        one-item (to-ford (subst (λ (q : List ℕ). Peg an-item q (Res.yes (strip (u .rest)))) (strip-gap (s .mode) (s .rest)) (p .0)) .1) (subst (λ (q : List ℕ). Items (strip q)) (z .1) w)
 
-    by-rest : (q : List ℕ) → s .rest ≡ q → ((u : State) → Fresh u → size u ≤ n → Running ((items L n u) .mode) → bads ((items L n u) .out) ≡ bads (u .out) → Rules (strip (u .rest))) → Rules (strip (s .rest))
-    by-rest [] h H = subst (λ (q : List ℕ). Rules (strip q)) (sym h) no-more
+    by-rest : (q : List ℕ) → s .rest ≡ q → ((u : State) → Fresh u → size u ≤ n → Running ((items L n u) .mode) → bads ((items L n u) .out) ≡ bads (u .out) → Items (strip (u .rest))) → Items (strip (s .rest))
+    by-rest [] h H = subst (λ (q : List ℕ). Items (strip q)) (sym h) no-more
     by-rest (i ∷ is) h H =
         let k = items-step L n s i is h (f .is-ok) in
-        by-next (sought rule-keywords ((trivia s) .rest)) refl H (subst (λ (u : State). Running (u .mode)) k r) (ap (λ (u : State). bads (u .out)) (sym k) ∙ e)
+        by-next (sought item-keywords ((trivia s) .rest)) refl H (subst (λ (u : State). Running (u .mode)) k r) (ap (λ (u : State). bads (u .out)) (sym k) ∙ e)
 
-rule-dies : T (dies rule-keywords (node RULE-DECL))
-unfolding grammar idOf
-rule-dies = tt
-
--- rules from here to the last row: no error
-full-items : (L : Limits) → (n : ℕ) (s : State) → Fresh s → Running ((items L n s) .mode) → Rules (strip (s .rest)) → bads ((items L n s) .out) ≡ bads (s .out)
+-- items from here to the last row: no error
+full-items : (L : Limits) → (n : ℕ) (s : State) → Fresh s → Running ((items L n s) .mode) → Items (strip (s .rest)) → bads ((items L n s) .out) ≡ bads (s .out)
 full-items L zero s f r w = refl
 full-items L (suc n) s f r w = by-rest (s .rest) refl (full-items L n)
   where
-    off : (q : List ℕ) → Rules (strip q) → Off (sought rule-keywords (strip q)) → ⊥
+    off : (q : List ℕ) → Items (strip q) → Off (sought item-keywords (strip q)) → ⊥
     off q w o = go (strip q) w o
       where
-        go : (l : List ℕ) → Rules l → Off (sought rule-keywords l) → ⊥
+        go : (l : List ℕ) → Items l → Off (sought item-keywords l) → ⊥
         go l no-more o = o
-        go l (one-rule {r′ = r′} g rs) o = yes-no r′ (det (from-ford (node RULE-DECL) g) Res.no (dies-no rule-keywords l (node RULE-DECL) rule-dies (off-miss (sought rule-keywords l) o)))
+        go l (one-item {r′ = r′} g rs) o = yes-no r′ (det (from-ford an-item g) Res.no (dies-no item-keywords l an-item item-dies (off-miss (sought item-keywords l) o)))
 
-    behind : (l r′ : List ℕ) → Rules l → Peg (node RULE-DECL) l (Res.yes r′) → Rules r′
-    behind l r′ no-more d = absurd (yes-no r′ (det d Res.no (dies-no rule-keywords [] (node RULE-DECL) rule-dies tt)))
-    behind l r′ (one-rule {r′ = r₁} g rs) d = let e = det (from-ford (node RULE-DECL) g) (Res.yes r′) d in let y : r₁ ≡ r′ = cc in subst Rules y rs
+    behind : (l r′ : List ℕ) → Items l → Peg an-item l (Res.yes r′) → Items r′
+    behind l r′ no-more d = absurd (yes-no r′ (det d Res.no (dies-no item-keywords [] an-item item-dies tt)))
+    behind l r′ (one-item {r′ = r₁} g rs) d = let e = det (from-ford an-item g) (Res.yes r′) d in let y : r₁ ≡ r′ = cc in subst Items y rs
 
-    skip-skip : (m : Mode) → m ≡ ok → sought rule-keywords (gap m (s .rest)) ≡ Rattle.definition.specs.Run.next rule-keywords (s .rest)
+    skip-skip : (m : Mode) → m ≡ ok → sought item-keywords (gap m (s .rest)) ≡ Rattle.definition.specs.Run.next item-keywords (s .rest)
     skip-skip ok e = refl
     skip-skip failed e = not-failed e
     skip-skip (stopped v) e = Rattle.definition.proofs.Shrink.not-stopped v e
 
-    rules-t : Rules (strip ((trivia s) .rest))
-    rules-t = subst Rules (sym (strip-gap (s .mode) (s .rest))) w
+    items-t : Items (strip ((trivia s) .rest))
+    items-t = subst Items (sym (strip-gap (s .mode) (s .rest))) w
 
-    by-next : (x : Next) → sought rule-keywords ((trivia s) .rest) ≡ x → let v : State = again (flush (item-at L x (trivia s))) in ((u : State) → Fresh u → Running ((items L n u) .mode) → Rules (strip (u .rest)) → bads ((items L n u) .out) ≡ bads (u .out)) → Running ((items L n v) .mode) → bads ((items L n v) .out) ≡ bads (s .out)
+    by-next : (x : Next) → sought item-keywords ((trivia s) .rest) ≡ x → let v : State = again (flush (item-at L x (trivia s))) in ((u : State) → Fresh u → Running ((items L n u) .mode) → Items (strip (u .rest)) → bads ((items L n u) .out) ≡ bads (u .out)) → Running ((items L n v) .mode) → bads ((items L n v) .out) ≡ bads (s .out)
     by-next end h H r =
         let u : State = trivia s in
         let v : State = again (flush u) in
         let rv = items-stopped L n v r in
         let z = after-item u (again-running u rv) in
-        let k = H v (z .0) r (subst (λ (q : List ℕ). Rules (strip q)) (sym (z .1)) rules-t) in
+        let k = H v (z .0) r (subst (λ (q : List ℕ). Items (strip q)) (sym (z .1)) items-t) in
         omega (arith, k, ap bads (z .2), errors-bads (u .chosen) (u .out), gap-bads (s .mode) (s .rest) (s .out), ap length (f .no-chosen))
-    by-next other h H r = absurd (off (s .rest) w (next-off rule-keywords (s .rest) (sym (skip-skip (s .mode) (f .is-ok)) ∙ h)))
+    by-next other h H r = absurd (off (s .rest) w (next-off item-keywords (s .rest) (sym (skip-skip (s .mode) (f .is-ok)) ∙ h)))
     by-next (hit a is) h H r =
-        let u : State = read-rule L (trivia s) in
+        let u : State = read-item L (item-of a) (trivia s) in
         let v : State = again (flush u) in
         let rv = items-stopped L n v r in
         let ru = again-running u rv in
         let z = after-item u ru in
-        let p = Rattle.definition.proofs.Grows.sought-hit rule-keywords ((trivia s) .rest) a is h in
-        let c : u .chosen ≡ [] = unblamed L (trivia s) (trivia-fresh s f) ru (p .0) (strip is) (head-strip (p .0) is (p .1)) rules-t in
-        let q = accepted L (trivia s) (trivia-fresh s f) (ru, c) in
-        let k = H v (z .0) r (subst (λ (q : List ℕ). Rules (strip q)) (sym (z .1)) (behind (strip ((trivia s) .rest)) (strip (u .rest)) rules-t (q .0))) in
-        omega (arith, k, ap bads (z .2), errors-bads (u .chosen) (u .out), rule-unsaid L (trivia s), gap-bads (s .mode) (s .rest) (s .out), ap length c)
-      where
-        head-strip : (i : ℕ) (is : List ℕ) → (trivia s) .rest ≡ i ∷ is → strip ((trivia s) .rest) ≡ i ∷ strip is
-        head-strip i is e = strip-gap (s .mode) (s .rest) ∙ strip-head (s .rest) i is (sym (gap-ok (s .mode) (f .is-ok)) ∙ e)
-          where
-            gap-ok : (m : Mode) → m ≡ ok → gap m (s .rest) ≡ skip (s .rest)
-            gap-ok ok e = refl
-            gap-ok failed e = not-failed e
-            gap-ok (stopped v) e = Rattle.definition.proofs.Shrink.not-stopped v e
+        let b = here s f a is h in
+        let c : u .chosen ≡ [] = unblamed L (trivia s) (b .0) a (strip is) (b .1) (b .2) (trivia-fresh s f) ru items-t in
+        let q = accepted L (trivia s) (b .0) a (strip is) (b .1) (b .2) (trivia-fresh s f) (ru, c) in
+        let k = H v (z .0) r (subst (λ (q : List ℕ). Items (strip q)) (sym (z .1)) (behind (strip ((trivia s) .rest)) (strip (u .rest)) items-t (q .0))) in
+        omega (arith, k, ap bads (z .2), errors-bads (u .chosen) (u .out), reads-unsaid L (item-of a) (trivia s), gap-bads (s .mode) (s .rest) (s .out), ap length c)
 
-    by-rest : (q : List ℕ) → s .rest ≡ q → ((u : State) → Fresh u → Running ((items L n u) .mode) → Rules (strip (u .rest)) → bads ((items L n u) .out) ≡ bads (u .out)) → bads ((items L (suc n) s) .out) ≡ bads (s .out)
+    by-rest : (q : List ℕ) → s .rest ≡ q → ((u : State) → Fresh u → Running ((items L n u) .mode) → Items (strip (u .rest)) → bads ((items L n u) .out) ≡ bads (u .out)) → bads ((items L (suc n) s) .out) ≡ bads (s .out)
     by-rest [] h H = ap (λ (u : State). bads (u .out)) (items-end L n s h)
     by-rest (i ∷ is) h H =
         let k = items-step L n s i is h (f .is-ok) in
-        ap (λ (u : State). bads (u .out)) k ∙ by-next (sought rule-keywords ((trivia s) .rest)) refl H (subst (λ (u : State). Running (u .mode)) k r)
+        ap (λ (u : State). bads (u .out)) k ∙ by-next (sought item-keywords ((trivia s) .rest)) refl H (subst (λ (u : State). Running (u .mode)) k r)
 
 pub start-fresh : (r : List ℕ) (f : ℕ) → Fresh (start r f)
 start-fresh r f = record { is-ok = refl; no-want = refl; no-unwant = refl; no-chosen = refl; no-cache = refl }
 
 -- THE THEOREM: a reading that did not stop has no error exactly where the PEG accepts every item.
-pub no-error-iff-accepted : (L : Limits) (r : List ℕ) (f : ℕ) → Running ((read L r f) .mode) → (bads ((read L r f) .out) ≡ 0) ↔ Rules (strip r)
+pub no-error-iff-accepted : (L : Limits) (r : List ℕ) (f : ℕ) → Running ((read L r f) .mode) → (bads ((read L r f) .out) ≡ 0) ↔ Items (strip r)
 no-error-iff-accepted L r f h = ((λ e. sound-items L (length r) (start r f) (start-fresh r f) (strip-le r) h e), λ w. full-items L (length r) (start r f) (start-fresh r f) h w)

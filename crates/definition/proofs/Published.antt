@@ -9,14 +9,14 @@ use lib.Dec.{eqb, eqb→eq, eqb-refl, T}
 use native.Mathlib.Nat.{le-refl}
 use native.Mathlib.Omega.{arith}
 use Rattle.kinds.specs.Sets.{idOf, pick}
-use Rattle.definition.specs.Prog.{Production, RULE-DECL, Prog, eat, unless, ifnext, opt, many, then, _⨟_, _/_, last, recover, node, memo}
+use Rattle.definition.specs.Prog.{Production, RULE-DECL, IMPORT-STMT, INCLUDE-STMT, Prog, eat, unless, ifnext, opt, many, then, _⨟_, _/_, last, recover, node, memo}
 use Rattle.definition.specs.Grammar.{grammar}
-use Rattle.definition.specs.Run.{Next, end, other, hit, sought, rule-keywords}
+use Rattle.definition.specs.Run.{Next, end, other, hit, sought, item-keywords}
 use Rattle.definition.proofs.Peg.{Miss, Peg, eat-yes, eat-no, unless-yes, unless-no, ifnext-hit, ifnext-miss, opt-yes, opt-no, many-yes, many-no, then-is, seq-yes, seq-no, alt-yes, alt-no, last-is, recover-is, node-is, memo-is}
 use Rattle.definition.specs.Ford as Fo
-use Rattle.definition.specs.Ford.{Exp, ε, tok, nt, _·_, _∣_, star, non, Ford, empty, term-yes, term-no, term-end, nonterm, seq-no₁, seq-no₂, choice₁, choice₂, repeat, rest, non-no, non-yes, one-of, ford, rules, Res, Rules, no-more, one-rule}
+use Rattle.definition.specs.Ford.{Exp, ε, tok, nt, _·_, _∣_, star, non, Ford, empty, term-yes, term-no, term-end, nonterm, seq-no₁, seq-no₂, choice₁, choice₂, repeat, rest, non-no, non-yes, one-of, ford, rules, Res, any-item, Items, no-more, one-item}
 use Rattle.definition.proofs.Det.{yes-no, yes-is}
-use Rattle.definition.proofs.First.{dies-no}
+use Rattle.definition.proofs.First.{dies, dies-no}
 
 abbrev pub Fd : Exp → List ℕ → ℕ → Res → Type 0
 Fd = Ford rules
@@ -263,18 +263,23 @@ from-ford p {r} {n} {x} d = backs n p r n x (le-refl n) d
 pub peg-is-ford : (p : Prog) (r : List ℕ) (x : Res) → Peg p r x ↔ ((n : ℕ) × Ford rules (ford p) r n x)
 peg-is-ford p r x = ((λ g. to-ford g), λ z. from-ford p (z .1))
 
--- "a run of none or more `rule_decl` from first to last", in Ford's words: rule_decl* takes all
-rule-fails : Peg (node RULE-DECL) [] Res.no
+-- an item, in the module's words
+abbrev pub an-item : Prog
+an-item = node RULE-DECL / node IMPORT-STMT / last (node INCLUDE-STMT)
+
+pub item-dies : T (dies item-keywords an-item)
 unfolding grammar idOf
-rule-fails = dies-no rule-keywords [] (node RULE-DECL) tt tt
+item-dies = tt
 
-rules-star : {r : List ℕ} → Rules r → Some (star (nt RULE-DECL)) r (Res.yes [])
-rules-star no-more = (_, rest (to-ford rule-fails .1))
-rules-star (one-rule g rs) = (_, repeat g (rules-star rs .1))
+-- "a run of none or more" items "from first to last", in Ford's words: (rule_decl / import_stmt / include_stmt)* takes all
 
-star-rules : {r : List ℕ} {n : ℕ} → Fd (star (nt RULE-DECL)) r n (Res.yes []) → Rules r
-star-rules (repeat d e) = one-rule d (star-rules e)
-star-rules (rest d) = no-more
+items-star : {r : List ℕ} → Items r → Some (star any-item) r (Res.yes [])
+items-star no-more = (_, rest (to-ford (dies-no item-keywords [] an-item item-dies tt) .1))
+items-star (one-item g is) = (_, repeat g (items-star is .1))
 
-pub accepts-is-ford : (r : List ℕ) → Rules r ↔ ((n : ℕ) × Ford rules (star (nt RULE-DECL)) r n (Res.yes []))
-accepts-is-ford r = ((λ a. rules-star a), λ z. star-rules (z .1))
+star-items : {r : List ℕ} {n : ℕ} → Fd (star any-item) r n (Res.yes []) → Items r
+star-items (repeat d e) = one-item d (star-items e)
+star-items (rest d) = no-more
+
+pub accepts-is-ford : (r : List ℕ) → Items r ↔ ((n : ℕ) × Ford rules (star any-item) r n (Res.yes []))
+accepts-is-ford r = ((λ a. items-star a), λ z. star-items (z .1))

@@ -1,4 +1,4 @@
--- An accepted rule is read without an error: the reader goes through the rule's parts as the PEG does, and within its condition no row
+-- An accepted item is read without an error: the reader goes through the rule's parts as the PEG does, and within its condition no row
 -- behind the rule's last brace is reached, since nothing there takes a brace.
 use Prim.Native.Nat.{ℕ, zero, suc, _<_}
 use mathlib.Core.Path.{_≡_, refl, ap, sym, _∙_, subst}
@@ -11,9 +11,9 @@ use lib.ListN.{length, length-append}
 use native.Mathlib.Omega.{arith}
 use Rattle.kinds.specs.Kinds as kinds
 use Rattle.kinds.specs.Sets.{idOf, pick}
-use Rattle.definition.specs.Prog.{Production, RULE-DECL, CONDITION-BLK, Prog, eat, then, _⨟_, recover, node}
-use Rattle.definition.specs.Grammar.{grammar, kind}
-use Rattle.definition.specs.Run.{State, Reader, Limits, Mode, ok, failed, stopped, Next, end, other, hit, next, sought, skip, trivia, turn, begin, finish, eat-row, recovered, recovery, exec, run, read-rule}
+use Rattle.definition.specs.Prog.{Production, RULE-DECL, CONDITION-BLK, IMPORT-STMT, INCLUDE-STMT, Prog, eat, then, _⨟_, recover, node}
+use Rattle.definition.specs.Grammar.{grammar, kind, one, rule-decl}
+use Rattle.definition.specs.Run.{State, Reader, Limits, Mode, ok, failed, stopped, Next, end, other, hit, next, sought, skip, trivia, turn, begin, finish, eat-row, recovered, recovery, exec, run, read-item}
 use Rattle.definition.specs.Ford.{strip, Res}
 use Rattle.definition.proofs.Peg.{Miss, Peg, eat-yes, eat-no, unless-yes, unless-no, ifnext-hit, ifnext-miss, opt-yes, opt-no, many-yes, many-no, then-is, seq-yes, seq-no, alt-yes, alt-no, last-is, recover-is, node-is, memo-is}
 use Rattle.definition.proofs.Order.{Running, finish-up, recovery-up}
@@ -152,6 +152,16 @@ then-inv (then-is d) = d
 recover-inv : {S r r′ : List ℕ} → Peg (recover S) r (Res.yes r′) → r ≡ r′
 recover-inv {r = r} {r′ = r′} d = let e = det recover-is (Res.yes r′) d in let y : r ≡ r′ = cc in y
 
+-- an import or an include, and its keyword
+pub data Statement : Production → ℕ → Type 0 where
+  import : Statement IMPORT-STMT kinds.IMPORT-KW
+  include : Statement INCLUDE-STMT kinds.INCLUDE-KW
+
+pub statement-is : (a : Production) (k : ℕ) → Statement a k → grammar a ≡ (one k ⨟ one kinds.STRING-LIT)
+unfolding grammar
+statement-is a k import = refl
+statement-is a k include = refl
+
 -- a rule's parts, one behind the other
 data Spine : Prog → Type 0 where
   part : {p q : Prog} → T (sound p) → T (fit false p) → T (low any heads p) → T (not (trailing q)) → T (not (trailing p) || (dies (trail p) q || echo (trail p) q)) → Spine q → Spine (p ⨟ q)
@@ -198,20 +208,19 @@ module _ (R : List ℕ) (d : ℕ) where
       by-mode failed e k = absurd (yes-no (seq-inv g .0) (det (seq-inv g .1) Res.no (exec-sim R d (run d) (grows d) cs ct (run-sim R d) p sp false s i (r, c) .bad m e)))
       by-mode (stopped w) e k = absurd k
 
-  -- the last brace
-  brace : (N : List ℕ) (u : State) (r′ : List ℕ) → At (eat (kinds.R-BRACE ∷ []) N) u r′ → let t : State = go-in (eat (kinds.R-BRACE ∷ []) N) u in (t .chosen ≡ []) × (t .mode ≡ ok) × End (kinds.R-BRACE ∷ t .rest) (u .rest)
-  unfolding idOf
-  brace N u r′ h = go (u .mode) u (h .0) (h .1 .clear) (h .2)
+  -- a row that is eaten
+  word : (w : ℕ) → idOf w ≡ w → (N : List ℕ) (u : State) (r′ : List ℕ) → At (eat (w ∷ []) N) u r′ → let t : State = go-in (eat (w ∷ []) N) u in (t .chosen ≡ []) × (t .mode ≡ ok) × End (w ∷ t .rest) (u .rest)
+  word w own N u r′ h = go (u .mode) u (h .0) (h .1 .clear) (h .2)
     where
-      at : (x : Next) (u : State) → next (kinds.R-BRACE ∷ []) (u .rest) ≡ x → u .mode ≡ ok → u .chosen ≡ [] → Peg (eat (kinds.R-BRACE ∷ []) N) (strip (u .rest)) (Res.yes r′) → let t : State = eat-row N x u in (t .chosen ≡ []) × (t .mode ≡ ok) × End (kinds.R-BRACE ∷ t .rest) (u .rest)
-      at end u e m c g = absurd (yes-no r′ (det g Res.no (eat-no (next-miss (kinds.R-BRACE ∷ []) (u .rest) (subst Miss (sym e) tt)))))
-      at other u e m c g = absurd (yes-no r′ (det g Res.no (eat-no (next-miss (kinds.R-BRACE ∷ []) (u .rest) (subst Miss (sym e) tt)))))
-      at (hit a is) u e m c g = (c, m, subst (λ (l : List ℕ). End l (u .rest)) (eat-word kinds.R-BRACE N (skip (u .rest)) is refl (eat-yes a e)) (skip-end (u .rest)))
+      at : (x : Next) (u : State) → next (w ∷ []) (u .rest) ≡ x → u .mode ≡ ok → u .chosen ≡ [] → Peg (eat (w ∷ []) N) (strip (u .rest)) (Res.yes r′) → let t : State = eat-row N x u in (t .chosen ≡ []) × (t .mode ≡ ok) × End (w ∷ t .rest) (u .rest)
+      at end u e m c g = absurd (yes-no r′ (det g Res.no (eat-no (next-miss (w ∷ []) (u .rest) (subst Miss (sym e) tt)))))
+      at other u e m c g = absurd (yes-no r′ (det g Res.no (eat-no (next-miss (w ∷ []) (u .rest) (subst Miss (sym e) tt)))))
+      at (hit a is) u e m c g = (c, m, subst (λ (l : List ℕ). End l (u .rest)) (eat-word w N (skip (u .rest)) is own (eat-yes a e)) (skip-end (u .rest)))
 
-      go : (n : Mode) (u : State) → n ≡ ok → u .chosen ≡ [] → Peg (eat (kinds.R-BRACE ∷ []) N) (strip (u .rest)) (Res.yes r′) → let t : State = go-in (eat (kinds.R-BRACE ∷ []) N) (turn n u) in (t .chosen ≡ []) × (t .mode ≡ ok) × End (kinds.R-BRACE ∷ t .rest) (u .rest)
-      go ok u m c g = at (next (kinds.R-BRACE ∷ []) (u .rest)) (turn ok u) refl refl c g
+      go : (n : Mode) (u : State) → n ≡ ok → u .chosen ≡ [] → Peg (eat (w ∷ []) N) (strip (u .rest)) (Res.yes r′) → let t : State = go-in (eat (w ∷ []) N) (turn n u) in (t .chosen ≡ []) × (t .mode ≡ ok) × End (w ∷ t .rest) (u .rest)
+      go ok u m c g = at (next (w ∷ []) (u .rest)) (turn ok u) refl refl c g
       go failed u m c g = not-failed m
-      go (stopped w) u m c g = not-stopped w m
+      go (stopped v) u m c g = not-stopped v m
 
   -- the condition
   condition : (s : State) (z : List ℕ) → Peg (node CONDITION-BLK) (strip (s .rest)) (Res.yes (kinds.R-BRACE ∷ z)) → s .mode ≡ ok → Inv R s → let p : Prog = then (node CONDITION-BLK ⨟ recover (kinds.R-BRACE ∷ [])) in Running ((go-in p s) .mode) → ((go-in p s) .chosen ≡ []) ⊎ Fault p (strip (s .rest))
@@ -232,7 +241,7 @@ module _ (R : List ℕ) (d : ℕ) where
       let w = seq-inv (then-inv (v .1)) in
       let c : Peg (node CONDITION-BLK) (strip (s .rest)) (Res.yes (kinds.R-BRACE ∷ r′)) = subst (λ (l : List ℕ). Peg (node CONDITION-BLK) (strip (s .rest)) (Res.yes l)) (recover-inv (w .2) ∙ eat-word kinds.R-BRACE N (v .0) r′ refl (v .2)) (w .1) in
       let a = along p q tt tt tt s r′ m i ru g (condition s r′ c m i ru) in
-      let b = brace N u r′ a in
+      let b = word kinds.R-BRACE refl N u r′ a in
       (b .0, b .1, end-trans (kinds.R-BRACE ∷ (go-in q u) .rest) (u .rest) (s .rest) (b .2) ((gr p s) .rows))
 
   walk : {q : Prog} → Spine q → (s : State) (r′ : List ℕ) → s .mode ≡ ok → Inv R s → Running ((go-in q s) .mode) → Peg q (strip (s .rest)) (Res.yes r′) → ((go-in q s) .chosen ≡ []) × ((go-in q s) .mode ≡ ok) × End (kinds.R-BRACE ∷ (go-in q s) .rest) (s .rest)
@@ -258,18 +267,42 @@ module _ (R : List ℕ) (d : ℕ) where
       go failed u e = not-failed e
       go (stopped w) u e = not-stopped w e
 
-  rule-run : (s : State) (r′ : List ℕ) → s .mode ≡ ok → Inv R s → let v : State = run (suc d) false RULE-DECL s in Running (v .mode) → Peg (node RULE-DECL) (strip (s .rest)) (Res.yes r′) → (v .chosen ≡ []) × (v .mode ≡ ok) × End (kinds.R-BRACE ∷ v .rest) (s .rest)
-  rule-run s r′ m i r g =
+  -- a production's rows from where it begins to its last row w, where the PEG takes them
+  abbrev Walks : Production → ℕ → Type 0
+  Walks a w = (t : State) (r′ : List ℕ) → t .mode ≡ ok → Inv R t → let u : State = go-in (grammar a) t in Running (u .mode) → Peg (grammar a) (strip (t .rest)) (Res.yes r′) → (u .chosen ≡ []) × (u .mode ≡ ok) × End (w ∷ u .rest) (t .rest)
+
+  node-run : (a : Production) (w : ℕ) → Walks a w → (s : State) (r′ : List ℕ) → s .mode ≡ ok → Inv R s → let v : State = run (suc d) false a s in Running (v .mode) → Peg (node a) (strip (s .rest)) (Res.yes r′) → (v .chosen ≡ []) × (v .mode ≡ ok) × End (w ∷ v .rest) (s .rest)
+  node-run a k walks s r′ m i r g =
       let t : State = begin (suc d) s in
-      let u : State = go-in (grammar RULE-DECL) t in
+      let u : State = go-in (grammar a) t in
       let n : ℕ = length (t .rest) in
-      let v : State = finish false (kind RULE-DECL) n u in
-      let ru = running-before u v (finish-up Grown grown false (kind RULE-DECL) n u) r in
-      let b = begin-inv R (suc d) s i (running-before t u (gr (grammar RULE-DECL) t) ru) in
-      let w = walk spine t r′ (b .1 ∙ m) (b .0) ru (subst (λ (l : List ℕ). Peg (grammar RULE-DECL) l (Res.yes r′)) (sym (begin-strip (suc d) s)) (of-node g)) in
-      let f = finish-ok (kind RULE-DECL) n u (w .1) in
+      let v : State = finish false (kind a) n u in
+      let ru = running-before u v (finish-up Grown grown false (kind a) n u) r in
+      let b = begin-inv R (suc d) s i (running-before t u (gr (grammar a) t) ru) in
+      let w = walks t r′ (b .1 ∙ m) (b .0) ru (subst (λ (l : List ℕ). Peg (grammar a) l (Res.yes r′)) (sym (begin-strip (suc d) s)) (of-node g)) in
+      let f = finish-ok (kind a) n u (w .1) in
       let e : End (t .rest) (s .rest) = subst (λ (l : List ℕ). End l (s .rest)) (sym (charge-rest (suc d) (s .fuel) (trivia s))) (gap-end (s .mode) (s .rest)) in
-      (f .0 ∙ w .0, f .1, subst (λ (l : List ℕ). End (kinds.R-BRACE ∷ l) (s .rest)) (sym (f .2)) (end-trans (kinds.R-BRACE ∷ u .rest) (t .rest) (s .rest) (w .2) e))
+      (f .0 ∙ w .0, f .1, subst (λ (l : List ℕ). End (k ∷ l) (s .rest)) (sym (f .2)) (end-trans (k ∷ u .rest) (t .rest) (s .rest) (w .2) e))
+
+  -- an import or an include: two rows
+  statement-walks : (a : Production) (k : ℕ) → Statement a k → idOf k ≡ k → Walks a kinds.STRING-LIT
+  unfolding idOf
+  statement-walks a k st own = subst Goes (sym (statement-is a k st)) two
+    where
+      Goes : Prog → Type 0
+      Goes p = (t : State) (r′ : List ℕ) → t .mode ≡ ok → Inv R t → let u : State = go-in p t in Running (u .mode) → Peg p (strip (t .rest)) (Res.yes r′) → (u .chosen ≡ []) × (u .mode ≡ ok) × End (kinds.STRING-LIT ∷ u .rest) (t .rest)
+
+      two : Goes (one k ⨟ one kinds.STRING-LIT)
+      two s r′ m i r g =
+          let p : Prog = one k in
+          let q : Prog = one kinds.STRING-LIT in
+          let u : State = go-in p s in
+          let ru = running-before u (go-in q u) (gr q u) r in
+          let v = seq-inv g in
+          let c = word k own (idOf k ∷ []) s (v .0) (m, i, v .1) in
+          let a = along p q tt tt tt s r′ m i ru g (inl (c .0)) in
+          let b = word kinds.STRING-LIT refl (idOf kinds.STRING-LIT ∷ []) u r′ a in
+          (b .0, b .1, end-trans (kinds.STRING-LIT ∷ (go-in q u) .rest) (u .rest) (s .rest) (b .2) ((gr p s) .rows))
 
 abbrev pub rule-ends : List ℕ
 rule-ends = kinds.GLOBAL-KW ∷ kinds.PRIVATE-KW ∷ kinds.RULE-KW ∷ kinds.IMPORT-KW ∷ kinds.INCLUDE-KW ∷ []
@@ -287,22 +320,36 @@ recovered-calm D v = go (v .mode) v
     go failed v e c n = not-failed e
     go (stopped w) v e c n = not-stopped w e
 
--- THE THEOREM: a rule that the PEG accepts, whose next row past trivia is a rule keyword or none: no error is chosen, and the reader stands
--- right behind the rule's last brace
-pub rule-calm : (L : Limits) (s : State) (r′ : List ℕ) → s .mode ≡ ok → Inv (s .rest) s → Running ((read-rule L s) .mode) → Peg (node RULE-DECL) (strip (s .rest)) (Res.yes r′) → (Off (sought rule-ends r′) → ⊥) → ((read-rule L s) .chosen ≡ []) × (strip ((read-rule L s) .rest) ≡ r′) × End (kinds.R-BRACE ∷ (read-rule L s) .rest) (s .rest)
-unfolding read-rule kind
-rule-calm L s r′ m i r g n = go (L .depth) r
+-- a node that the PEG accepts: no error is chosen, and the reader stands right behind its last row w
+node-calm : (D : ℕ) (a : Production) (w : ℕ) (s : State) (r′ : List ℕ) → ((d : ℕ) → Walks (s .rest) d a w) → s .mode ≡ ok → Inv (s .rest) s → let v : State = run D false a s in Running (v .mode) → Peg (node a) (strip (s .rest)) (Res.yes r′) → (v .chosen ≡ []) × (v .mode ≡ ok) × (strip (v .rest) ≡ r′) × End (w ∷ v .rest) (s .rest)
+node-calm zero a w s r′ h m i r g = absurd (run-zero false a s r)
+node-calm (suc d) a w s r′ h m i r g =
+    let v : State = run (suc d) false a s in
+    let z = node-run (s .rest) d a w (h d) s r′ m i r g in
+    (z .0, z .1, same (strip (v .rest)) (run-sim (s .rest) (suc d) false a s i (r, z .0) .good m (z .1)), z .2)
   where
-    same : (v : State) → Won (s .rest) (node RULE-DECL) (strip (s .rest)) (strip (v .rest)) → strip (v .rest) ≡ r′
-    same v (inl d) = let e = det d (Res.yes r′) g in let y : strip (v .rest) ≡ r′ = cc in y
-    same v (inr x) = absurd (x .0)
+    same : (l : List ℕ) → Won (s .rest) (node a) (strip (s .rest)) l → l ≡ r′
+    same l (inl d) = let e = det d (Res.yes r′) g in let y : l ≡ r′ = cc in y
+    same l (inr x) = absurd (yes-no r′ (det g Res.no (x .1)))
 
-    go : (D : ℕ) → let t : State = recovery D false rule-ends (run D false RULE-DECL s) in Running (t .mode) → (t .chosen ≡ []) × (strip (t .rest) ≡ r′) × End (kinds.R-BRACE ∷ t .rest) (s .rest)
-    go zero r = absurd (run-zero false RULE-DECL s (running-before (run zero false RULE-DECL s) (recovery zero false rule-ends (run zero false RULE-DECL s)) (recovery-up Grown grown zero false rule-ends (run zero false RULE-DECL s)) r))
-    go (suc d) r =
-        let v : State = run (suc d) false RULE-DECL s in
-        let rv = running-before v (recovery (suc d) false rule-ends v) (recovery-up Grown grown (suc d) false rule-ends v) r in
-        let w = rule-run (s .rest) d s r′ m i rv g in
-        let k = same v (run-sim (s .rest) (suc d) false RULE-DECL s i (rv, w .0) .good m (w .1)) in
-        let x = recovered-calm (suc d) v (w .1) (w .0) (λ o. n (subst (λ (l : List ℕ). Off (sought rule-ends l)) k o)) in
-        (x .0, ap strip (x .1) ∙ k, subst (λ (l : List ℕ). End (kinds.R-BRACE ∷ l) (s .rest)) (sym (x .1)) (w .2))
+-- THE THEOREM: a rule that the PEG accepts, whose next row past trivia begins an item or is none: no error is chosen, and the reader stands
+-- right behind the rule's last brace
+pub rule-calm : (L : Limits) (s : State) (r′ : List ℕ) → s .mode ≡ ok → Inv (s .rest) s → let v : State = read-item L rule-decl s in Running (v .mode) → Peg (node RULE-DECL) (strip (s .rest)) (Res.yes r′) → (Off (sought rule-ends r′) → ⊥) → (v .chosen ≡ []) × (strip (v .rest) ≡ r′) × End (kinds.R-BRACE ∷ v .rest) (s .rest)
+unfolding read-item
+rule-calm L s r′ m i r g n =
+    let D : ℕ = L .depth in
+    let v : State = run D false RULE-DECL s in
+    let rv = running-before v (recovery D false rule-ends v) (recovery-up Grown grown D false rule-ends v) r in
+    let w = node-calm D RULE-DECL kinds.R-BRACE s r′ (λ d. walk (s .rest) d spine) m i rv g in
+    let x = recovered-calm D v (w .1) (w .0) (λ o. n (subst (λ (l : List ℕ). Off (sought rule-ends l)) (w .2) o)) in
+    (x .0, ap strip (x .1) ∙ w .2, subst (λ (l : List ℕ). End (kinds.R-BRACE ∷ l) (s .rest)) (sym (x .1)) (w .3))
+
+own-id : (a : Production) (k : ℕ) → Statement a k → idOf k ≡ k
+unfolding idOf
+own-id a k import = refl
+own-id a k include = refl
+
+-- THE THEOREM: an import or include that the PEG accepts, whatever comes behind it: no error is chosen, and the reader stands right behind its string
+pub statement-calm : (L : Limits) (a : Production) (k : ℕ) → Statement a k → (s : State) (r′ : List ℕ) → s .mode ≡ ok → Inv (s .rest) s → let v : State = read-item L (node a) s in Running (v .mode) → Peg (node a) (strip (s .rest)) (Res.yes r′) → (v .chosen ≡ []) × (strip (v .rest) ≡ r′) × End (kinds.STRING-LIT ∷ v .rest) (s .rest)
+unfolding read-item
+statement-calm L a k t s r′ m i r g = let w = node-calm (L .depth) a kinds.STRING-LIT s r′ (λ d. statement-walks (s .rest) d a k t (own-id a k t)) m i r g in (w .0, w .2, w .3)

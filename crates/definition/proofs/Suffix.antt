@@ -6,7 +6,8 @@ use mathlib.Core.Option.{Option, none}
 use lib.ListN.{length}
 use native.Mathlib.Nat.{suc-add, zero-add, add-zero}
 use native.Mathlib.Omega.{arith}
-use Rattle.definition.specs.Run.{State, Limits, Draft, Choice, Mode, ok, failed, stopped, Stop, Next, end, other, hit, sought, trivia, turn, put, rule-keywords, item-at, flush, again, item, items, start, read}
+use Rattle.definition.specs.Grammar.{item-of}
+use Rattle.definition.specs.Run.{State, Limits, Draft, Choice, Mode, ok, failed, stopped, Stop, Next, end, other, hit, sought, trivia, turn, put, rule-keywords, item-keywords, item-at, flush, again, item, items, start, read}
 use Rattle.definition.proofs.Every.{never}
 use Rattle.definition.proofs.Order.{Running}
 use Rattle.definition.proofs.Grows.{End, end-refl, end-trans, gap-end, seek-end}
@@ -14,7 +15,7 @@ use Rattle.definition.proofs.Accept.{Fresh}
 use Rattle.definition.proofs.File.{items-end, items-step, after-item, again-running, items-stopped, start-fresh}
 use Rattle.definition.proofs.Frame.{h}
 use Rattle.definition.proofs.Whole.{items-h, any-live}
-use Rattle.definition.proofs.Takes.{end-length, item-takes, rule-rows}
+use Rattle.definition.proofs.Takes.{end-length, item-takes, reads-rows}
 use Rattle.definition.proofs.Shrink.{size-nil}
 
 pub items-stuck : (L : Limits) (n : ℕ) (s : State) (w : Stop) → s .mode ≡ stopped w → items L n s ≡ s
@@ -80,12 +81,12 @@ again-rest u = go (u .mode) u
     go (stopped w) u = refl
 
 item-rows : (L : Limits) (s : State) → End ((item L s) .rest) (s .rest)
-item-rows L s = subst (λ (r : List ℕ). End r (s .rest)) (sym (again-rest (flush (item-at L (sought rule-keywords ((trivia s) .rest)) (trivia s))))) (end-trans _ ((trivia s) .rest) (s .rest) (at (sought rule-keywords ((trivia s) .rest)) (trivia s)) (gap-end (s .mode) (s .rest)))
+item-rows L s = subst (λ (r : List ℕ). End r (s .rest)) (sym (again-rest (flush (item-at L (sought item-keywords ((trivia s) .rest)) (trivia s))))) (end-trans _ ((trivia s) .rest) (s .rest) (at (sought item-keywords ((trivia s) .rest)) (trivia s)) (gap-end (s .mode) (s .rest)))
   where
     at : (x : Next) (t : State) → End ((item-at L x t) .rest) (t .rest)
     at end t = end-refl (t .rest)
     at other t = seek-end rule-keywords (t .rest)
-    at (hit a is) t = rule-rows L t
+    at (hit a is) t = reads-rows L (item-of a) t
 
 pub items-rows : (L : Limits) (n : ℕ) (s : State) → End ((items L n s) .rest) (s .rest)
 items-rows L zero s = end-refl (s .rest)
@@ -121,7 +122,7 @@ items-between L (suc n) s b r = go (s .rest) (s .mode) s b (items-between L n) r
     go (i ∷ is) (stopped w) s b H r = b
     go (i ∷ is) ok s b H r =
         let t : State = turn ok (put (i ∷ is) (s .out) s) in
-        let u : State = item-at L (sought rule-keywords ((trivia t) .rest)) (trivia t) in
+        let u : State = item-at L (sought item-keywords ((trivia t) .rest)) (trivia t) in
         H (item L t) (flush-between u (again-running u (items-stopped L n (item L t) r))) r
 
 start-between : (r : List ℕ) (f : ℕ) → Between (start r f)

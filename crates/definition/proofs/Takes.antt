@@ -4,15 +4,13 @@ use mathlib.Core.Path.{_≡_, refl, ap, ap₂, sym, _∙_, subst}
 use mathlib.Core.Logic.{_⊎_, inl, inr}
 use mathlib.Core.List.{List, [], _∷_, _++_}
 use mathlib.Core.Bool.{Bool, true, false}
-use mathlib.Core.Option.{Option, none, some}
-use lib.Dec.{T, eqb, eqb→eq}
 use lib.ListN.{length, length-append}
 use native.Mathlib.Omega.{arith}
 use Rattle.kinds.specs.Kinds as kinds
-use Rattle.kinds.specs.Sets.{idOf, pick, trivial}
-use Rattle.definition.specs.Prog.{Production, RULE-DECL, RULE-MODS, Prog, node, opt, last, _⨟_}
-use Rattle.definition.specs.Grammar.{grammar, kind, rule-decl, one}
-use Rattle.definition.specs.Run.{State, Reader, Limits, Mode, ok, failed, stopped, Next, end, other, hit, sought, next, skip, past, trivia, turn, put, back, or-else, alts, opts, fails, eats, eat-row, begin, finish, charge, seek, exec, run, rule-keywords, read-rule, stray-item, item-at, flush, again, item}
+use Rattle.kinds.specs.Sets.{idOf, trivial}
+use Rattle.definition.specs.Prog.{Production, RULE-DECL, RULE-MODS, IMPORT-STMT, INCLUDE-STMT, Prog, node, opt, last, _⨟_}
+use Rattle.definition.specs.Grammar.{grammar, kind, rule-decl, item-of, one}
+use Rattle.definition.specs.Run.{State, Reader, Limits, Mode, ok, failed, stopped, Next, end, other, hit, sought, next, skip, past, trivia, turn, put, back, or-else, alts, opts, fails, eats, eat-row, begin, finish, charge, seek, exec, run, rule-keywords, item-keywords, read-item, stray-item, item-at, flush, again, item}
 use Rattle.definition.specs.Ford.{strip}
 use Rattle.definition.proofs.Gap.{gap}
 use Rattle.definition.proofs.Every.{never}
@@ -22,7 +20,10 @@ use Rattle.definition.proofs.Grows.{End, Grown, grown, grows, gap-end, 
 use Rattle.definition.proofs.Shrink.{size, strip-gap, strip-end, run-ok, not-failed, not-stopped, eat-row-small, charge-rest}
 use Rattle.definition.proofs.Agree.{not-ok, not-stop, nil-cons}
 use Rattle.definition.proofs.Only.{for-rest}
-use Rattle.definition.proofs.File.{after-item, again-running, sought-end}
+use Rattle.definition.proofs.Doom.{Off, sub-off}
+use Rattle.definition.proofs.Rule.{Statement, import, include, statement-is}
+use Rattle.definition.proofs.Accept.{Each, each-at}
+use Rattle.definition.proofs.File.{after-item, again-running, pick-of, sought-end}
 
 pub end-length : {A : Type 0} (a b : List A) → End a b → length a ≤ length b
 end-length a b e = omega (arith, length-append (e .0) a, ap length (e .1))
@@ -94,16 +95,6 @@ mods-global d call is s =
     let w : State = turn ok (put (kinds.GLOBAL-KW ∷ is) (s .out) s) in
     let v : State = back w (exec d call (one kinds.PRIVATE-KW ⨟ opt (one kinds.GLOBAL-KW)) true (trivia w)) in
     alts-never (exec d call (one kinds.GLOBAL-KW ⨟ opt (one kinds.PRIVATE-KW)) true) fails v (opts-never (exec d call (one kinds.PRIVATE-KW) true) (exec d call (one kinds.GLOBAL-KW) true (trivia (turn ok v))))
-
-keyword : (i : ℕ) (a : ℕ) → pick rule-keywords i ≡ some a → (i ≡ kinds.GLOBAL-KW) ⊎ (i ≡ kinds.PRIVATE-KW) ⊎ (i ≡ kinds.RULE-KW)
-unfolding idOf
-keyword i a = go (eqb i kinds.GLOBAL-KW) (eqb i kinds.PRIVATE-KW) (eqb i kinds.RULE-KW) (eqb→eq i kinds.GLOBAL-KW) (eqb→eq i kinds.PRIVATE-KW) (eqb→eq i kinds.RULE-KW)
-  where
-    go : (x y z : Bool) → (T x → i ≡ kinds.GLOBAL-KW) → (T y → i ≡ kinds.PRIVATE-KW) → (T z → i ≡ kinds.RULE-KW) → _≡_ {A = Option ℕ} (elim x [ true ↦ some kinds.GLOBAL-KW | false ↦ elim y [ true ↦ some kinds.PRIVATE-KW | false ↦ elim z [ true ↦ some kinds.RULE-KW | false ↦ none ] ] ]) (some a) → (i ≡ kinds.GLOBAL-KW) ⊎ (i ≡ kinds.PRIVATE-KW) ⊎ (i ≡ kinds.RULE-KW)
-    go true y z p q r e = inl (p tt)
-    go false true z p q r e = inr (inl (q tt))
-    go false false true p q r e = inr (inr (r tt))
-    go false false false p q r e = never cc
 
 -- the rule's first rows
 module _ (d : ℕ) (call : Bool → Production → Reader) (cg : (o : Bool) (a : Production) (s : State) → Grown s (call o a s)) (ck : (o : Bool) (a : Production) (s : State) → (call o a s) .mode ≡ ok → size (call o a s) < size s) where
@@ -235,57 +226,72 @@ skip-skip (i ∷ is) = go (trivial i) refl (skip-skip is)
     go true e h = h
     go false e h = ap (λ (c : Bool). elim c as (λ _. List ℕ) [ true ↦ skip is | false ↦ i ∷ is ]) e
 
-pick-of : (S : List ℕ) (i a : ℕ) (is js : List ℕ) → sought S (i ∷ js) ≡ hit a is → pick S i ≡ some a
-pick-of S i a is js = go (pick S i)
-  where
-    go : (x : Option ℕ) → _≡_ {A = Next} (elim x [ none ↦ other | some b ↦ hit b js ]) (hit a is) → x ≡ some a
-    go none e = never cc
-    go (some b) e = cc
-
 -- a rule keyword is next: reading the rule takes a row
-pub rule-takes : (L : Limits) (s : State) (a : ℕ) (is : List ℕ) → s .mode ≡ ok → sought rule-keywords (s .rest) ≡ hit a is → Running ((read-rule L s) .mode) → size (read-rule L s) < size s
-unfolding read-rule idOf for-rest
-rule-takes L s a is e h r =
-    let q = sought-hit rule-keywords (s .rest) a is h in
-    go (q .0) (q .1) (keyword (q .0) a (pick-of rule-keywords (q .0) a is is (ap (sought rule-keywords) (sym (q .1)) ∙ h)))
+rule-takes : (L : Limits) (s : State) (i : ℕ) (is : List ℕ) → skip (i ∷ is) ≡ i ∷ is → (Mods i ⊎ (next (kinds.RULE-KW ∷ []) (i ∷ is) ≡ other → ⊥)) → s .mode ≡ ok → s .rest ≡ i ∷ is → let v : State = read-item L rule-decl s in Running (v .mode) → size v < size s
+unfolding read-item for-rest
+rule-takes L s i is k m e h r =
+    let u : State = run (L .depth) false RULE-DECL s in
+    let g : Grown u (read-item L rule-decl s) = exec-grows (L .depth) (for-rest rule-decl) false u in
+    omega (arith, run-takes (L .depth) s i is k m e h (running-before u (read-item L rule-decl s) g r), strip-end ((read-item L rule-decl s) .rest) (u .rest) (g .rows))
+
+-- an import or include keyword is next: reading the statement takes a row
+statement-takes : (D : ℕ) (a : Production) (k : ℕ) → Statement a k → ((is : List ℕ) → skip (k ∷ is) ≡ k ∷ is) → ((is : List ℕ) → next (k ∷ []) (k ∷ is) ≡ hit k is) → (s : State) (is : List ℕ) → s .mode ≡ ok → s .rest ≡ k ∷ is → let v : State = run D false a s in Running (v .mode) → size v < size s
+statement-takes zero a k st firm first s is e h r = absurd (run-zero false a s r)
+statement-takes (suc d) a k st firm first s is e h r =
+    let t : State = begin (suc d) s in
+    let x = starting d false a s k is (firm is) e h r in
+    let u : State = exec d (run d) (grammar a) false t in
+    let v : State = run (suc d) false a s in
+    let g = finish-up Grown grown false (kind a) (length (t .rest)) u in
+    omega (arith, strip-end (v .rest) (u .rest) (g .rows), subst (λ (p : Prog). size (exec d (run d) p false t) < size t) (sym (statement-is a k st)) (two t (x .0) (x .1)), ap length (ap strip (x .1 ∙ sym h)))
   where
-    u : State
-    u = run (L .depth) false RULE-DECL s
+    two : (t : State) → t .mode ≡ ok → t .rest ≡ k ∷ is → size (exec d (run d) (one k ⨟ one kinds.STRING-LIT) false t) < size t
+    two t e h =
+        let u : State = exec d (run d) (one k) false t in
+        omega (arith, strip-end ((exec d (run d) (one kinds.STRING-LIT) false u) .rest) (u .rest) ((exec-grows d (one kinds.STRING-LIT) false u) .rows), subst (λ (y : State). size (eats (k ∷ []) (idOf k ∷ []) y) < size y) (sym (as-is t ok (k ∷ is) e h)) (eat-row-small (k ∷ []) (idOf k ∷ []) (turn ok (put (k ∷ is) (t .out) t)) (next (k ∷ []) (k ∷ is)) refl (ap (λ (x : Next). (eat-row (idOf k ∷ []) x (turn ok (put (k ∷ is) (t .out) t))) .mode) (first is))))
 
-    K : List ℕ
-    K = kinds.GLOBAL-KW ∷ kinds.PRIVATE-KW ∷ kinds.RULE-KW ∷ kinds.IMPORT-KW ∷ kinds.INCLUDE-KW ∷ []
+-- a row at which an item begins is taken: over the set
+abbrev Taken : ℕ → ℕ → Type 0
+Taken a i = (L : Limits) (s : State) (is : List ℕ) → s .mode ≡ ok → s .rest ≡ i ∷ is → let v : State = read-item L (item-of a) s in Running (v .mode) → size v < size s
 
-    ug : Grown u (read-rule L s)
-    ug = exec-grows (L .depth) (for-rest rule-decl) false u
+five : Each Taken item-keywords
+unfolding read-item idOf
+five =
+    (λ L s is. rule-takes L s kinds.GLOBAL-KW is refl (inl past-global),
+    (λ L s is. rule-takes L s kinds.PRIVATE-KW is refl (inl past-private),
+    (λ L s is. rule-takes L s kinds.RULE-KW is refl (inr at-rule),
+    (λ L s is. statement-takes (L .depth) IMPORT-STMT kinds.IMPORT-KW import (λ l. refl) (λ l. refl) s is,
+    (λ L s is. statement-takes (L .depth) INCLUDE-STMT kinds.INCLUDE-KW include (λ l. refl) (λ l. refl) s is, tt)))))
+  where
+    at-rule : {is : List ℕ} → next (kinds.RULE-KW ∷ []) (kinds.RULE-KW ∷ is) ≡ other → ⊥
+    at-rule n = never cc
 
-    ru : Running ((run (L .depth) false RULE-DECL s) .mode)
-    ru = running-before u (read-rule L s) (exec-grows (L .depth) (for-rest rule-decl) false (run (L .depth) false RULE-DECL s)) r
+pub reads-takes : (L : Limits) (s : State) (a : ℕ) (is : List ℕ) → s .mode ≡ ok → sought item-keywords (s .rest) ≡ hit a is → let v : State = read-item L (item-of a) s in Running (v .mode) → size v < size s
+reads-takes L s a is e h =
+    let q = sought-hit item-keywords (s .rest) a is h in
+    each-at Taken item-keywords five (q .0) a (pick-of item-keywords (q .0) a is is (ap (sought item-keywords) (sym (q .1)) ∙ h)) L s is e (q .1)
 
-    down : size (run (L .depth) false RULE-DECL s) < size s → size (read-rule L s) < size s
-    down z = omega (arith, z, strip-end ((read-rule L s) .rest) ((run (L .depth) false RULE-DECL s) .rest) ((exec-grows (L .depth) (for-rest rule-decl) false (run (L .depth) false RULE-DECL s)) .rows))
+pub reads-rows : (L : Limits) (p : Prog) (s : State) → End ((read-item L p s) .rest) (s .rest)
+unfolding read-item
+reads-rows L p s = (exec-grows (L .depth) p false s) .rows
 
-    at-rule : (x : ℕ) → x ≡ kinds.RULE-KW → next (kinds.RULE-KW ∷ []) (x ∷ is) ≡ other → ⊥
-    at-rule x z n = let y : hit kinds.RULE-KW is ≡ other = ap (λ (j : ℕ). next (kinds.RULE-KW ∷ []) (j ∷ is)) (sym z) ∙ n in never cc
-
-    still : (i j : ℕ) → i ≡ j → skip (j ∷ is) ≡ j ∷ is → skip (i ∷ is) ≡ i ∷ is
-    still i j z k = subst (λ (x : ℕ). skip (x ∷ is) ≡ x ∷ is) (sym z) k
-
-    go : (i : ℕ) → s .rest ≡ i ∷ is → (i ≡ kinds.GLOBAL-KW) ⊎ (i ≡ kinds.PRIVATE-KW) ⊎ (i ≡ kinds.RULE-KW) → size (read-rule L s) < size s
-    go i z (inl y) = down (run-takes (L .depth) s i is (still i kinds.GLOBAL-KW y refl) (inl (subst Mods (sym y) past-global)) e z ru)
-    go i z (inr (inl y)) = down (run-takes (L .depth) s i is (still i kinds.PRIVATE-KW y refl) (inl (subst Mods (sym y) past-private)) e z ru)
-    go i z (inr (inr y)) = down (run-takes (L .depth) s i is (still i kinds.RULE-KW y refl) (inr (at-rule i y)) e z ru)
-
-pub rule-rows : (L : Limits) (s : State) → End ((read-rule L s) .rest) (s .rest)
-unfolding read-rule
-rule-rows L s = (exec-grows (L .depth) rule-decl false s) .rows
+-- a row that begins no item begins no rule
+pub no-rule : (r : List ℕ) → sought item-keywords r ≡ other → sought rule-keywords r ≡ other
+unfolding idOf
+no-rule r e = go (sought rule-keywords r) (sub-off rule-keywords item-keywords r tt (subst Off (sym e) tt)) refl
+  where
+    go : (x : Next) → Off x → sought rule-keywords r ≡ x → sought rule-keywords r ≡ other
+    go end o z = absurd o
+    go other o z = z
+    go (hit a is) o z = absurd o
 
 -- a stray item takes its first row
-pub stray-takes : (s : State) → skip (s .rest) ≡ s .rest → sought rule-keywords (s .rest) ≡ other → length ((stray-item s) .rest) < length (s .rest)
+pub stray-takes : (s : State) → skip (s .rest) ≡ s .rest → sought item-keywords (s .rest) ≡ other → length ((stray-item s) .rest) < length (s .rest)
 stray-takes s = go (s .rest)
   where
-    go : (r : List ℕ) → skip r ≡ r → sought rule-keywords r ≡ other → length (seek rule-keywords r) < length r
+    go : (r : List ℕ) → skip r ≡ r → sought item-keywords r ≡ other → length (seek rule-keywords r) < length r
     go [] k e = never cc
-    go (i ∷ is) k e = at (past (next rule-keywords (i ∷ is))) (ap past (ap (sought rule-keywords) k ∙ e))
+    go (i ∷ is) k e = at (past (next rule-keywords (i ∷ is))) (ap past (ap (sought rule-keywords) k ∙ no-rule (i ∷ is) e))
       where
         at : (b : Bool) → b ≡ false → length {A = ℕ} (elim b as (λ _. List ℕ) [ true ↦ i ∷ is | false ↦ seek rule-keywords is ]) < suc (length is)
         at true z = never cc
@@ -293,7 +299,7 @@ stray-takes s = go (s .rest)
 
 -- THE THEOREM: every item that does not stop the reader takes at least one row
 pub item-takes : (L : Limits) (s : State) (i : ℕ) (is : List ℕ) → s .mode ≡ ok → s .rest ≡ i ∷ is → Running ((item L s) .mode) → length ((item L s) .rest) < length (s .rest)
-item-takes L s i is e h r = go (sought rule-keywords ((trivia s) .rest)) refl r
+item-takes L s i is e h r = go (sought item-keywords ((trivia s) .rest)) refl r
   where
     t : State
     t = trivia s
@@ -301,14 +307,14 @@ item-takes L s i is e h r = go (sought rule-keywords ((trivia s) .rest)) refl r
     ts : length ((trivia s) .rest) ≤ length (s .rest)
     ts = end-length ((trivia s) .rest) (s .rest) (gap-end (s .mode) (s .rest))
 
-    go : (x : Next) → sought rule-keywords ((trivia s) .rest) ≡ x → let v : State = again (flush (item-at L x (trivia s))) in Running (v .mode) → length (v .rest) < length (s .rest)
-    go end n r = let z = after-item (trivia s) (again-running (trivia s) r) in omega (arith, ap length (z .1), ap length (sought-end rule-keywords ((trivia s) .rest) n), ap length h)
+    go : (x : Next) → sought item-keywords ((trivia s) .rest) ≡ x → let v : State = again (flush (item-at L x (trivia s))) in Running (v .mode) → length (v .rest) < length (s .rest)
+    go end n r = let z = after-item (trivia s) (again-running (trivia s) r) in omega (arith, ap length (z .1), ap length (sought-end item-keywords ((trivia s) .rest) n), ap length h)
     go other n r =
         let u : State = stray-item (trivia s) in
         let z = after-item u (again-running u r) in
         omega (arith, ts, ap length (z .1), stray-takes (trivia s) (ap skip (gap-ok (s .mode) (s .rest) e) ∙ skip-skip (s .rest) ∙ sym (gap-ok (s .mode) (s .rest) e)) n)
     go (hit a js) n r =
-        let u : State = read-rule L (trivia s) in
+        let u : State = read-item L (item-of a) (trivia s) in
         let z = after-item u (again-running u r) in
-        let k = rule-takes L (trivia s) a js e n (again-running u r) in
-        omega (arith, ts, ap length (z .1), fewer (u .rest) ((trivia s) .rest) (rule-rows L (trivia s)) k)
+        let k = reads-takes L (trivia s) a js e n (again-running u r) in
+        omega (arith, ts, ap length (z .1), fewer (u .rest) ((trivia s) .rest) (reads-rows L (item-of a) (trivia s)) k)

@@ -9,8 +9,9 @@ use lib.ListN.{length}
 use native.Mathlib.Omega.{arith}
 use Rattle.kinds.specs.Kinds as kinds
 use Rattle.kinds.specs.Sets.{kindOf, trivial}
-use Rattle.definition.specs.Grammar.{rule-decl}
-use Rattle.definition.specs.Run.{State, Reader, Limits, Event, opened, leaf, closed, bad, Choice, wanted, unwanted, stray, Mode, ok, failed, stopped, Next, end, other, hit, next, sought, skip, past, trivia-out, trivia, seek, seek-out, skip-to, take, turn, put, charge, begin, finish, nodes, further, furthest, join, pending, add, decide, choose, errors, run, rule-keywords, read-rule, stray-item, item-at, flush, again, item, items, start, read}
+use Rattle.definition.specs.Prog.{Prog}
+use Rattle.definition.specs.Grammar.{item-of}
+use Rattle.definition.specs.Run.{State, Reader, Limits, Event, opened, leaf, closed, bad, Choice, wanted, unwanted, stray, Mode, ok, failed, stopped, Next, end, other, hit, next, sought, skip, past, trivia-out, trivia, seek, seek-out, skip-to, take, turn, put, charge, begin, finish, nodes, further, furthest, join, pending, add, decide, choose, errors, run, rule-keywords, item-keywords, read-item, stray-item, item-at, flush, again, item, items, start, read}
 use Rattle.definition.specs.Open.{Nest}
 use Rattle.definition.proofs.Gap.{gap, gap-out}
 use Rattle.definition.proofs.Induct.{exec-kept, run-kept}
@@ -232,9 +233,9 @@ module _ (N : ℕ) where
   errors-wrote [] o h = nothing o
   errors-wrote (e ∷ c) o h = wrote-trans o (bad (e .0) (e .1) ∷ o) (errors c (bad (e .0) (e .1) ∷ o)) (a-bad (e .0) (e .1) o (h .0)) (errors-wrote c (bad (e .0) (e .1) ∷ o) (h .1))
 
-  pub rule-tidy : (L : Limits) (s : State) → Tidy s (read-rule L s)
-  unfolding read-rule
-  rule-tidy L s = exec-kept (stepped Tidy tidying) (L .depth) (run (L .depth)) (run-kept (stepped Tidy tidying) (L .depth)) rule-decl false s
+  pub reads-tidy : (L : Limits) (p : Prog) (s : State) → Tidy s (read-item L p s)
+  unfolding read-item
+  reads-tidy L p s = exec-kept (stepped Tidy tidying) (L .depth) (run (L .depth)) (run-kept (stepped Tidy tidying) (L .depth)) p false s
 
   pub stray-tidy : (s : State) → Tidy s (stray-item s)
   stray-tidy s = moved s (stray-item s) refl refl refl (end-length (seek rule-keywords (s .rest)) (s .rest) (seek-end rule-keywords (s .rest))) (λ i. wrote-trans (s .out) (bad n stray ∷ s .out) ((stray-item s) .out) (a-bad n stray (s .out) (i .rows)) (a-node kinds.ERROR n (length (seek rule-keywords (s .rest))) (bad n stray ∷ s .out) (seek-out rule-keywords (s .rest) (opened n ∷ bad n stray ∷ s .out)) (i .rows) (end-length (seek rule-keywords (s .rest)) (s .rest) (seek-end rule-keywords (s .rest))) (seek-wrote rule-keywords (s .rest) (opened n ∷ bad n stray ∷ s .out) (i .rows))))
@@ -252,14 +253,14 @@ module _ (N : ℕ) where
 
   pub item-tidy : (L : Limits) (s : State) → Tidy s (item L s)
   item-tidy L s =
-      let x : Next = sought rule-keywords ((trivia s) .rest) in
+      let x : Next = sought item-keywords ((trivia s) .rest) in
       let u : State = item-at L x (trivia s) in
       tidy-trans s u (item L s) (tidy-trans s (trivia s) u (trivia-tidy s) (at x (trivia s))) (flush-tidy u)
     where
       at : (x : Next) (t : State) → Tidy t (item-at L x t)
       at end t = tidying .same t
       at other t = stray-tidy t
-      at (hit a is) t = rule-tidy L t
+      at (hit a is) t = reads-tidy L (item-of a) t
 
   pub items-tidy : (L : Limits) (n : ℕ) (s : State) → Tidy s (items L n s)
   items-tidy L zero s = tidying .same s

@@ -7,8 +7,9 @@ use mathlib.Core.Bool.{false}
 use mathlib.Core.Option.{none}
 use lib.ListN.{length}
 use Rattle.kinds.specs.Kinds as kinds
-use Rattle.definition.specs.Grammar.{rule-decl}
-use Rattle.definition.specs.Run.{Limits, Draft, mark, State, Mode, ok, failed, stopped, Event, Choice, Next, end, other, hit, sought, trivia, turn, put, emit, run, rule-keywords, read-rule, blame, item-at, errors, flush, again, item, items}
+use Rattle.definition.specs.Prog.{Prog}
+use Rattle.definition.specs.Grammar.{item-of}
+use Rattle.definition.specs.Run.{Limits, Draft, mark, State, Mode, ok, failed, stopped, Event, Choice, Next, end, other, hit, sought, trivia, turn, put, emit, run, rule-keywords, item-keywords, read-item, blame, item-at, errors, flush, again, item, items}
 use Rattle.definition.proofs.Induct.{exec-kept, run-kept}
 use Rattle.definition.proofs.Frame.{h, Live, Framed, frames, trivia-h, skip-to-h}
 
@@ -39,21 +40,21 @@ module _ (L : Limits) (k : ℕ) (q : List Event) (b : List ℕ) (dr : List Draft
       go failed s l = tt
       go (stopped w) s l = l
 
-  pub rule-h : Framed k q b dr (read-rule L)
-  unfolding read-rule
-  rule-h = exec-kept (frames k q b dr) (L .depth) (run (L .depth)) (run-kept (frames k q b dr) (L .depth)) rule-decl false
+  pub reads-h : (p : Prog) → Framed k q b dr (read-item L p)
+  unfolding read-item
+  reads-h p = exec-kept (frames k q b dr) (L .depth) (run (L .depth)) (run-kept (frames k q b dr) (L .depth)) p false
 
   pub item-at-h : (x : Next) → Framed k q b dr (item-at L x)
   item-at-h end s l = (l, refl)
   item-at-h other s l = (l, ap (λ (u : State). emit (Event.closed kinds.ERROR (length (s .rest)) (length (u .rest))) u) (skip-to-h k q b dr rule-keywords (emit (Event.opened (length (s .rest))) (blame s))))
-  item-at-h (hit a is) s l = rule-h s l
+  item-at-h (hit a is) s l = reads-h (item-of a) s l
 
   pub item-h : Framed k q b dr (item L)
   item-h s l =
-      let x : Next = sought rule-keywords ((trivia s) .rest) in
+      let x : Next = sought item-keywords ((trivia s) .rest) in
       let u : State = item-at L x (trivia s) in
       let z = item-at-h x (trivia s) (again-live (flush u) l) in
-      (z .0, ap (λ (t : State). again (flush (item-at L (sought rule-keywords (t .rest)) t))) (trivia-h k q b dr s) ∙ ap (λ (t : State). again (flush t)) (z .1) ∙ ap again (flush-h u) ∙ again-h (flush u))
+      (z .0, ap (λ (t : State). again (flush (item-at L (sought item-keywords (t .rest)) t))) (trivia-h k q b dr s) ∙ ap (λ (t : State). again (flush t)) (z .1) ∙ ap again (flush-h u) ∙ again-h (flush u))
 
   pub items-h : (n : ℕ) → Framed k q b dr (items L n)
   items-h zero s l = (l, refl)

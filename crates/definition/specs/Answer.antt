@@ -4,7 +4,6 @@ use mathlib.Core.List.{List, [], _∷_, _++_}
 use mathlib.Core.Bool.{Bool, true, false, _&&_, _||_, not}
 use lib.Dec.{eqb, ltb}
 use lib.ListN.{length, replicate}
-use Rattle.kinds.specs.Kinds as k
 use Rattle.kinds.specs.Sets.{isId}
 use Rattle.shapes.specs.Refusal as Refusal
 use Rattle.shapes.specs.Shapes.{flat, flat-records}
@@ -28,10 +27,6 @@ pub record Desk : Type 0 where
 abbrev pub no-id : ℕ → Bool
 no-id i = not (isId i)
 
--- 5: "an import or include row"
-abbrev pub elsewhere : ℕ → Bool
-elsewhere i = eqb i k.IMPORT-KW || eqb i k.INCLUDE-KW
-
 -- 4: "rows do not tile: first start not 0, an end not past its start, a start not the previous end, last end not the source length; or no rows
 -- and a source not empty". The rows tile the source from a on, z its length.
 abbrev pub tile : ℕ → ℕ → List ℕ → List ℕ → Bool
@@ -44,7 +39,7 @@ tile a z (s ∷ ss) (e ∷ es) = eqb s a && ltb s e && tile e z ss es
 abbrev pub words : ℕ → ℕ
 words rows = (2 * (rows + 1) + 63) / 64
 
--- the list's rows 1 to 6: whether it applies, and its number
+-- the list's rows 1 to 6: whether it applies, and its number; "5 is no longer given; its number is not used again"
 abbrev pub grounds : Desk → List (Bool × ℕ)
 grounds d =
     let n = length (d .ids) in
@@ -53,7 +48,6 @@ grounds d =
     ∷ (not (eqb n (length (d .starts)) && eqb n (length (d .ends))), Refusal.UNEQUAL)
     ∷ (any no-id (d .ids), Refusal.ID)
     ∷ (not (tile 0 z (d .starts) (d .ends)), Refusal.TILES)
-    ∷ (any elsewhere (d .ids), Refusal.IMPORT)
     ∷ (ltb (length (d .scratch)) (words n), Refusal.SCRATCH)
     ∷ []
 

@@ -6,7 +6,7 @@ use mathlib.Core.Path.{_≡_}
 use mathlib.Core.List.{List, [], _∷_}
 use mathlib.Core.Bool.{true, false}
 use Rattle.kinds.specs.Sets.{idOf, trivial}
-use Rattle.definition.specs.Prog.{Production, RULE-DECL, Prog, eat, unless, ifnext, opt, many, then, _⨟_, _/_, last, recover, node, memo}
+use Rattle.definition.specs.Prog.{Production, RULE-DECL, IMPORT-STMT, INCLUDE-STMT, Prog, eat, unless, ifnext, opt, many, then, _⨟_, _/_, last, recover, node, memo}
 use Rattle.definition.specs.Grammar.{grammar}
 
 infixr 20 _·_
@@ -67,10 +67,17 @@ abbrev pub strip : List ℕ → List ℕ
 strip [] = []
 strip (i ∷ is) = elim (trivial i) [ true ↦ strip is | false ↦ i ∷ strip is ]
 
--- "The PEG accepts every item when the rows, trivia aside, are a run of none or more `rule_decl` from first to last."
-pub data Rules : List ℕ → Type 0 where
-  no-more : Rules []
-  one-rule : {r r′ : List ℕ} {n : ℕ} → Ford rules (nt RULE-DECL) r n (Res.yes r′) → Rules r′ → Rules r
+-- "an accepted item may now be an import or include statement"
+abbrev pub any-statement : Exp
+any-statement = nt IMPORT-STMT ∣ nt INCLUDE-STMT
+
+abbrev pub any-item : Exp
+any-item = nt RULE-DECL ∣ any-statement
+
+-- "The PEG accepts every item when the rows, trivia aside, are a run of none or more" items "from first to last."
+pub data Items : List ℕ → Type 0 where
+  no-more : Items []
+  one-item : {r r′ : List ℕ} {n : ℕ} → Ford rules any-item r n (Res.yes r′) → Items r′ → Items r
 
 abbrev pub Accepts : List ℕ → Type 0
-Accepts ids = Rules (strip ids)
+Accepts ids = Items (strip ids)

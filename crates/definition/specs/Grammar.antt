@@ -1,9 +1,11 @@
--- The module's productions, from rule_decl down to pattern_ident_tuple, in its order ("for events, errors and fuel the module decides").
+-- The module's productions, from rule_decl down to pattern_ident_tuple, in its order, then its two statements ("for events, errors and fuel the module decides").
 use Prim.Native.Nat.{ℕ}
 use mathlib.Core.List.{List, [], _∷_, map}
+use mathlib.Core.Bool.{true, false}
+use lib.Dec.{eqb}
 use Rattle.kinds.specs.Kinds as k
 use Rattle.kinds.specs.Sets.{idOf}
-use Rattle.definition.specs.Prog.{Production, RULE-DECL, RULE-MODS, RULE-TAGS, META-BLK, META-DEF, PATTERNS-BLK, PATTERN-DEF, PATTERN-MODS, PATTERN-MOD, HEX-PATTERN, HEX-SUB-PATTERN, HEX-ALTERNATIVE, HEX-JUMP, CONDITION-BLK, BOOLEAN-EXPR, BOOLEAN-TERM, EXPR, FUNC-CALL, RANGE, TERM, PRIMARY-EXPR, FOR-EXPR, OF-EXPR, WITH-EXPR, WITH-DECLS, WITH-DECL, QUANTIFIER, ITERABLE, BOOLEAN-EXPR-TUPLE, EXPR-TUPLE, PATTERN-IDENT-TUPLE, Prog, eat, unless, ifnext, opt, many, then, _⨟_, _/_, last, recover, node, memo}
+use Rattle.definition.specs.Prog.{Production, RULE-DECL, RULE-MODS, RULE-TAGS, META-BLK, META-DEF, PATTERNS-BLK, PATTERN-DEF, PATTERN-MODS, PATTERN-MOD, HEX-PATTERN, HEX-SUB-PATTERN, HEX-ALTERNATIVE, HEX-JUMP, CONDITION-BLK, BOOLEAN-EXPR, BOOLEAN-TERM, EXPR, FUNC-CALL, RANGE, TERM, PRIMARY-EXPR, FOR-EXPR, OF-EXPR, WITH-EXPR, WITH-DECLS, WITH-DECL, QUANTIFIER, ITERABLE, BOOLEAN-EXPR-TUPLE, EXPR-TUPLE, PATTERN-IDENT-TUPLE, IMPORT-STMT, INCLUDE-STMT, Prog, eat, unless, ifnext, opt, many, then, _⨟_, _/_, last, recover, node, memo}
 
 -- the forms that the module writes: `expect` of a set, and of one kind; `expect_d`; one_or_more; `cond`. Its `alt` is written p / q / last r
 abbrev pub set : List ℕ → Prog
@@ -37,6 +39,14 @@ tuple a p = one k.L-PAREN ⨟ then p ⨟ many (one a ⨟ then p) ⨟ one k.R-PAR
 -- an item that begins with a rule keyword
 abbrev pub rule-decl : Prog
 rule-decl = node RULE-DECL ⨟ recover (k.GLOBAL-KW ∷ k.PRIVATE-KW ∷ k.RULE-KW ∷ k.IMPORT-KW ∷ k.INCLUDE-KW ∷ [])
+
+-- an item by the kind of its first row: an import or an include, "with their nodes, fuel and recovery", behind which the module has none; else a rule
+abbrev pub item-of : ℕ → Prog
+item-of a =
+    elim (eqb a k.IMPORT-KW) [
+      | true ↦ node IMPORT-STMT
+      | false ↦ elim (eqb a k.INCLUDE-KW) [ true ↦ node INCLUDE-STMT | false ↦ rule-decl ]
+    ]
 
 -- shut, so that no tactic computes with it unasked
 unfoldable pub grammar : Production → Prog
@@ -115,6 +125,8 @@ grammar EXPR-TUPLE = tuple k.COMMA (memo EXPR)
 grammar PATTERN-IDENT-TUPLE =
     one k.L-PAREN ⨟ one k.PATTERN-IDENT ⨟ opt (one k.ASTERISK)
     ⨟ many (one k.COMMA ⨟ one k.PATTERN-IDENT ⨟ opt (one k.ASTERISK)) ⨟ one k.R-PAREN
+grammar IMPORT-STMT = one k.IMPORT-KW ⨟ one k.STRING-LIT
+grammar INCLUDE-STMT = one k.INCLUDE-KW ⨟ one k.STRING-LIT
 
 -- the kind of a production's node
 unfoldable pub kind : Production → ℕ
@@ -149,3 +161,5 @@ kind ITERABLE = k.ITERABLE
 kind BOOLEAN-EXPR-TUPLE = k.BOOLEAN-EXPR-TUPLE
 kind EXPR-TUPLE = k.EXPR-TUPLE
 kind PATTERN-IDENT-TUPLE = k.PATTERN-IDENT-TUPLE
+kind IMPORT-STMT = k.IMPORT-STMT
+kind INCLUDE-STMT = k.INCLUDE-STMT

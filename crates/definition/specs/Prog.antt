@@ -3,7 +3,7 @@
 use Prim.Native.Nat.{ℕ}
 use mathlib.Core.List.{List}
 
--- "the productions from `rule_decl` down to `pattern_ident_tuple`"
+-- "the productions from `rule_decl` down to `pattern_ident_tuple`", and `import_stmt` and `include_stmt` (request (ii))
 pub data Production : Type 0 where
   RULE-DECL RULE-MODS RULE-TAGS META-BLK META-DEF : Production
   PATTERNS-BLK PATTERN-DEF PATTERN-MODS PATTERN-MOD : Production
@@ -11,6 +11,7 @@ pub data Production : Type 0 where
   CONDITION-BLK BOOLEAN-EXPR BOOLEAN-TERM EXPR FUNC-CALL RANGE TERM PRIMARY-EXPR : Production
   FOR-EXPR OF-EXPR WITH-EXPR WITH-DECLS WITH-DECL QUANTIFIER : Production
   ITERABLE BOOLEAN-EXPR-TUPLE EXPR-TUPLE PATTERN-IDENT-TUPLE : Production
+  IMPORT-STMT INCLUDE-STMT : Production
 
 -- `expect_d` with its set and the names that it enters; `not`; `if_next`; `opt`; a repetition; `then`; the last alternative of an `alt`; one step
 -- after another; an alternative before others; `recover`; a production; a `cached` production

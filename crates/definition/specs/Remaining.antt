@@ -11,7 +11,7 @@ use Rattle.kinds.specs.Kinds as k
 use Rattle.kinds.specs.Sets.{kindOf, pick, trivial}
 use Rattle.shapes.specs.Sort as Sort
 use Rattle.shapes.specs.Shapes.{Entry, Rec}
-use Rattle.definition.specs.Run.{State, Limits, Mode, ok, failed, stopped, rule-keywords, start, items}
+use Rattle.definition.specs.Run.{State, Limits, Mode, ok, failed, stopped, rule-keywords, statement-keywords, start, items}
 use Rattle.definition.specs.Render.{Source, starts-at, ends-at, span-end, Reading, inside, records}
 use Rattle.definition.specs.Answer.{Desk, source-of}
 
@@ -87,6 +87,11 @@ pub record Continued (L : Limits) (d : Desk) (s : State) (r r′ : Reading) : Ty
 abbrev pub Keyless : List ℕ → Type 0
 Keyless [] = Unit
 Keyless (i ∷ is) = (pick rule-keywords i ≡ none) × Keyless is
+
+-- "a junk run may not begin with one of the two"
+abbrev pub Astray : List ℕ → Type 0
+Astray [] = Unit
+Astray (i ∷ is) = pick statement-keywords i ≡ none
 
 -- not empty, and its last row is no trivia
 abbrev pub Solid : List ℕ → Type 0

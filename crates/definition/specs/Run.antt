@@ -9,7 +9,7 @@ use lib.ListN.{length}
 use Rattle.kinds.specs.Kinds as k
 use Rattle.kinds.specs.Sets.{idOf, kindOf, pick, trivial}
 use Rattle.definition.specs.Prog.{Production, Prog, eat, unless, ifnext, opt, many, then, _⨟_, _/_, last, recover, node, memo}
-use Rattle.definition.specs.Grammar.{grammar, kind, rule-decl}
+use Rattle.definition.specs.Grammar.{grammar, kind, item-of}
 
 -- "Stopped (out of fuel or too deep) is never left"
 pub data Stop : Type 0 where
@@ -374,25 +374,33 @@ run (suc d) o a s = nodes (suc d) o (kind a) (λ t. exec d (λ o b u. run d o b 
 abbrev pub rule-keywords : List ℕ
 rule-keywords = k.GLOBAL-KW ∷ k.PRIVATE-KW ∷ k.RULE-KW ∷ []
 
+-- "an import or include row"
+abbrev pub statement-keywords : List ℕ
+statement-keywords = k.IMPORT-KW ∷ k.INCLUDE-KW ∷ []
+
+-- what begins an item: "all five"
+abbrev pub item-keywords : List ℕ
+item-keywords = rule-keywords ++ statement-keywords
+
 -- "form 10's record comes before its event"
 abbrev pub blame : Reader
 blame s = let n = length (s .rest) in emit (bad n stray) (record { rest = s .rest; mode = s .mode; fuel = s .fuel; out = s .out; want = s .want; unwant = s .unwant; chosen = s .chosen; cache = s .cache; begun = s .begun; drafts = (s .out, (n, stray) ∷ s .chosen) ∷ s .drafts })
 
--- "a row other than the three rule keywords writes error form 10 on that row, then an ERROR node up to the next of them (or the last row that is not
--- trivia), without fuel"
+-- a row that begins no item "writes error form 10 on that row, then an ERROR node up to the next of them (or the last row that is not trivia), without
+-- fuel"; "The skipping at item position still ends at the three rule keywords only, so that junk swallows an import behind it"
 abbrev pub stray-item : Reader
 stray-item s =
     let n = length (s .rest) in
     let t = skip-to rule-keywords (emit (opened n) (blame s)) in
     emit (closed k.ERROR n (length (t .rest))) t
 
--- shut, so that no tactic computes a rule's reading unasked
-unfoldable pub read-rule : Limits → Reader
-read-rule L s = exec (L .depth) (run (L .depth)) rule-decl false s
+-- an item, outside optional parts; shut, so that no tactic computes its reading unasked
+unfoldable pub read-item : Limits → Prog → Reader
+read-item L p s = exec (L .depth) (run (L .depth)) p false s
 
 abbrev pub item-at : Limits → Next → Reader
 item-at L end s = s
-item-at L (hit a is) s = read-rule L s
+item-at L (hit a is) s = read-item L (item-of a) s
 item-at L other s = stray-item s
 
 -- "Pending errors .. are written as events after their item."
@@ -407,7 +415,7 @@ abbrev pub again : State → State
 again s = elim (s .mode) [ ok ↦ s | failed ↦ turn ok s | stopped w ↦ s ]
 
 abbrev pub item : Limits → State → State
-item L s = let t = trivia s in again (flush (item-at L (sought rule-keywords (t .rest)) t))
+item L s = let t = trivia s in again (flush (item-at L (sought item-keywords (t .rest)) t))
 
 -- n items, or as many as there are; a stopped reader begins none
 abbrev pub items : Limits → ℕ → State → State

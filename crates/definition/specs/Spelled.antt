@@ -7,3 +7,8 @@ use mathlib.Core.List as l
 abbrev pub spelled : String → l.List ℕ
 spelled [] = l.[]
 spelled (c ∷ t) = l._∷_ (code c) (spelled t)
+
+-- one text behind another
+abbrev pub joined : String → String → String
+joined [] t = t
+joined (c ∷ s) t = c ∷ joined s t

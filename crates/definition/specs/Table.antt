@@ -1,7 +1,8 @@
--- Document 01's small files, P1 to P9, as one table: `table` says that the public definition gives what the paper writes of each.
-use Prim.Native.Nat.{ℕ, zero, suc, _-_, _*_}
+-- Document 01's small files, P1 to P9, and those of request (ii), as one table: `table` says that the public definition gives what the paper writes of
+-- each of the first, and what the Rust gives for each of the others.
+use Prim.Native.Nat.{ℕ, zero, suc, _+_, _-_, _*_}
 use Prim.Native.String.{String}
-use mathlib.Core.List.{List, [], _∷_}
+use mathlib.Core.List.{List, [], _∷_, _++_}
 use mathlib.Core.Bool.{Bool, true, false, _&&_, _||_}
 use lib.Dec.{eqb}
 use lib.ListN.{length, replicate, take, drop}
@@ -10,7 +11,7 @@ use Rattle.shapes.specs.Shapes.{EVENT, flat}
 use Rattle.definition.specs.Run.{base}
 use Rattle.definition.specs.Answer.{Desk, words, After, after, filled}
 use Rattle.definition.specs.Merge.{Merged, unmerged, merged, merger}
-use Rattle.definition.specs.Spelled.{spelled}
+use Rattle.definition.specs.Spelled.{spelled, joined}
 
 abbrev pub same : List ℕ → List ℕ → Bool
 same [] [] = true
@@ -124,6 +125,61 @@ P8 =
     (4 ∷ 5 ∷ 6 ∷ 7 ∷ 16 ∷ 17 ∷ 21 ∷ 22 ∷ 26 ∷ 27 ∷ 28 ∷ 29 ∷ 38 ∷ 39 ∷ 43 ∷ 44 ∷ [])
     6 0 16 0 29 1 (22 ∷ 26 ∷ 1 ∷ 2 ∷ k.OPERATOR ∷ k.R-BRACE ∷ [])
 
+-- REQUEST (ii), for `import` and `include`: the word, its id and its length. What is expected is the Rust's; where a node is begun with no fuel left, the
+-- two events of its empty ERROR node are added, which the Rust leaves out (decision 1).
+abbrev ends-of : ℕ → List ℕ → List ℕ
+ends-of a [] = []
+ends-of a (w ∷ ws) = (a + w) ∷ ends-of (a + w) ws
+
+abbrev widths : List ℕ → List ℕ
+widths l = 4 ∷ 1 ∷ 1 ∷ 1 ∷ 9 ∷ 1 ∷ 4 ∷ 1 ∷ l
+
+module _ (word : String) (id z : ℕ) where
+  abbrev line : List ℕ → List ℕ
+  line l = id ∷ k.WHITESPACE ∷ k.STRING-LIT ∷ l
+
+  abbrev wide : List ℕ → List ℕ
+  wide l = z ∷ 1 ∷ 4 ∷ l
+
+  abbrev said : String → String
+  said t = joined word (joined " \"pe\"" t)
+
+  abbrev a-rule : String
+  a-rule = " rule a{condition:true}"
+
+  -- alone, with a fuel
+  abbrev pub alone : ℕ → ℕ → ℕ → ℕ → ℕ → ℕ → List ℕ → Case
+  alone = case (said "") (line []) (ends-of 0 (wide []))
+
+  -- with no string, before a rule: a damaged statement, then the rule is read
+  abbrev pub bare : ℕ → ℕ → ℕ → ℕ → ℕ → ℕ → List ℕ → Case
+  bare = case (joined word a-rule) (id ∷ k.WHITESPACE ∷ rule-ids (k.R-BRACE ∷ [])) (ends-of 0 (z ∷ 1 ∷ widths []))
+
+  -- behind a row that begins no item: swallowed
+  abbrev pub swallowed : Case
+  swallowed =
+      case (joined "@ " (said a-rule)) (k.UNKNOWN ∷ k.WHITESPACE ∷ line (k.WHITESPACE ∷ rule-ids (k.R-BRACE ∷ []))) (ends-of 0 (1 ∷ 1 ∷ wide (1 ∷ widths [])))
+      5 0 14 0 27 1 (0 ∷ 1 ∷ 10 ∷ 0 ∷ [])
+
+  abbrev pub statements : List Case
+  statements =
+      alone 0 1 0 0 4 0 []
+      ∷ alone 1 0 3 0 7 0 []
+      ∷ case (said a-rule) (line (k.WHITESPACE ∷ rule-ids (k.R-BRACE ∷ []))) (ends-of 0 (wide (1 ∷ widths []))) 6 0 12 0 24 0 []
+      ∷ bare 6 0 10 0 23 1 ((z + 1) ∷ (z + 5) ∷ 1 ∷ 1 ∷ k.STRING-LIT ∷ [])
+      ∷ bare 1 1 2 0 9 1 ((z + 1) ∷ (z + 5) ∷ 1 ∷ 1 ∷ k.STRING-LIT ∷ [])
+      ∷ bare 0 1 0 0 4 0 []
+      ∷ swallowed
+      ∷ case (joined "rule a{condition:true} " (said a-rule)) (rule-ids (k.R-BRACE ∷ k.WHITESPACE ∷ line (k.WHITESPACE ∷ rule-ids (k.R-BRACE ∷ []))))
+      (ends-of 0 (widths (1 ∷ wide (1 ∷ widths [])))) 11 0 21 0 41 0 []
+      ∷ []
+
+abbrev importing : List Case
+importing = statements "import" k.IMPORT-KW 6
+
+abbrev including : List Case
+including = statements "include" k.INCLUDE-KW 7
+
 -- "P4 whole"
 abbrev whole-4 : List ℕ
 whole-4 =
@@ -157,3 +213,8 @@ table =
     && merges whole-4 (merger whole-4 (EVENT * 6))
     && holds (1 ∷ k.ERROR ∷ 22 ∷ 43 ∷ []) 29 ((after base (desk P8 (EVENT * 29) 8)) .events)
     && merges one-error (merger two-errors 8)
+    && all (importing ++ including)
+    && holds (1 ∷ k.IMPORT-STMT ∷ 0 ∷ 11 ∷ []) 7 ((after base (desk (alone "import" k.IMPORT-KW 6 1 0 3 0 7 0 []) 28 8)) .events)
+    && holds (1 ∷ k.ERROR ∷ 0 ∷ 6 ∷ []) 23 ((after base (desk (bare "import" k.IMPORT-KW 6 6 0 10 0 23 1 []) 92 8)) .events)
+    && holds (1 ∷ k.ERROR ∷ 0 ∷ 13 ∷ []) 27 ((after base (desk (swallowed "import" k.IMPORT-KW 6) 108 8)) .events)
+    && holds (1 ∷ k.INCLUDE-STMT ∷ 0 ∷ 12 ∷ []) 7 ((after base (desk (alone "include" k.INCLUDE-KW 7 1 0 3 0 7 0 []) 28 8)) .events)

@@ -56,7 +56,7 @@ module _ (L : P.Limits) (d : Desk) where
 
   pub refused-so : (n : ℕ) → n ≡ refusal d → (n ≡ 0 → ⊥) → refusing n (d .events) (d .errors) (d .scratch) ≡ after L d
   refused-so n e h =
-      sym (as-it-was n (subst (λ (m : ℕ). m < 7) (sym e) (first-below (grounds d) (omega arith, (omega arith, (omega arith, (omega arith, (omega arith, (omega arith, tt)))))))))
+      sym (as-it-was n (subst (λ (m : ℕ). m < 7) (sym e) (first-below (grounds d) (omega arith, (omega arith, (omega arith, (omega arith, (omega arith, tt))))))))
       ∙ ap (left-by d) (sym (picked n _ h)) ∙ ap (λ (m : ℕ). left-by d (pick m found)) e
 
   -- none of them: the rooms decide

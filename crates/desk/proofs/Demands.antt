@@ -12,8 +12,7 @@ use Rattle.shapes.specs.Sort as Sort
 use Rattle.shapes.specs.Refusal as Refusal
 use Rattle.shapes.specs.Shapes.{EVENT, flat, entries, flat-records}
 use Rattle.shapes.proofs.Laws.{flat-length}
-use Rattle.definition.specs.Prog.{RULE-DECL}
-use Rattle.definition.specs.Ford.{Res, Ford, rules, star, nt, strip, Accepts}
+use Rattle.definition.specs.Ford.{Res, Ford, rules, star, strip, any-item, Accepts}
 use Rattle.definition.specs.Run as P
 use Rattle.definition.specs.Run.{Limits}
 use Rattle.definition.specs.Render.{Reading, inside}
@@ -128,7 +127,7 @@ module _ (L : Limits) (d : Desk) {o c e k f : ℕ} {ev er sc : List ℕ} (p : Pr
       ((λ h. i .0 (sym q ∙ h)), λ h. q ∙ i .1 h)
 
   -- and as one parsing expression of Ford's
-  pub read-accepts-ford : o ≡ 0 → (k ≡ 0) ↔ ((n : ℕ) × Ford rules (star (nt RULE-DECL)) (strip (d .ids)) n (Res.yes []))
+  pub read-accepts-ford : o ≡ 0 → (k ≡ 0) ↔ ((n : ℕ) × Ford rules (star any-item) (strip (d .ids)) n (Res.yes []))
   read-accepts-ford z =
       let i = theorems.demand-2-ford L d zero-number (sym (ap (λ (a : After). a .outcome) p) ∙ z) in
       let q : k ≡ (after L d) .error-count = ap (λ (a : After). a .error-count) p in

@@ -62,7 +62,7 @@ again-chosen (stopped w) s = refl
 item-chosen : (L : P.Limits) (s : P.State) → P.item L s .chosen ≡ []
 item-chosen L s =
     let t : P.State = P.trivia s in
-    let u : P.State = P.flush (P.item-at L (P.sought P.rule-keywords (t .rest)) t) in
+    let u : P.State = P.flush (P.item-at L (P.sought P.item-keywords (t .rest)) t) in
     again-chosen (u .mode) u
 
 items-chosen : (L : P.Limits) (n : ℕ) (s : P.State) → s .chosen ≡ [] → P.items L n s .chosen ≡ []

@@ -1,4 +1,4 @@
--- The row at hand: a rule, a row that begins none, or nothing. Assumes nothing.
+-- The row at hand: an item, a row that begins none, or nothing. Assumes nothing.
 use Prim.Native.Nat.{ℕ, suc, _+_, _-_, _≤_, _<_}
 use mathlib.Core.Path.{_≡_, refl, sym, ap, subst, _∙_}
 use mathlib.Core.List.{List, [], _∷_, _++_}
@@ -9,19 +9,21 @@ use native.Mathlib.Omega.{arith}
 use lib.Dec.{eqb}
 use lib.ListN.{length, getD, drop, drop-of-length-le, length-append}
 use lib.Seq.{drop-cons}
-use Rattle.kinds.specs.Sets.{pick}
+use Rattle.kinds.specs.Sets.{idOf, pick}
 use Rattle.kinds.specs.Answers.{isSome}
 use Rattle.shapes.specs.Shapes.{Rec}
-use Rattle.definition.specs.Grammar.{rule-decl}
+use Rattle.definition.specs.Prog.{Prog}
+use Rattle.definition.specs.Grammar.{item-of}
 use Rattle.definition.specs.Run as P
 use Rattle.definition.specs.Run.{Choice, Limits, Next, end, other, hit}
 use Rattle.definition.specs.Render.{Source, records}
+use Rattle.definition.proofs.Accept.{each-at}
 use Rattle.notes.specs.Whole.{Whole}
 use Rattle.notes.specs.Means.{Bufs, Past, Means, Stands, Apart, recorded, overOf}
 use Rattle.notes.specs.Did.{Wf, Did, Below, Distinct}
 use Rattle.notes.proofs.Core.{Sticky}
 use Rattle.notes.proofs.Sticky.{sticky-exec}
-use Rattle.steps.proofs.Next.{lacks, has-some, picked}
+use Rattle.steps.proofs.Next.{lacks, has-some}
 use Rattle.notes.proofs.Pigeon.{few}
 use Rattle.desk.specs.Items.{Tally, since, at-hand, pastOf, Free, Strays, Hands}
 use Rattle.desk.proofs.Telling.{recorded-length}
@@ -45,25 +47,30 @@ heard {p} {x} {s} {b} {a} t = record { over = t .over; means = λ z. let m = t .
           cache = m .cache;
         }
 
-sticky-rule : (L : Limits) (p : Past) (x : Source) (a : P.State) → Sticky p x a (P.read-rule L a)
-unfolding P.read-rule
-sticky-rule L p x a = sticky-exec p x (L .depth) rule-decl false a
+sticky-item : (L : Limits) (p : Past) (x : Source) (q : Prog) (a : P.State) → Sticky p x a (P.read-item L q a)
+unfolding P.read-item
+sticky-item L p x q a = sticky-exec p x (L .depth) q false a
 
 pub sticky-hand : (L : Limits) (p : Past) (x : Source) (a : P.State) → Sticky p x a (at-hand L a)
-sticky-hand L p x a = go (P.sought P.rule-keywords (a .rest))
+sticky-hand L p x a = go (P.sought P.item-keywords (a .rest))
   where
     go : (n : Next) → Sticky p x a (P.item-at L n a)
     go end = λ z. refl
     go other = sticky-stray p x a
-    go (hit i is) = sticky-rule L p x a
+    go (hit i is) = sticky-item L p x (item-of i) a
+
+-- the kinds of the rows that begin an item have the numbers of their ids
+own-kind : (i a : ℕ) → pick P.item-keywords i ≡ some a → a ≡ i
+unfolding idOf
+own-kind = each-at (λ (a i : ℕ). a ≡ i) P.item-keywords (refl, (refl, (refl, (refl, (refl, tt)))))
 
 -- what stands at hand
 module _ (ids : List ℕ) (at : ℕ) where
-  at-end : length ids ≤ at → P.sought P.rule-keywords (drop at ids) ≡ end
-  at-end h = ap (P.sought P.rule-keywords) (drop-of-length-le ids h)
+  at-end : length ids ≤ at → P.sought P.item-keywords (drop at ids) ≡ end
+  at-end h = ap (P.sought P.item-keywords) (drop-of-length-le ids h)
 
-  at-row : (o : Option ℕ) → at < length ids → pick P.rule-keywords (getD ids at 0) ≡ o → P.sought P.rule-keywords (drop at ids) ≡ elim o [ none ↦ other | some a ↦ hit a (drop (suc at) ids) ]
-  at-row o h e = ap (P.sought P.rule-keywords) (drop-cons ids at 0 h) ∙ ap (λ (t : Option ℕ). elim t [ none ↦ other | some a ↦ hit a (drop (suc at) ids) ]) e
+  at-row : (o : Option ℕ) → at < length ids → pick P.item-keywords (getD ids at 0) ≡ o → P.sought P.item-keywords (drop at ids) ≡ elim o [ none ↦ other | some a ↦ hit a (drop (suc at) ids) ]
+  at-row o h e = ap (P.sought P.item-keywords) (drop-cons ids at 0 h) ∙ ap (λ (t : Option ℕ). elim t [ none ↦ other | some a ↦ hit a (drop (suc at) ids) ]) e
 
 -- errors at rows of their own are few
 abbrev rows : List (ℕ × Choice) → List ℕ
@@ -101,12 +108,12 @@ hand-stuck {depth} {x} n w =
 
 -- by what stands at hand
 module _ {x : Source} {s : Whole} {b : Bufs} (z : s .full ≡ 0) where
-  hand-is : (n : Next) → P.sought P.rule-keywords (drop (s .pos) (x .ids)) ≡ n → {p : Past} {a : P.State} → Stands p x s b a → P.item-at (p .limits) n a ≡ at-hand (p .limits) a
-  hand-is n q {p} {a} t = ap (λ (k : Next). P.item-at (p .limits) k a) (sym (ap (P.sought P.rule-keywords) (t .means z .rest) ∙ q))
+  hand-is : (n : Next) → P.sought P.item-keywords (drop (s .pos) (x .ids)) ≡ n → {p : Past} {a : P.State} → Stands p x s b a → P.item-at (p .limits) n a ≡ at-hand (p .limits) a
+  hand-is n q {p} {a} t = ap (λ (k : Next). P.item-at (p .limits) k a) (sym (ap (P.sought P.item-keywords) (t .means z .rest) ∙ q))
 
 module _ {depth : ℕ} {x : Source} {s : Whole} {b : Bufs} (z : s .full ≡ 0) where
   -- n was read, as the definition does it
-  hands : (n : Next) → P.sought P.rule-keywords (drop (s .pos) (x .ids)) ≡ n → (d : Tally) (before : ℕ) {b′ : Bufs}
+  hands : (n : Next) → P.sought P.item-keywords (drop (s .pos) (x .ids)) ≡ n → (d : Tally) (before : ℕ) {b′ : Bufs}
       → ((p : Past) (a : P.State) → p .limits .depth ≡ depth → Stands p x s b a → Free p s before a → (l : List Rec) × Stands (since p l) x (d .state) b′ (P.item-at (p .limits) n a) × (d .state .full ≡ 0 → d .before ≡ length l) × (d .state .full ≡ 0 → d .before + length (P.item-at (p .limits) n a .chosen) ≤ before + (length (x .ids) - s .first) + 1))
       → Wf x b′ (d .state) → d .state .first ≡ s .first → s .pos ≤ d .state .pos → Hands depth x s before d b b′
   hands n q d before {b′} g w same h =
@@ -126,18 +133,18 @@ module _ {depth : ℕ} {x : Source} {s : Whole} {b : Bufs} (z : s .full ≡ 0) w
   hand-end {before} h w = hands end (at-end (x .ids) (s .pos) h) (record { state = s; before = before }) before (λ p a i t f. (p .records, t, (λ v. f z .1), λ v. omega (arith, ap length (f z .0)))) w refl (le-refl _)
 
   module _ (h : s .pos < length (x .ids)) where
-    pub hand-rule : {before : ℕ} {r : Whole} {b′ : Bufs} → true ≡ isSome (pick P.rule-keywords (getD (x .ids) (s .pos) 0)) → ((L : Limits) → L .depth ≡ depth → Did (P.read-rule L) x s r b b′) → Hands depth x s before (record { state = r; before = before }) b b′
-    hand-rule {before} {r} e y =
+    pub hand-item : {before : ℕ} {r : Whole} {b′ : Bufs} → true ≡ isSome (pick P.item-keywords (getD (x .ids) (s .pos) 0)) → ((L : Limits) → L .depth ≡ depth → Did (P.read-item L (item-of (getD (x .ids) (s .pos) 0))) x s r b b′) → Hands depth x s before (record { state = r; before = before }) b b′
+    hand-item {before} {r} e y =
         let i = getD (x .ids) (s .pos) 0 in
-        let o = picked (pick P.rule-keywords i) in
+        let e′ = has-some P.item-keywords i e in
         let any = y (record { depth = depth; quote = 0 }) refl in
-        hands (hit o (drop (suc (s .pos)) (x .ids))) (at-row (x .ids) (s .pos) (some o) h (has-some P.rule-keywords i e)) (record { state = r; before = before }) before
-        (λ p a e t f. let u = y (p .limits) e in (p .records, u .does p a t, (λ v. f z .1), λ v. omega (arith, apart-few (length (x .ids) - r .first) (P.read-rule (p .limits) a .chosen) (u .does p a t .means v .chosen .apart), u .first)))
+        hands (hit i (drop (suc (s .pos)) (x .ids))) (at-row (x .ids) (s .pos) (some i) h (e′ ∙ ap some (own-kind i _ e′))) (record { state = r; before = before }) before
+        (λ p a e t f. let u = y (p .limits) e in (p .records, u .does p a t, (λ v. f z .1), λ v. omega (arith, apart-few (length (x .ids) - r .first) (P.read-item (p .limits) (item-of i) a .chosen) (u .does p a t .means v .chosen .apart), u .first)))
         (any .wf) (any .first) (any .ahead)
 
-    pub hand-stray : {before : ℕ} {d : Tally} {b′ : Bufs} → false ≡ isSome (pick P.rule-keywords (getD (x .ids) (s .pos) 0)) → Strays x s before d b b′ → Hands depth x s before d b b′
+    pub hand-stray : {before : ℕ} {d : Tally} {b′ : Bufs} → false ≡ isSome (pick P.item-keywords (getD (x .ids) (s .pos) 0)) → Strays x s before d b b′ → Hands depth x s before d b b′
     hand-stray {before} {d} e y =
-        hands other (at-row (x .ids) (s .pos) none h (lacks P.rule-keywords (getD (x .ids) (s .pos) 0) e)) d before
+        hands other (at-row (x .ids) (s .pos) none h (lacks P.item-keywords (getD (x .ids) (s .pos) 0) e)) d before
         (λ p a i t f.
         let one : List (ℕ × Choice) = (length (a .rest), P.stray) ∷ [] in
         (p .records ++ recorded (p .limits) x one, y .does p a t f, y .count p a t f, λ v. omega (arith, y .count p a t f v, f z .1, length-append (p .records) (recorded (p .limits) x one), recorded-length (p .limits) x one, ap length (f z .0))))

@@ -101,7 +101,7 @@ blamed p x a = since p (p .records ++ recorded (p .limits) x ((length (a .rest),
 abbrev pub Free : Past → Whole → ℕ → P.State → Type 0
 Free p s before a = s .full ≡ 0 → (a .chosen ≡ []) × (before ≡ length (p .records)) × (before < most)
 
--- a row that begins no rule was written as an error
+-- a row that begins no item was written as an error
 pub record Strays (x : Source) (s : Whole) (before : ℕ) (r : Tally) (b b′ : Bufs) : Type 0 where
   pub does : (p : Past) (a : P.State) → Stands p x s b a → Free p s before a → Stands (blamed p x a) x (r .state) b′ (P.stray-item a)
   pub count : (p : Past) (a : P.State) → Stands p x s b a → Free p s before a → r .state .full ≡ 0 → r .before ≡ length (blamed p x a .records)
@@ -112,7 +112,7 @@ pub record Strays (x : Source) (s : Whole) (before : ℕ) (r : Tally) (b b′ : 
 
 -- by the row at hand
 abbrev pub at-hand : Limits → P.Reader
-at-hand L a = P.item-at L (P.sought P.rule-keywords (a .rest)) a
+at-hand L a = P.item-at L (P.sought P.item-keywords (a .rest)) a
 
 -- the limits and rooms, and the records of the errors that stand written
 abbrev pub pastOf : Limits → ℕ → ℕ → Source → P.State → Past

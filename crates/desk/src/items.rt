@@ -1,6 +1,6 @@
 // Items, one after another.
 use choice::record;
-use grammar::parts::rule_item;
+use grammar::parts::read_item;
 use kinds::kind;
 use kinds::set;
 use kinds::within;
@@ -104,7 +104,7 @@ pub fn junk(
     s.shut(kind::ERROR, from, at, ends, events)
 }
 
-// A row that begins no rule: error form 10 on it, its record before its event, and an ERROR node.
+// A row that begins no item: error form 10 on it, its record before its event, and an ERROR node.
 pub fn stray(
     mut s: State,
     before: u32,
@@ -140,7 +140,7 @@ pub fn stray(
     }
 }
 
-// By the row at hand: a rule, or a row that begins none; or nothing is left.
+// By the row at hand: an item, or a row that begins none; or nothing is left.
 pub fn at_hand(
     s: State,
     before: u32,
@@ -152,7 +152,7 @@ pub fn at_hand(
     errors: &mut [u32],
     scratch: &mut [u64],
     notes: &mut [usize; 68],
-    table: &[u32; 284],
+    table: &[u32; 288],
     sets: &[[u64; 2]; 55],
 ) -> Desk
     requires { ⌜
@@ -178,8 +178,9 @@ pub fn at_hand(
         };
     }
     let id = ids[at];
-    if within(set::RULE_KEYWORDS, id, sets) {
-        let t = rule_item(
+    if within(set::RULE_OR_IMPORT, id, sets) {
+        let t = read_item(
+            id,
             s,
             depth,
             src,
@@ -254,7 +255,7 @@ pub fn item(
     errors: &mut [u32],
     scratch: &mut [u64],
     notes: &mut [usize; 68],
-    table: &[u32; 284],
+    table: &[u32; 288],
     sets: &[[u64; 2]; 55],
 ) -> Desk
     requires { ⌜
@@ -301,7 +302,7 @@ pub fn items(
     errors: &mut [u32],
     scratch: &mut [u64],
     notes: &mut [usize; 68],
-    table: &[u32; 284],
+    table: &[u32; 288],
     sets: &[[u64; 2]; 55],
 ) -> Desk
     requires { ⌜

@@ -460,16 +460,80 @@ fn tiling() {
     three(b"overlap", &two, &over_starts, &over_ends);
 }
 
+// An import alone, with that fuel.
+fn import_alone(name: &[u8], fuel: u32, listed: bool) {
+    let ids = [25, 0, 72];
+    let starts = [0, 6, 7];
+    let ends = [6, 7, 11];
+    in_rooms(
+        name,
+        b"import \"pe\"",
+        &ids,
+        &starts,
+        &ends,
+        fuel,
+        1,
+        128,
+        32,
+        listed,
+    );
+}
+
+// An import without its string, and R.
+fn damaged_import() {
+    let ids = [25, 0, 37, 0, 74, 66, 12, 58, 41, 67];
+    let starts = [0, 6, 7, 11, 12, 13, 14, 23, 24, 28];
+    let ends = [6, 7, 11, 12, 13, 14, 23, 24, 28, 29];
+    case(
+        b"import without string, rule",
+        b"import rule a{condition:true}",
+        &ids,
+        &starts,
+        &ends,
+        6,
+    );
+}
+
+// Behind a row that begins no item.
+fn swallowed_import() {
+    let ids = [3, 0, 25, 0, 72, 0, 37, 0, 74, 66, 12, 58, 41, 67];
+    let starts = [0, 1, 2, 8, 9, 13, 14, 18, 19, 20, 21, 30, 31, 35];
+    let ends = [1, 2, 8, 9, 13, 14, 18, 19, 20, 21, 30, 31, 35, 36];
+    case(
+        b"import swallowed",
+        b"@ import \"pe\" rule a{condition:true}",
+        &ids,
+        &starts,
+        &ends,
+        5,
+    );
+}
+
+fn include_first() {
+    let ids = [27, 0, 72, 0, 37, 0, 74, 66, 12, 58, 41, 67];
+    let starts = [0, 7, 8, 12, 13, 17, 18, 19, 20, 29, 30, 34];
+    let ends = [7, 8, 12, 13, 17, 18, 19, 20, 29, 30, 34, 35];
+    case(
+        b"include, rule",
+        b"include \"pe\" rule a{condition:true}",
+        &ids,
+        &starts,
+        &ends,
+        6,
+    );
+}
+
+// What is expected here is the Rust's.
 fn imports() {
-    one(b"4 before 5", b"import", 25, 0, 5);
-    one(b"import", b"import", 25, 0, 6);
-    one(b"include", b"include", 27, 0, 7);
+    one(b"import, end short", b"import", 25, 0, 5);
+    one(b"import without string", b"import", 25, 0, 6);
+    one(b"include without string", b"include", 27, 0, 7);
     let ids = [74, 0, 25];
     let starts = [0, 1, 2];
     let ends = [1, 2, 3];
     three(b"import last", &ids, &starts, &ends);
     in_rooms(
-        b"5 before 6",
+        b"import, no words",
         b"a b",
         &ids,
         &starts,
@@ -480,6 +544,11 @@ fn imports() {
         32,
         false,
     );
+    import_alone(b"import, fuel 0", 0, false);
+    import_alone(b"import, fuel 1", 1, true);
+    damaged_import();
+    swallowed_import();
+    include_first();
 }
 
 fn words() {

@@ -16,7 +16,7 @@ use Rattle.kinds.specs.Answers.{isSome}
 use Rattle.kinds.proofs.Tables.{both, both-left, both-right, all, all-sound}
 use Rattle.definition.specs.Prog.{Prog}
 use Rattle.definition.specs.Prog as G
-use Rattle.definition.specs.Grammar.{grammar, kind, rule-decl}
+use Rattle.definition.specs.Grammar.{grammar, kind, rule-decl, item-of}
 use Rattle.definition.specs.Run as P
 use Rattle.definition.specs.Render.{Source}
 use Rattle.definition.proofs.Every.{productions}
@@ -34,8 +34,8 @@ use Rattle.steps.proofs.Branch as branch
 use Rattle.steps.proofs.Next.{if-ok-yes, next-lacks, next-end}
 use Rattle.grammar.specs.declared.parts.First.{First}
 use Rattle.grammar.specs.declared.parts.First.the-variants.{Unknown, Missed}
-use Rattle.grammar.specs.Rows.{rows, size, item}
-use Rattle.grammar.specs.Table.{Lent, Row, Missing, Foretold, missedOf, rowOf, split, stepOf, reads, follows, followed, made, partOf, production, progOf, prog, Line, Cached}
+use Rattle.grammar.specs.Rows.{rows, size, rule-item, import-item, include-item}
+use Rattle.grammar.specs.Table.{Lent, Row, Missing, Foretold, missedOf, rowOf, split, stepOf, reads, follows, followed, made, partOf, production, progOf, prog, Line, Begins, Cached}
 
 -- the code's rows are the definition's
 pub rows-lent : Lent rows
@@ -247,14 +247,27 @@ module _ (d : ℕ) (o : Bool) {x : Source} {s r : Whole} {b b′ : Bufs} where
     pub is-recover : (n ≡ 1 → ⊥) → Did (P.recovery d o (setOf c)) x s r b b′ → Did (reads d o (stepOf n c)) x s r b b′
     is-recover f y = subst (λ (t : Bool). Did (reads d o (ifb t (G.unless (setOf c)) (G.recover (setOf c)))) x s r b b′) (sym (ne-eqb n 1 f)) y
 
--- an item that begins with a rule keyword
-item-stands : prog item ≡ rule-decl
+-- items, by their first row
+items-stand : (prog rule-item ≡ rule-decl) × (prog import-item ≡ G.node G.IMPORT-STMT) × (prog include-item ≡ G.node G.INCLUDE-STMT)
 unfolding prog partOf rowOf production productions namesOf
-item-stands = refl
+items-stand = (refl, refl, refl)
 
-pub is-item : (L : P.Limits) {depth : ℕ} {x : Source} {s r : Whole} {b b′ : Bufs} → L .depth ≡ depth → Did (reads depth false (prog item)) x s r b b′ → Did (P.read-rule L) x s r b b′
-unfolding P.read-rule
-is-item L {depth} {x} {s} {r} {b} {b′} e y = subst (λ (q : Prog). Did (reads (L .depth) false q) x s r b b′) item-stands (subst (λ (d : ℕ). Did (reads d false (prog item)) x s r b b′) (sym e) y)
+abbrev by-first : Bool → Bool → Prog
+by-first m n = elim m [ true ↦ G.node G.IMPORT-STMT | false ↦ elim n [ true ↦ G.node G.INCLUDE-STMT | false ↦ rule-decl ] ]
+
+module _ (a : ℕ) where
+  pub starts-import : a ≡ k.IMPORT-KW → Begins a import-item
+  starts-import e = record { item = items-stand .1 ∙ sym (ap (λ (m : Bool). by-first m (eqb a k.INCLUDE-KW)) (eq-eqb a k.IMPORT-KW e)); inside = (omega arith, omega arith) }
+
+  pub starts-include : (a ≡ k.IMPORT-KW → ⊥) → a ≡ k.INCLUDE-KW → Begins a include-item
+  starts-include n e = record { item = items-stand .2 ∙ sym (ap₂ by-first (ne-eqb a k.IMPORT-KW n) (eq-eqb a k.INCLUDE-KW e)); inside = (omega arith, omega arith) }
+
+  pub starts-rule : (a ≡ k.IMPORT-KW → ⊥) → (a ≡ k.INCLUDE-KW → ⊥) → Begins a rule-item
+  starts-rule m n = record { item = items-stand .0 ∙ sym (ap₂ by-first (ne-eqb a k.IMPORT-KW m) (ne-eqb a k.INCLUDE-KW n)); inside = (omega arith, omega arith) }
+
+pub is-item : (L : P.Limits) {depth : ℕ} {a i : ℕ} → Begins a i → {x : Source} {s r : Whole} {b b′ : Bufs} → L .depth ≡ depth → Did (reads depth false (prog i)) x s r b b′ → Did (P.read-item L (item-of a)) x s r b b′
+unfolding P.read-item
+is-item L {depth} {a} {i} t {x} {s} {r} {b} {b′} e y = subst (λ (q : Prog). Did (reads (L .depth) false q) x s r b b′) (t .item) (subst (λ (d : ℕ). Did (reads d false (prog i)) x s r b b′) (sym e) y)
 
 -- what is left of a line
 module _ (d : ℕ) (o : Bool) {x : Source} {s z : Whole} {b b₂ : Bufs} where

@@ -10,7 +10,7 @@ use Rattle.kinds.specs.Kinds as k
 use Rattle.kinds.specs.Sets.{setOf}
 use Rattle.definition.specs.Prog.{Prog, Production, eat, unless, ifnext, opt, many, then, _⨟_, last, recover, node, memo, RULE-DECL}
 use Rattle.definition.specs.Prog as G
-use Rattle.definition.specs.Grammar.{grammar, kind}
+use Rattle.definition.specs.Grammar.{grammar, kind, item-of}
 use Rattle.definition.specs.Run as P
 use Rattle.definition.proofs.Every.{productions}
 use Rattle.notes.specs.Bits.{ifb}
@@ -95,6 +95,11 @@ Row i = (0 < i) × (i < size)
 pub record Line (a i : ℕ) : Type 0 where
   pub known : kind (production a) ≡ a
   pub line : prog i ≡ grammar (production a)
+  pub inside : Row i
+
+-- the row of an item whose first row has kind a
+pub record Begins (a i : ℕ) : Type 0 where
+  pub item : prog i ≡ item-of a
   pub inside : Row i
 
 -- "`cached` (EXPR, TERM)", and the bit of a row

@@ -1,6 +1,8 @@
 // What reads by the table: one function for each combinator. They call one another in a cycle, and what falls is d, the nodes that
 // may still be opened, and within a line the row of the table.
-use crate::table::ITEM;
+use crate::table::IMPORT_ITEM;
+use crate::table::INCLUDE_ITEM;
+use crate::table::RULE_ITEM;
 use kinds::kind;
 use kinds::within;
 use notes::cache::remembers;
@@ -22,7 +24,7 @@ ghost use Rattle.notes.specs.Means.{source, bufs, Rows};
 ghost use Rattle.notes.specs.Did.{Wf, Did, Both};
 ghost use Rattle.steps.specs.Steps.{whole, Whence, Tabled};
 ghost use Rattle.grammar.specs.Rows.{size};
-ghost use Rattle.grammar.specs.Table.{Lent, Lends, Row, Foretold, missedOf, partOf, stepOf, prog, production, reads, Line, Cached, Bit};
+ghost use Rattle.grammar.specs.Table.{Lent, Lends, Row, Foretold, missedOf, partOf, stepOf, prog, production, reads, Line, Begins, Cached, Bit};
 
 // `not`, beside `recover`.
 const UNLESS: u32 = 1;
@@ -49,7 +51,7 @@ pub enum Part {
 }
 
 // A row of the table, which is lent: a table named where it is read would be laid out anew for each row.
-fn part_at(i: usize, table: &[u32; 284]) -> Part
+fn part_at(i: usize, table: &[u32; 288]) -> Part
     requires { ⌜ (i < size) × Lent (now table) ⌝ }
     ensures { λ r. ⌜ r ≡ partOf i ⌝ }
 {
@@ -98,7 +100,7 @@ fn first_row(
     p: usize,
     pos: usize,
     ids: &[u32],
-    table: &[u32; 284],
+    table: &[u32; 288],
     sets: &[[u64; 2]; 55],
 ) -> First
     requires { ⌜ (p < size) × Lends (now table) (now sets) × (pos ≤ length (now ids)) ⌝ }
@@ -185,7 +187,7 @@ fn exec(
     errors: &mut [u32],
     scratch: &mut [u64],
     notes: &mut [usize; 68],
-    table: &[u32; 284],
+    table: &[u32; 288],
     sets: &[[u64; 2]; 55],
 ) -> State
     requires { ⌜
@@ -375,7 +377,7 @@ fn node(
     errors: &mut [u32],
     scratch: &mut [u64],
     notes: &mut [usize; 68],
-    table: &[u32; 284],
+    table: &[u32; 288],
     sets: &[[u64; 2]; 55],
 ) -> State
     requires { ⌜
@@ -450,7 +452,7 @@ fn cached(
     errors: &mut [u32],
     scratch: &mut [u64],
     notes: &mut [usize; 68],
-    table: &[u32; 284],
+    table: &[u32; 288],
     sets: &[[u64; 2]; 55],
 ) -> State
     requires { ⌜
@@ -510,7 +512,7 @@ fn many(
     errors: &mut [u32],
     scratch: &mut [u64],
     notes: &mut [usize; 68],
-    table: &[u32; 284],
+    table: &[u32; 288],
     sets: &[[u64; 2]; 55],
 ) -> State
     requires { ⌜
@@ -555,8 +557,22 @@ fn many(
     s
 }
 
-// An item that begins with a rule keyword: a rule, and recovery behind it. `depth` nodes may be open besides SOURCE_FILE.
-pub fn rule_item(
+// The row that reads an item, by the kind of the item's first row.
+fn item_row(first: u32) -> usize
+    ensures { λ r. ⌜ Begins first r ⌝ }
+{
+    if first == kind::IMPORT_KW {
+        return IMPORT_ITEM;
+    }
+    if first == kind::INCLUDE_KW {
+        return INCLUDE_ITEM;
+    }
+    RULE_ITEM
+}
+
+// An item: a rule and recovery behind it, or an import or an include, behind which there is none. `depth` nodes may be open besides SOURCE_FILE.
+pub fn read_item(
+    first: u32,
     s: State,
     depth: usize,
     src: &[u8],
@@ -566,7 +582,7 @@ pub fn rule_item(
     errors: &mut [u32],
     scratch: &mut [u64],
     notes: &mut [usize; 68],
-    table: &[u32; 284],
+    table: &[u32; 288],
     sets: &[[u64; 2]; 55],
 ) -> State
     requires { ⌜
@@ -575,12 +591,13 @@ pub fn rule_item(
         × Lends (now table) (now sets) ⌝ }
     ensures { λ r. ⌜
         ((L : P.Limits) → L .depth ≡ depth
-        → Did (P.read-rule L) (source (now (src .entry)) (now (ids .entry)) (now (ends .entry))) (whole s (now (notes .entry)))
+        → Did (P.read-item L (K.item-of first)) (source (now (src .entry)) (now (ids .entry)) (now (ends .entry))) (whole s (now (notes .entry)))
         (whole r (now (notes .exit))) (bufs (now (events .entry)) (now (errors .entry)) (now (scratch .entry)))
         (bufs (now (events .exit)) (now (errors .exit)) (now (scratch .exit)))) ⌝ }
 {
+    let row = item_row(first);
     exec(
-        ITEM,
+        row,
         s,
         depth,
         false,

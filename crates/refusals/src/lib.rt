@@ -1,12 +1,11 @@
-// The desk's refusals 1 to 6.
-use kinds::id;
+// The desk's refusals 1 to 6; 5 is given no more.
 use kinds::is_id;
 use shapes::refusal;
 ghost use mathlib.Core.Path.{_≡_};
 ghost use mathlib.Core.List.{List};
 ghost use Prim.Native.Nat.{ℕ};
 ghost use lib.ListN.{length};
-ghost use Rattle.definition.specs.Answer.{any, no-id, elsewhere, tile, refusal};
+ghost use Rattle.definition.specs.Answer.{any, no-id, tile, refusal};
 ghost use Rattle.refusals.specs.Judge.{desk};
 
 // Whether a row has an id that is none.
@@ -17,31 +16,6 @@ fn unknown(ids: &[u32]) -> bool
     while at < ids.len() {
         let row = ids[at];
         if !is_id(row) {
-            return true;
-        }
-        at += 1;
-    }
-    false
-}
-
-// Whether an id begins an import or an include.
-fn brings_in(row: u32) -> bool
-    ensures { λ r. ⌜ r ≡ elsewhere row ⌝ }
-{
-    if row == id::IMPORT_KW {
-        return true;
-    }
-    row == id::INCLUDE_KW
-}
-
-// Whether there is an import or include row.
-fn imports(ids: &[u32]) -> bool
-    ensures { λ r. ⌜ r ≡ any elsewhere (now (ids .entry)) ⌝ }
-{
-    let mut at = 0;
-    while at < ids.len() {
-        let row = ids[at];
-        if brings_in(row) {
             return true;
         }
         at += 1;
@@ -99,9 +73,6 @@ pub fn judged(src: &[u8], ids: &[u32], starts: &[u32], ends: &[u32], scratch: us
     }
     if !tiles(src.len(), starts, ends) {
         return refusal::TILES;
-    }
-    if imports(ids) {
-        return refusal::IMPORT;
     }
     if scratch < (2 * (rows + 1) + 63) / 64 {
         return refusal::SCRATCH;

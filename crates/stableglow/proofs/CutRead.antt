@@ -8,7 +8,7 @@ use native.Mathlib.Nat.{max-le}
 use lib.Dec.{eqb, ltb}
 use lib.ListN.{length, take, drop, length-map}
 use borrow.Author.Tests.{eq-eqb, lt-ltb, le-ltb, ltb-false}
-use Rattle.definition.specs.Answer.{Desk, no-id, elsewhere, tile, words, grounds, first-of, refusal, any}
+use Rattle.definition.specs.Answer.{Desk, no-id, tile, words, grounds, first-of, refusal, any}
 use Rattle.cutter.specs.Rows.{After, cutting, put, refused, cut}
 use Rattle.cutter.specs.Tiles.{Tiles, Ids}
 use Rattle.cutter.proofs.Tiling.{tiles}
@@ -82,14 +82,13 @@ pub record Takes (d : Desk) (rows : ℕ) : Type 0 where
   pub not-one : rows ≤ 65536 → refusal d ≡ 1 → ⊥
 
 -- the second, third and fourth ground do not apply
-abbrev rest : Bool → Bool → Bool → ℕ
-rest a f g = first-of ((a, 1) ∷ (false, 2) ∷ (false, 3) ∷ (false, 4) ∷ (f, 5) ∷ (g, 6) ∷ [])
+abbrev rest : Bool → Bool → ℕ
+rest a g = first-of ((a, 1) ∷ (false, 2) ∷ (false, 3) ∷ (false, 4) ∷ (g, 6) ∷ [])
 
-rest-not : (a f g : Bool) → (rest a f g ≡ 2 → ⊥) × (rest a f g ≡ 3 → ⊥) × (rest a f g ≡ 4 → ⊥) × (a ≡ false → rest a f g ≡ 1 → ⊥)
-rest-not true f g = (λ e. omega (arith, e), λ e. omega (arith, e), λ e. omega (arith, e), λ e. let z : _≡_ {A = ℕ} 0 1 = cc in absurd (omega arith))
-rest-not false true g = (λ e. omega (arith, e), λ e. omega (arith, e), λ e. omega (arith, e), λ _ e. omega (arith, e))
-rest-not false false true = (λ e. omega (arith, e), λ e. omega (arith, e), λ e. omega (arith, e), λ _ e. omega (arith, e))
-rest-not false false false = (λ e. omega (arith, e), λ e. omega (arith, e), λ e. omega (arith, e), λ _ e. omega (arith, e))
+rest-not : (a g : Bool) → (rest a g ≡ 2 → ⊥) × (rest a g ≡ 3 → ⊥) × (rest a g ≡ 4 → ⊥) × (a ≡ false → rest a g ≡ 1 → ⊥)
+rest-not true g = (λ e. omega (arith, e), λ e. omega (arith, e), λ e. omega (arith, e), λ e. let z : _≡_ {A = ℕ} 0 1 = cc in absurd (omega arith))
+rest-not false true = (λ e. omega (arith, e), λ e. omega (arith, e), λ e. omega (arith, e), λ _ e. omega (arith, e))
+rest-not false false = (λ e. omega (arith, e), λ e. omega (arith, e), λ e. omega (arith, e), λ _ e. omega (arith, e))
 
 -- lists of one length, which is small
 same-lengths : (n a b : ℕ) → n ≡ a → n ≡ b → not (eqb n a && eqb n b) ≡ false
@@ -113,14 +112,13 @@ takes s i b e d h =
     let z = length (d .bytes) in
     let ze : z ≡ length s = ap length (h .bytes) in
     let first = ltb 1048576 z || ltb 65536 (max n (max (length (d .starts)) (length (d .ends)))) in
-    let fifth = any elsewhere (d .ids) in
     let sixth = ltb (length (d .scratch)) (words n) in
     let two : not (eqb n (length (d .starts)) && eqb n (length (d .ends))) ≡ false = same-lengths n (length (d .starts)) (length (d .ends)) nb ne in
     let three : any no-id (d .ids) ≡ false = ap (any no-id) is ∙ ids-from rs (ids s) in
     let four : not (tile 0 z (d .starts) (d .ends)) ≡ false =
     ap not ((λ j. tile 0 (ze j) (bs j) (es j)) ∙ tile-from rs 0 (length s) (tiles s)) in
-    let w : refusal d ≡ rest first fifth sixth = λ j. first-of ((first, 1) ∷ (two j, 2) ∷ (three j, 3) ∷ (four j, 4) ∷ (fifth, 5) ∷ (sixth, 6) ∷ []) in
-    let q = rest-not first fifth sixth in
+    let w : refusal d ≡ rest first sixth = λ j. first-of ((first, 1) ∷ (two j, 2) ∷ (three j, 3) ∷ (four j, 4) ∷ (sixth, 6) ∷ []) in
+    let q = rest-not first sixth in
     record {
       not-two = λ f. q .0 (sym w ∙ f);
       not-three = λ f. q .1 (sym w ∙ f);

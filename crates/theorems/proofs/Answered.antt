@@ -83,6 +83,37 @@ number-is L d = go (refusal d)
     go zero = at (exceeded L d (reading L d))
     go (suc n) = lent-or-blank d (suc n)
 
+-- "5 is no longer given": none of the list's rows has it, and the rooms give 7 or 8
+abbrev Without : List (Bool × ℕ) → Type 0
+Without [] = Unit
+Without (c ∷ cs) = (c .1 ≡ 5 → ⊥) × Without cs
+
+first-not : (cs : List (Bool × ℕ)) → Without cs → first-of cs ≡ 5 → ⊥
+first-not [] h z = omega (arith, z)
+first-not (c ∷ cs) h z = go (c .0) (first-not cs (h .1)) z
+  where
+    go : (b : Bool) → (first-of cs ≡ 5 → ⊥) → _≡_ {A = ℕ} (elim b [ true ↦ c .1 | false ↦ first-of cs ]) 5 → ⊥
+    go true H z = h .0 z
+    go false H z = H z
+
+over-not : (e r : ℕ) (ms : List (ℕ × ℕ)) → over e r ms ≡ 5 → ⊥
+over-not e r [] z = omega (arith, z)
+over-not e r (m ∷ ms) z = go (over e r ms) (ltb e (m .0)) (ltb r (m .1)) (over-not e r ms) z
+  where
+    go : (n : ℕ) (a b : Bool) → (n ≡ 5 → ⊥) → _≡_ {A = ℕ} (elim n [ zero ↦ elim a [ true ↦ 7 | false ↦ elim b [ true ↦ 8 | false ↦ 0 ] ] | suc n ↦ suc n ]) 5 → ⊥
+    go zero true b H z = omega (arith, z)
+    go zero false true H z = omega (arith, z)
+    go zero false false H z = omega (arith, z)
+    go (suc n) a b H z = H z
+
+pub five-not-given : (L : Limits) (d : Desk) → (after L d) .number ≡ 5 → ⊥
+five-not-given L d z = go (refusal d) (first-not (grounds d) (λ z. omega (arith, z), (λ z. omega (arith, z), (λ z. omega (arith, z), (λ z. omega (arith, z), (λ z. omega (arith, z), tt)))))) (sym (number-is L d) ∙ z)
+  where
+    go : (n : ℕ) → (n ≡ 5 → ⊥) → _≡_ {A = ℕ} (elim n [ zero ↦ exceeded L d (reading L d) | suc n ↦ suc n ]) 5 → ⊥
+    go zero H z = over-not (length (d .events)) (length (d .errors)) (moments L (source-of d) (reading L d)) z
+    go (suc n) H z = H z
+
+
 -- a number 0 is an answer
 pub answered : (L : Limits) (d : Desk) → (after L d) .number ≡ 0 → (R : Reading) × (answer L d ≡ given R)
 answered L d e = go (refusal d) refl (sym (number-is L d) ∙ e)

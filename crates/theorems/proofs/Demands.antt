@@ -10,17 +10,17 @@ use lib.ListN.{length}
 use native.Mathlib.Omega.{arith}
 use Rattle.shapes.specs.Shapes.{Entry}
 use Rattle.definition.specs.Prog.{RULE-DECL, Production, Prog, many}
-use Rattle.definition.specs.Run.{State, Limits, hit, next, past, rule-keywords, skip, Reader, nodes, loop, exec, run, begin-steps}
+use Rattle.definition.specs.Run.{State, Limits, hit, next, past, rule-keywords, item-keywords, skip, Reader, nodes, loop, exec, run, begin-steps}
 use Rattle.definition.specs.Render.{Reading, bads, outcome-of, rendered}
 use Rattle.definition.specs.Answer.{Desk, given, words, refusal, exceeded, answer, source-of, After, refusing, blank, left-by, after}
-use Rattle.definition.specs.Remaining.{Running, standing, rows-before, written, recorded, remaining, Continued, Keyless, Solid, Junk}
-use Rattle.definition.specs.Ford.{Res, Exp, Ford, nt, star, rules, ford, strip, Accepts}
+use Rattle.definition.specs.Remaining.{Running, standing, rows-before, written, recorded, remaining, Continued, Keyless, Astray, Solid, Junk}
+use Rattle.definition.specs.Ford.{Res, Exp, Ford, nt, star, rules, ford, strip, any-statement, any-item, Accepts}
 use Rattle.definition.specs.Grammar.{grammar, kind}
-use Rattle.theorems.proofs.Answered.{reading, number-of, number-is, refused-lent, refused-blank, records-count, done, given-is, is-given, answered}
+use Rattle.theorems.proofs.Answered.{reading, number-of, number-is, five-not-given, refused-lent, refused-blank, records-count, done, given-is, is-given, answered}
 use Rattle.definition.proofs.File.{no-error-iff-accepted}
 use Rattle.definition.proofs.Peg.{Peg}
 use Rattle.definition.proofs.Published.{accepts-is-ford, peg-is-ford, det}
-use Rattle.theorems.proofs.Remaining.{continues, rule-behind, junk-behind, takes-a-row}
+use Rattle.theorems.proofs.Remaining.{continues, rule-behind, statement-behind, junk-behind, takes-a-row}
 use Rattle.theorems.proofs.Fuel.{fuel-left, fuel-exact}
 use Rattle.theorems.proofs.Least.{too-little, same-reading}
 use Rattle.theorems.proofs.Bound.{Within, bound-never-ends, too-deep-idles}
@@ -31,6 +31,10 @@ use Rattle.theorems.proofs.Bound.{Within, bound-never-ends, too-deep-id
 -- that applies, then 7 or 8 by the first moment that exceeds a room, else 0
 pub demand-1-number : (L : Limits) (d : Desk) → (after L d) .number ≡ number-of L d
 demand-1-number = number-is
+
+-- REQUEST (ii): "Refusals: 5 is no longer given; its number is not used again."
+pub never-five : (L : Limits) (d : Desk) → (after L d) .number ≡ 5 → ⊥
+never-five = five-not-given
 
 -- "with results and buffers as it says": "A refusal returns its number and zeros.", "The reader's 7 and 8 leave events, errors and scratch all zero;
 -- every other refusal leaves all as lent."
@@ -66,7 +70,8 @@ no-record-iff-accepted L d R e z =
     let c : length (R .errors) ≡ bads (t .out) + 0 = ap (λ (r : Reading). length (r .errors)) g ∙ records-count L (source-of d) (t .out) [] in
     ((λ n. k .0 (omega (arith, n, c))), λ w. omega (arith, c, k .1 w))
 
--- "If the reader was not stopped, the error list is empty exactly when the PEG accepts every item."
+-- "If the reader was not stopped, the error list is empty exactly when the PEG accepts every item."; REQUEST (ii): "Demand 2 covers them, and an accepted
+-- item may now be an import or include statement."
 pub demand-2 : (L : Limits) (d : Desk)
     → let a : After = after L d in a .number ≡ 0
     → a .outcome ≡ 0
@@ -78,11 +83,11 @@ demand-2 L d n z =
     let c : (after L d) .error-count ≡ length ((g .0) .errors) = omega (arith, ap (λ (a : After). a .error-count) w) in
     ((λ e. i .0 (sym c ∙ e)), λ p. c ∙ i .1 p)
 
--- the same as one parsing expression of Ford's: `rule_decl*` on the translated grammar takes all rows that are no trivia
+-- the same as one parsing expression of Ford's: `(rule_decl / import_stmt / include_stmt)*` on the translated grammar takes all rows that are no trivia
 pub demand-2-ford : (L : Limits) (d : Desk)
     → let a : After = after L d in a .number ≡ 0
     → a .outcome ≡ 0
-    → (a .error-count ≡ 0) ↔ ((n : ℕ) × Ford rules (star (nt RULE-DECL)) (strip (d .ids)) n (Res.yes []))
+    → (a .error-count ≡ 0) ↔ ((n : ℕ) × Ford rules (star any-item) (strip (d .ids)) n (Res.yes []))
 demand-2-ford L d n z =
     let i = demand-2 L d n z in
     let f = accepts-is-ford (strip (d .ids)) in
@@ -103,24 +108,37 @@ pub demand-3 : (L : Limits) (d : Desk) (n : ℕ) (scratch events errors : List �
 demand-3 = continues
 
 -- "Unless stopped, it stands so after any rule accepted at item position whose next row past trivia is rule, global, private or none": right behind
--- the rule's rows x, before which trivia may stand; what was written stands, and no error record is added
+-- the rule's rows x, before which trivia may stand; what was written stands, and no error record is added. REQUEST (ii): "In demand 3 an accepted rule
+-- may also be followed by an import or include row, as the recovery set of `rule_decl` has all five"
 pub demand-3-rule : (L : Limits) (d : Desk) (n : ℕ) (x r : List ℕ) (m : ℕ)
     → let s : State = standing L d n in let v : State = standing L d (n + 1) in Running (s .mode)
     → s .rest ≡ x ++ r
     → Solid x
     → Ford rules (nt RULE-DECL) (strip (s .rest)) m (Res.yes (strip r))
-    → T (past (next rule-keywords r))
+    → T (past (next item-keywords r))
     → Running (v .mode)
     → (v .rest ≡ r) × (recorded L d v ≡ recorded L d s) × ((w : List Entry) × (written d v ≡ written d s ++ w))
 demand-3-rule = rule-behind
 
+-- REQUEST (ii): behind an accepted import or include it stands so whatever the next row is
+pub demand-3-statement : (L : Limits) (d : Desk) (n : ℕ) (x r : List ℕ) (m : ℕ)
+    → let s : State = standing L d n in let v : State = standing L d (n + 1) in Running (s .mode)
+    → s .rest ≡ x ++ r
+    → Solid x
+    → Ford rules any-statement (strip (s .rest)) m (Res.yes (strip r))
+    → Running (v .mode)
+    → (v .rest ≡ r) × (recorded L d v ≡ recorded L d s) × ((w : List Entry) × (written d v ≡ written d s ++ w))
+demand-3-statement = statement-behind
+
 -- "and after any run of rows at item position, not empty, with no trivia at either end and none of those keywords in it, whose next row past trivia is
--- one; that run costs one error, one ERROR node and no fuel.": it never stops the reader, which stands right behind it
+-- one; that run costs one error, one ERROR node and no fuel.": it never stops the reader, which stands right behind it. REQUEST (ii): "and a junk run may not
+-- begin with one of the two", but it may hold them
 pub demand-3-junk : (L : Limits) (d : Desk) (n : ℕ) (j r : List ℕ) (a : ℕ) (is : List ℕ)
     → let s : State = standing L d n in let v : State = standing L d (n + 1) in Running (s .mode)
     → skip (s .rest) ≡ j ++ r
     → Keyless j
     → Solid j
+    → Astray j
     → next rule-keywords r ≡ hit a is
     → Junk L d s v j r
 demand-3-junk = junk-behind

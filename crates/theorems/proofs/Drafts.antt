@@ -7,8 +7,9 @@ use mathlib.Core.Bool.{Bool, true, false}
 use lib.ListN.{length, length-append}
 use native.Mathlib.Omega.{arith}
 use Rattle.shapes.specs.Shapes.{HEAD}
-use Rattle.definition.specs.Grammar.{rule-decl}
-use Rattle.definition.specs.Run.{State, Reader, Limits, Draft, Event, opened, leaf, closed, bad, Choice, stray, Mode, ok, failed, stopped, Next, end, other, hit, sought, trivia, take, turn, put, charge, begin, finish, choose, nodes, rule-keywords, run, read-rule, stray-item, item-at, flush, again, item, items, start, read}
+use Rattle.definition.specs.Prog.{Prog}
+use Rattle.definition.specs.Grammar.{item-of}
+use Rattle.definition.specs.Run.{State, Reader, Limits, Draft, Event, opened, leaf, closed, bad, Choice, stray, Mode, ok, failed, stopped, Next, end, other, hit, sought, trivia, take, turn, put, charge, begin, finish, choose, nodes, item-keywords, run, read-item, stray-item, item-at, flush, again, item, items, start, read}
 use Rattle.definition.specs.Render.{Source, form-of, names-of, size-of, said, held, moments, used}
 use Rattle.definition.proofs.Induct.{exec-kept, run-kept}
 use Rattle.definition.proofs.Order.{Steps, stepped}
@@ -92,9 +93,9 @@ module _ (N : ℕ) where
   }
 
   -- items
-  rule-sure : (L : Limits) (s : State) → Sure s (read-rule L s)
-  unfolding read-rule
-  rule-sure L s = exec-kept (stepped Sure sure) (L .depth) (run (L .depth)) (run-kept (stepped Sure sure) (L .depth)) rule-decl false s
+  reads-sure : (L : Limits) (p : Prog) (s : State) → Sure s (read-item L p s)
+  unfolding read-item
+  reads-sure L p s = exec-kept (stepped Sure sure) (L .depth) (run (L .depth)) (run-kept (stepped Sure sure) (L .depth)) p false s
 
   stray-sure : (s : State) → Sure s (stray-item s)
   stray-sure s =
@@ -120,14 +121,14 @@ module _ (N : ℕ) where
 
   item-sure : (L : Limits) (s : State) → Sure s (item L s)
   item-sure L s =
-      let x : Next = sought rule-keywords ((trivia s) .rest) in
+      let x : Next = sought item-keywords ((trivia s) .rest) in
       let u : State = item-at L x (trivia s) in
       sure .trans s u (item L s) (sure .trans s (trivia s) u (trivia-sure s) (at x (trivia s))) (flush-sure u)
     where
       at : (x : Next) (t : State) → Sure t (item-at L x t)
       at end t = sure .same t
       at other t = stray-sure t
-      at (hit a is) t = rule-sure L t
+      at (hit a is) t = reads-sure L (item-of a) t
 
   items-sure : (L : Limits) (n : ℕ) (s : State) → Sure s (items L n s)
   items-sure L zero s = sure .same s

@@ -5,8 +5,9 @@ use mathlib.Core.List.{List, [], _∷_, append-nil}
 use mathlib.Core.Bool.{Bool, true, false}
 use lib.ListN.{length}
 use native.Mathlib.Omega.{arith}
-use Rattle.definition.specs.Grammar.{rule-decl}
-use Rattle.definition.specs.Run.{State, Limits, Draft, Event, Mode, ok, failed, stopped, spent, Next, end, other, hit, sought, trivia, turn, put, pay, charge, begin, finish, nodes, run, rule-keywords, read-rule, stray-item, item-at, flush, again, item, items, start, read, begin-steps}
+use Rattle.definition.specs.Prog.{Prog}
+use Rattle.definition.specs.Grammar.{item-of}
+use Rattle.definition.specs.Run.{State, Limits, Draft, Event, Mode, ok, failed, stopped, spent, Next, end, other, hit, sought, trivia, turn, put, pay, charge, begin, finish, nodes, run, item-keywords, read-item, stray-item, item-at, flush, again, item, items, start, read, begin-steps}
 use Rattle.definition.specs.Render.{Source, Reading, rendered, moments}
 use Rattle.definition.proofs.Induct.{exec-kept, run-kept}
 use Rattle.definition.proofs.Order.{Running, Steps, stepped, halted-not}
@@ -97,9 +98,9 @@ paid-free s t a b = record { more = omega (arith, ap length b); less = omega (ar
 paid-trans : (s t u : State) → (Running (u .mode) → Running (t .mode)) → Paid s t → Paid t u → Paid s u
 paid-trans s t u z p q = record { more = omega (arith, p .more, q .more); less = omega (arith, p .more, q .more, p .less, q .less); exact = λ r. p .exact (z r) ∙ q .exact r }
 
-rule-paid : (L : Limits) (s : State) → Paid s (read-rule L s)
-unfolding read-rule
-rule-paid L s = let p = exec-kept (stepped Spent spending) (L .depth) (run (L .depth)) (run-kept (stepped Spent spending) (L .depth)) rule-decl false s in record { more = p .more; less = p .less; exact = p .exact }
+reads-paid : (L : Limits) (p : Prog) (s : State) → Paid s (read-item L p s)
+unfolding read-item
+reads-paid L p s = let q = exec-kept (stepped Spent spending) (L .depth) (run (L .depth)) (run-kept (stepped Spent spending) (L .depth)) p false s in record { more = q .more; less = q .less; exact = q .exact }
 
 pub again-free : (u : State) → ((again (flush u)) .fuel ≡ u .fuel) × ((again (flush u)) .begun ≡ u .begun)
 again-free u = go (u .mode) u
@@ -111,14 +112,14 @@ again-free u = go (u .mode) u
 
 item-paid : (L : Limits) (s : State) → Paid s (item L s)
 item-paid L s =
-    let u : State = item-at L (sought rule-keywords ((trivia s) .rest)) (trivia s) in
-    let p : Paid s u = at (sought rule-keywords ((trivia s) .rest)) in
+    let u : State = item-at L (sought item-keywords ((trivia s) .rest)) (trivia s) in
+    let p : Paid s u = at (sought item-keywords ((trivia s) .rest)) in
     paid-trans s u (item L s) (again-running u) p (paid-free u (item L s) (again-free u .0) (again-free u .1))
   where
     at : (x : Next) → Paid s (item-at L x (trivia s))
     at end = paid-free s (trivia s) refl refl
     at other = paid-free s (stray-item (trivia s)) refl refl
-    at (hit a is) = let p = rule-paid L (trivia s) in record { more = p .more; less = p .less; exact = p .exact }
+    at (hit a is) = let p = reads-paid L (item-of a) (trivia s) in record { more = p .more; less = p .less; exact = p .exact }
 
 items-paid : (L : Limits) (n : ℕ) (s : State) → Paid s (items L n s)
 items-paid L zero s = paid-free s s refl refl

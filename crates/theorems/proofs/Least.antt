@@ -10,8 +10,9 @@ use native.Mathlib.Nat.{suc-add, zero-add, le-refl}
 use native.Mathlib.Omega.{arith}
 use Rattle.kinds.specs.Kinds as kinds
 use Rattle.kinds.specs.Sets.{idOf}
-use Rattle.definition.specs.Grammar.{rule-decl}
-use Rattle.definition.specs.Run.{State, Reader, Limits, Draft, Event, Choice, Mode, ok, failed, stopped, Stop, spent, deep, Next, end, other, hit, next, sought, trivia, turn, put, back, pay, charge, halted, begin, finish, nodes, skip-to, swallow, first-names, choose, recovered, recovery, if-ok, or-else, go-on, loop, branch, eat-row, refuse-row, memo-row, remember, known, fails, run, rule-keywords, read-rule, stray-item, item-at, flush, again, item, items, start, read, begin-steps}
+use Rattle.definition.specs.Prog.{Prog}
+use Rattle.definition.specs.Grammar.{item-of}
+use Rattle.definition.specs.Run.{State, Reader, Limits, Draft, Event, Choice, Mode, ok, failed, stopped, Stop, spent, deep, Next, end, other, hit, next, sought, trivia, turn, put, back, pay, charge, halted, begin, finish, nodes, skip-to, swallow, first-names, choose, recovered, recovery, if-ok, or-else, go-on, loop, branch, eat-row, refuse-row, memo-row, remember, known, fails, run, item-keywords, read-item, stray-item, item-at, flush, again, item, items, start, read, begin-steps}
 use Rattle.definition.proofs.Induct.{Kept, exec-kept, run-kept}
 use Rattle.definition.proofs.Order.{Running, Order, ordered, steps, loop-up, finish-up}
 use Rattle.definition.proofs.Frame.{h, Framed, frames, trivia-h, skip-to-h, begin-h, first-names-h, running-live}
@@ -253,9 +254,9 @@ module _ (j : ℕ) (q : List Event) (b : List ℕ) (dr : List Draft) where
     at-node = λ d o a f A. (KE .at-node d o a f (A .0), KF .at-node d o a f (A .1), node-halts d o a f (A .0) (A .1) (A .2));
   }
 
-  rule-all : (L : Limits) → All (read-rule L)
-  unfolding read-rule
-  rule-all L = exec-kept halting (L .depth) (run (L .depth)) (run-kept halting (L .depth)) rule-decl false
+  reads-all : (L : Limits) (p : Prog) → All (read-item L p)
+  unfolding read-item
+  reads-all L p = exec-kept halting (L .depth) (run (L .depth)) (run-kept halting (L .depth)) p false
 
   -- items
   end-ebb : (u : State) → Ebb u (again (flush u))
@@ -277,20 +278,20 @@ module _ (j : ℕ) (q : List Event) (b : List ℕ) (dr : List Draft) where
   item-at-ebb : (L : Limits) (x : Next) → E (item-at L x)
   item-at-ebb L end s = quiet s s refl refl
   item-at-ebb L other s = quiet s (stray-item s) refl refl
-  item-at-ebb L (hit a is) s = rule-all L .0 s
+  item-at-ebb L (hit a is) s = reads-all L (item-of a) .0 s
 
   item-at-halts : (L : Limits) (x : Next) → Halts (item-at L x)
   item-at-halts L end s r w z = not-both (s .mode) w r z
   item-at-halts L other s r w z = not-both (s .mode) w r z
-  item-at-halts L (hit a is) s r w z = rule-all L .2 s r w z
+  item-at-halts L (hit a is) s r w z = reads-all L (item-of a) .2 s r w z
 
   item-ebb : (L : Limits) → E (item L)
-  item-ebb L s = let x : Next = sought rule-keywords ((trivia s) .rest) in let u : State = item-at L x (trivia s) in ebbing .trans s u (item L s) (ebbing .trans s (trivia s) u (ebbing .at-trivia s) (item-at-ebb L x (trivia s))) (end-ebb u)
+  item-ebb L s = let x : Next = sought item-keywords ((trivia s) .rest) in let u : State = item-at L x (trivia s) in ebbing .trans s u (item L s) (ebbing .trans s (trivia s) u (ebbing .at-trivia s) (item-at-ebb L x (trivia s))) (end-ebb u)
 
   item-halts : (L : Limits) → Halts (item L)
   item-halts L s r w z =
-      let x : Next = sought rule-keywords ((trivia s) .rest) in
-      subst (λ (u : State). Gone (item L s) (again (flush (item-at L (sought rule-keywords (u .rest)) u)))) (sym (trivia-h (suc j) q b dr s)) (seq-halts (item-at L x) (λ u. again (flush u)) (item-at-h L (suc j) q b dr x) end-ebb (item-at-halts L x) end-halts (trivia s) r w z)
+      let x : Next = sought item-keywords ((trivia s) .rest) in
+      subst (λ (u : State). Gone (item L s) (again (flush (item-at L (sought item-keywords (u .rest)) u)))) (sym (trivia-h (suc j) q b dr s)) (seq-halts (item-at L x) (λ u. again (flush u)) (item-at-h L (suc j) q b dr x) end-ebb (item-at-halts L x) end-halts (trivia s) r w z)
 
   items-ebb : (L : Limits) (n : ℕ) → E (items L n)
   items-ebb L zero s = quiet s s refl refl

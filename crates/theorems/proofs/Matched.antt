@@ -11,8 +11,9 @@ use Rattle.kinds.specs.Kinds as kinds
 use Rattle.kinds.specs.Sets.{kindOf, trivial}
 use Rattle.utf8.specs.Utf8.{utf8}
 use Rattle.shapes.specs.Shapes.{Rec}
-use Rattle.definition.specs.Grammar.{rule-decl}
-use Rattle.definition.specs.Run.{State, Reader, Limits, Event, opened, leaf, closed, bad, Choice, wanted, unwanted, stray, Mode, ok, failed, stopped, Next, end, other, hit, next, sought, skip, past, trivia-out, trivia, seek, seek-out, skip-to, turn, put, begin, finish, nodes, furthest, pending, add, decide, choose, errors, run, rule-keywords, read-rule, stray-item, item-at, flush, again, item, items, start, read}
+use Rattle.definition.specs.Prog.{Prog}
+use Rattle.definition.specs.Grammar.{item-of}
+use Rattle.definition.specs.Run.{State, Reader, Limits, Event, opened, leaf, closed, bad, Choice, wanted, unwanted, stray, Mode, ok, failed, stopped, Next, end, other, hit, next, sought, skip, past, trivia-out, trivia, seek, seek-out, skip-to, turn, put, begin, finish, nodes, furthest, pending, add, decide, choose, errors, run, rule-keywords, item-keywords, read-item, stray-item, item-at, flush, again, item, items, start, read}
 use Rattle.definition.specs.Render.{Source, starts-at, ends-at, id-at, text-at, form-found, form-slash, form-unknown, form-wanted, form-unwanted, form-of, record-of, records, Reading}
 use Rattle.definition.specs.Answer.{Desk, tile, answer, given, source-of}
 use Rattle.definition.proofs.Every.{and-left, and-right, never}
@@ -143,9 +144,9 @@ keeping = record {
   at-node = λ d o a f F s i. finish-keeps o a (length ((begin d s) .rest)) (f (begin d s)) (F (begin d s) (begin-keeps d s i));
 }
 
-rule-keeps : (L : Limits) (s : State) → Keeps s (read-rule L s)
-unfolding read-rule
-rule-keeps L s = exec-kept (stepped Keeps keeping) (L .depth) (run (L .depth)) (run-kept (stepped Keeps keeping) (L .depth)) rule-decl false s
+reads-keeps : (L : Limits) (p : Prog) (s : State) → Keeps s (read-item L p s)
+unfolding read-item
+reads-keeps L p s = exec-kept (stepped Keeps keeping) (L .depth) (run (L .depth)) (run-kept (stepped Keeps keeping) (L .depth)) p false s
 
 stray-keeps : (s : State) → Keeps s (stray-item s)
 stray-keeps s = alike s (stray-item s) refl refl (λ h. seek-writes rule-keywords (s .rest) (opened (length (s .rest)) ∷ bad (length (s .rest)) stray ∷ s .out) (tt, h))
@@ -163,12 +164,12 @@ flush-keeps u = go (u .mode) u
     go (stopped w) u i = record { unwants = tt; chose = tt; wrote = errors-write (u .chosen) (u .out) (i .chose) (i .wrote) }
 
 item-keeps : (L : Limits) (s : State) → Keeps s (item L s)
-item-keeps L s i = let x : Next = sought rule-keywords ((trivia s) .rest) in flush-keeps (item-at L x (trivia s)) (at x (trivia s) (keeping .at-trivia s i))
+item-keeps L s i = let x : Next = sought item-keywords ((trivia s) .rest) in flush-keeps (item-at L x (trivia s)) (at x (trivia s) (keeping .at-trivia s i))
   where
     at : (x : Next) (t : State) → Keeps t (item-at L x t)
     at end t i = i
     at other t i = stray-keeps t i
-    at (hit a is) t i = rule-keeps L t i
+    at (hit a is) t i = reads-keeps L (item-of a) t i
 
 items-keep : (L : Limits) (n : ℕ) (s : State) → Keeps s (items L n s)
 items-keep L zero s = λ i. i

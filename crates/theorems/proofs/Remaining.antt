@@ -8,13 +8,13 @@ use lib.ListN.{length, drop, take, length-drop, length-append}
 use native.Mathlib.Omega.{arith}
 use Rattle.kinds.specs.Kinds as k
 use Rattle.shapes.specs.Shapes.{Entry, flat, Rec}
-use Rattle.definition.specs.Prog.{RULE-DECL, node}
-use Rattle.definition.specs.Run.{State, Limits, Event, opened, closed, bad, stray, Next, end, other, hit, next, past, sought, rule-keywords, skip, item, items, start, read}
+use Rattle.definition.specs.Prog.{RULE-DECL, IMPORT-STMT, INCLUDE-STMT, _/_, last, node}
+use Rattle.definition.specs.Run.{State, Limits, Event, opened, closed, bad, stray, Next, end, other, hit, next, past, sought, rule-keywords, item-keywords, skip, item, items, start, read}
 use Rattle.definition.specs.Render.{Source, Reading, bads, inside, records, outcome-of, rendered, moments}
 use Rattle.definition.specs.Buffer.{buffer}
 use Rattle.definition.specs.Answer.{Desk, given, words, refusal, answer, source-of}
-use Rattle.definition.specs.Remaining.{Running, standing, rows-before, place, written, recorded, remaining, shifts, shift-records, in-file, Continued, Keyless, Solid, tokens, junk-events, Junk}
-use Rattle.definition.specs.Ford.{strip, Res, Ford, nt, rules}
+use Rattle.definition.specs.Remaining.{Running, standing, rows-before, place, written, recorded, remaining, shifts, shift-records, in-file, Continued, Keyless, Astray, Solid, tokens, junk-events, Junk}
+use Rattle.definition.specs.Ford.{strip, Res, Ford, nt, rules, any-statement}
 use Rattle.definition.proofs.Grows.{End}
 use Rattle.definition.proofs.Agree.{next-end, next-hit}
 use Rattle.definition.proofs.Doom.{Off}
@@ -24,7 +24,7 @@ use Rattle.definition.proofs.Tidy.{items-tidied}
 use Rattle.definition.proofs.Shown.{damage-shown, inside-append}
 use Rattle.definition.proofs.Suffix.{items-rows, damage-stays, next-item}
 use Rattle.definition.proofs.Published.{from-ford}
-use Rattle.theorems.proofs.Stands.{leaves, junk-run, rule-stands}
+use Rattle.theorems.proofs.Stands.{leaves, junk-run, rule-stands, statement-stands}
 use Rattle.theorems.proofs.Junk.{lead, junk-written, junk-recorded, unrecorded}
 use Rattle.definition.proofs.Takes.{end-length, item-takes}
 use Rattle.definition.proofs.Cut.{Rows, rows-of, no-refusal, front, front-length, cut-before, cut-whole, rest-bytes, rest-rows}
@@ -124,33 +124,40 @@ module _ (L : Limits) (d : Desk) (n : ℕ) where
   one-item : Running (s .mode) → (i : ℕ) (is : List ℕ) → s .rest ≡ i ∷ is → standing L d (n + 1) ≡ item L s
   one-item r i is e = next-item L (d .ids) (d .fuel) n i is (fresh r .is-ok) e
 
-  -- right behind an accepted rule
-  pub rule-behind : (x r : List ℕ) (m : ℕ) → Running (s .mode) → s .rest ≡ x ++ r → Solid x → Ford rules (nt RULE-DECL) (strip (s .rest)) m (Res.yes (strip r)) → T (past (next rule-keywords r)) → let v : State = standing L d (n + 1) in Running (v .mode) →
-      (v .rest ≡ r) × (recorded L d v ≡ recorded L d s) × ((w : List Entry) × (written d v ≡ written d s ++ w))
-  rule-behind x r _ m e q g p = at (solid-front x r q)
+  -- where an item was accepted: the reader stands behind its rows, and what was written stands
+  abbrev Stood : List ℕ → State → Type 0
+  Stood r v = (v .rest ≡ r) × (recorded L d v ≡ recorded L d s) × ((w : List Entry) × (written d v ≡ written d s ++ w))
+
+  behind : (x r : List ℕ) → Running (s .mode) → s .rest ≡ x ++ r → Solid x → (let v : State = item L s in Running (v .mode) → Fresh v × (v .rest ≡ r) × (bads (v .out) ≡ bads (s .out))) → let v : State = standing L d (n + 1) in Running (v .mode) → Stood r v
+  behind x r m e q H = at (solid-front x r q)
     where
-      followed : (y : Next) → next rule-keywords r ≡ y → T (past y) → Off (sought rule-keywords (strip r)) → ⊥
-      followed end z t o = subst Off (ap (sought rule-keywords) (next-end rule-keywords r z)) o
-      followed other z t o = t
-      followed (hit a is) z t o = subst Off (next-hit rule-keywords r a is z) o
-
-      Stood : State → Type 0
-      Stood v = (v .rest ≡ r) × (recorded L d v ≡ recorded L d s) × ((w : List Entry) × (written d v ≡ written d s ++ w))
-
-      stood : Running ((item L (standing L d n)) .mode) → Stood (item L (standing L d n))
+      stood : Running ((item L (standing L d n)) .mode) → Stood r (item L (standing L d n))
       stood k =
           let v : State = item L s in
-          let h = rule-stands L s x r (fresh m) e q (from-ford (node RULE-DECL) g) (followed (next rule-keywords r) refl p) k in
+          let h = H k in
           let A = item-adds L s in
           let B = inside-append (source-of d) (A .new) (s .out) (A .nest 0) in
           (h .1, ap (λ (o : List Event). records L (source-of d) o []) (sym (A .joins)) ∙ unrecorded (source-of d) L (A .new) (s .out) [] (ap bads (A .joins) ∙ h .2), (B .0, ap (inside (source-of d)) (sym (A .joins)) ∙ B .1))
 
-      at : ((i : ℕ) × (is : List ℕ) × (x ++ r ≡ i ∷ is)) → Running ((standing L d (n + 1)) .mode) → Stood (standing L d (n + 1))
-      at f k = let z = one-item m (f .0) (f .1) (e ∙ f .2) in subst Stood (sym z) (stood (subst (λ (u : State). Running (u .mode)) z k))
+      at : ((i : ℕ) × (is : List ℕ) × (x ++ r ≡ i ∷ is)) → Running ((standing L d (n + 1)) .mode) → Stood r (standing L d (n + 1))
+      at f k = let z = one-item m (f .0) (f .1) (e ∙ f .2) in subst (Stood r) (sym z) (stood (subst (λ (u : State). Running (u .mode)) z k))
+
+  -- right behind an accepted rule
+  pub rule-behind : (x r : List ℕ) (m : ℕ) → Running (s .mode) → s .rest ≡ x ++ r → Solid x → Ford rules (nt RULE-DECL) (strip (s .rest)) m (Res.yes (strip r)) → T (past (next item-keywords r)) → let v : State = standing L d (n + 1) in Running (v .mode) → Stood r v
+  rule-behind x r _ m e q g p = behind x r m e q (rule-stands L s x r (fresh m) e q (from-ford (node RULE-DECL) g) (followed (next item-keywords r) refl p))
+    where
+      followed : (y : Next) → next item-keywords r ≡ y → T (past y) → Off (sought item-keywords (strip r)) → ⊥
+      followed end z t o = subst Off (ap (sought item-keywords) (next-end item-keywords r z)) o
+      followed other z t o = t
+      followed (hit a is) z t o = subst Off (next-hit item-keywords r a is z) o
+
+  -- right behind an accepted import or include
+  pub statement-behind : (x r : List ℕ) (m : ℕ) → Running (s .mode) → s .rest ≡ x ++ r → Solid x → Ford rules any-statement (strip (s .rest)) m (Res.yes (strip r)) → let v : State = standing L d (n + 1) in Running (v .mode) → Stood r v
+  statement-behind x r _ m e q g = behind x r m e q (statement-stands L s x r (fresh m) e q (from-ford (node IMPORT-STMT / last (node INCLUDE-STMT)) g))
 
   -- right behind a junk run
-  pub junk-behind : (j r : List ℕ) (a : ℕ) (is : List ℕ) → Running (s .mode) → skip (s .rest) ≡ j ++ r → Keyless j → Solid j → next rule-keywords r ≡ hit a is → Junk L d s (standing L d (n + 1)) j r
-  junk-behind j r a is m e q f h = at (s .rest) refl e
+  pub junk-behind : (j r : List ℕ) (a : ℕ) (is : List ℕ) → Running (s .mode) → skip (s .rest) ≡ j ++ r → Keyless j → Solid j → Astray j → next rule-keywords r ≡ hit a is → Junk L d s (standing L d (n + 1)) j r
+  junk-behind j r a is m e q f b h = at (s .rest) refl e
     where
       as-many : (a b : ℕ) → b ≡ a + 0 → a ≡ b
       as-many a b e = omega (arith, e)
@@ -159,7 +166,7 @@ module _ (L : Limits) (d : Desk) (n : ℕ) where
       cost =
           let x : Source = source-of d in
           let i : ℕ = length (j ++ r) in
-          let h = junk-run L s j r a is (fresh m) e q f h in
+          let h = junk-run L s j r a is (fresh m) e q f b h in
           let G = lead (s .rest) in
           let o : (item L s) .out ≡ closed k.ERROR i (length r) ∷ leaves j r (opened i ∷ bad i stray ∷ leaves (G .0) (j ++ r) (s .out)) = h .4 ∙ ap (λ (l : List Event). closed k.ERROR i (length r) ∷ leaves j r (opened i ∷ bad i stray ∷ l)) (G .2 (s .out) ∙ ap (λ (l : List ℕ). leaves (G .0) l (s .out)) e) in
           record {

@@ -1,48 +1,49 @@
--- Where the reader stands after an item: behind a run of rows that are no rule, and behind an accepted rule.
+-- Where the reader stands after an item: behind a run of rows that are no item, and behind an accepted one.
 use Prim.Native.Nat.{ℕ, suc, _≤_}
 use mathlib.Core.Path.{_≡_, refl, ap, ap₂, sym, _∙_, subst}
 use mathlib.Core.List.{List, [], _∷_, _++_}
 use mathlib.Core.Bool.{Bool, true, false}
 use mathlib.Core.Option.{Option, none, some}
+use lib.Dec.{T, eqb}
 use lib.ListN.{length, length-append}
 use native.Mathlib.Omega.{arith}
 use Rattle.kinds.specs.Kinds as kinds
 use Rattle.kinds.specs.Sets.{idOf, kindOf, pick, trivial}
-use Rattle.definition.specs.Prog.{RULE-DECL, node}
-use Rattle.definition.specs.Grammar.{grammar}
-use Rattle.definition.specs.Run.{State, Limits, Event, opened, leaf, closed, bad, Choice, stray, Mode, ok, failed, stopped, Next, end, other, hit, next, sought, skip, past, trivia-out, trivia, seek, seek-out, rule-keywords, read-rule, stray-item, item-at, errors, flush, again, item}
+use Rattle.definition.specs.Prog.{Production, RULE-DECL, IMPORT-STMT, INCLUDE-STMT, Prog, _/_, last, node}
+use Rattle.definition.specs.Grammar.{grammar, rule-decl, item-of}
+use Rattle.definition.specs.Run.{State, Limits, Event, opened, leaf, closed, bad, Choice, stray, Mode, ok, failed, stopped, Next, end, other, hit, next, sought, skip, past, trivia-out, trivia, seek, seek-out, rule-keywords, statement-keywords, item-keywords, read-item, stray-item, item-at, errors, flush, again, item}
 use Rattle.definition.specs.Ford.{strip, Res}
 use Rattle.definition.proofs.Gap.{gap-out}
-use Rattle.definition.proofs.Peg.{Miss, Peg}
-use Rattle.definition.specs.Remaining.{Keyless, Solid}
+use Rattle.definition.proofs.Peg.{Miss, Peg, alt-yes, alt-no, last-is}
+use Rattle.definition.specs.Remaining.{Keyless, Astray, Solid}
 use Rattle.definition.proofs.Every.{never}
 use Rattle.definition.proofs.Order.{Running}
 use Rattle.definition.proofs.Grows.{End, end-trans, gap-end, bads, gap-bads}
 use Rattle.definition.proofs.Shrink.{strip-append, strip-gap, not-failed, not-stopped}
-use Rattle.definition.proofs.Doom.{Off, sub-off}
-use Rattle.definition.proofs.Rule.{rule-ends, rule-calm}
+use Rattle.definition.proofs.Doom.{Off}
+use Rattle.definition.proofs.Rule.{Statement, import, include, rule-calm, statement-calm}
 use Rattle.definition.proofs.Agree.{next-miss}
 use Rattle.definition.proofs.Det.{det, yes-no}
-use Rattle.definition.proofs.First.{dies-no}
-use Rattle.definition.proofs.Accept.{Fresh, fresh-inv}
-use Rattle.definition.proofs.File.{after-item, again-running, trivia-fresh, rule-unsaid}
-use Rattle.definition.proofs.Takes.{skip-skip, gap-ok}
+use Rattle.definition.proofs.First.{dies, dies-no}
+use Rattle.definition.proofs.Accept.{Each, each-at, Fresh, fresh-inv}
+use Rattle.definition.proofs.File.{after-item, again-running, trivia-fresh, pick-of, reads-unsaid}
+use Rattle.definition.proofs.Takes.{gap-ok}
 use Rattle.theorems.proofs.Fuel.{again-free}
 
 skip-false : (i : ℕ) (is : List ℕ) → trivial i ≡ false → skip (i ∷ is) ≡ i ∷ is
 skip-false i is e = ap (λ (b : Bool). elim b as (λ _. List ℕ) [ true ↦ skip is | false ↦ i ∷ is ]) e
 
-sought-none : (i : ℕ) (is : List ℕ) → pick rule-keywords i ≡ none → sought rule-keywords (i ∷ is) ≡ other
-sought-none i is e = ap (λ (x : Option ℕ). elim x as (λ _. Next) [ none ↦ other | some b ↦ hit b is ]) e
+sought-none : (S : List ℕ) (i : ℕ) (is : List ℕ) → pick S i ≡ none → sought S (i ∷ is) ≡ other
+sought-none S i is e = ap (λ (x : Option ℕ). elim x as (λ _. Next) [ none ↦ other | some b ↦ hit b is ]) e
 
 solid-next : (j r : List ℕ) → Keyless j → Solid j → next rule-keywords (j ++ r) ≡ other
 solid-next [] r k s = absurd s
-solid-next (i ∷ []) r k s = ap (sought rule-keywords) (skip-false i r s) ∙ sought-none i r (k .0)
+solid-next (i ∷ []) r k s = ap (sought rule-keywords) (skip-false i r s) ∙ sought-none rule-keywords i r (k .0)
 solid-next (i ∷ i′ ∷ j) r k s = go (trivial i) (solid-next (i′ ∷ j) r (k .1) s)
   where
     go : (b : Bool) → next rule-keywords (i′ ∷ j ++ r) ≡ other → sought rule-keywords (elim b as (λ _. List ℕ) [ true ↦ skip (i′ ∷ j ++ r) | false ↦ i ∷ i′ ∷ j ++ r ]) ≡ other
     go true h = h
-    go false h = sought-none i (i′ ∷ j ++ r) (k .0)
+    go false h = sought-none rule-keywords i (i′ ∷ j ++ r) (k .0)
 
 -- the events of the rows j, before the rows r
 abbrev pub leaves : List ℕ → List ℕ → List Event → List Event
@@ -75,11 +76,24 @@ seek-run (i ∷ i′ ∷ j) r a is o k s e =
     let q = seek-run (i′ ∷ j) r a is (leaf (kindOf i) (suc (length (i′ ∷ j ++ r))) ∷ o) (k .1) s e in
     (p .0 ∙ q .0, p .1 ∙ q .1)
 
--- THE THEOREM: a run of rows at item position, not empty, with no trivia at either end and no rule keyword in it, whose next row past trivia
--- is one: the reader stands right behind it. It cost one error, one ERROR node and no fuel.
-pub junk-run : (L : Limits) (s : State) (j r : List ℕ) (a : ℕ) (is : List ℕ) → Fresh s → skip (s .rest) ≡ j ++ r → Keyless j → Solid j → next rule-keywords r ≡ hit a is → let v : State = item L s in let n : ℕ = length (j ++ r) in
+-- a row that begins no rule and no statement begins no item
+neither : (S S′ : List ℕ) (i : ℕ) → pick S i ≡ none → pick S′ i ≡ none → pick (S ++ S′) i ≡ none
+neither [] S′ i e h = h
+neither (a ∷ S) S′ i e h = go (eqb i (idOf a)) e (λ z. neither S S′ i z h)
+  where
+    go : (b : Bool) → _≡_ {A = Option ℕ} (elim b [ true ↦ some a | false ↦ pick S i ]) none → (pick S i ≡ none → pick (S ++ S′) i ≡ none) → _≡_ {A = Option ℕ} (elim b [ true ↦ some a | false ↦ pick (S ++ S′) i ]) none
+    go true e H = never cc
+    go false e H = H e
+
+astray : (j r : List ℕ) → Keyless j → Solid j → Astray j → sought item-keywords (j ++ r) ≡ other
+astray [] r k d n = absurd d
+astray (i ∷ j) r k d n = sought-none item-keywords i (j ++ r) (neither rule-keywords statement-keywords i (k .0) n)
+
+-- THE THEOREM: a run of rows at item position, not empty, with no trivia at either end, no rule keyword in it and none that begins a statement in front,
+-- whose next row past trivia is a rule keyword: the reader stands right behind it. It cost one error, one ERROR node and no fuel.
+pub junk-run : (L : Limits) (s : State) (j r : List ℕ) (a : ℕ) (is : List ℕ) → Fresh s → skip (s .rest) ≡ j ++ r → Keyless j → Solid j → Astray j → next rule-keywords r ≡ hit a is → let v : State = item L s in let n : ℕ = length (j ++ r) in
     Fresh v × (v .rest ≡ r) × (v .fuel ≡ s .fuel) × (v .begun ≡ s .begun) × (v .out ≡ closed kinds.ERROR n (length r) ∷ leaves j r (opened n ∷ bad n stray ∷ trivia-out (s .rest) (s .out)))
-junk-run L s j r a is f e k d h = go (sought rule-keywords ((trivia s) .rest)) away
+junk-run L s j r a is f e k d b h = go (sought item-keywords ((trivia s) .rest)) away
   where
     t : State
     t = trivia s
@@ -87,8 +101,8 @@ junk-run L s j r a is f e k d h = go (sought rule-keywords ((trivia s) .rest)) a
     rows : (trivia s) .rest ≡ j ++ r
     rows = gap-ok (s .mode) (s .rest) (f .is-ok) ∙ e
 
-    away : sought rule-keywords ((trivia s) .rest) ≡ other
-    away = ap (sought rule-keywords) (gap-ok (s .mode) (s .rest) (f .is-ok) ∙ sym (skip-skip (s .rest)) ∙ ap skip e) ∙ solid-next j r k d
+    away : sought item-keywords ((trivia s) .rest) ≡ other
+    away = ap (sought item-keywords) rows ∙ astray j r k d b
 
     old : (m : Mode) → m ≡ ok → gap-out m (s .rest) (s .out) ≡ trivia-out (s .rest) (s .out)
     old ok z = refl
@@ -114,31 +128,26 @@ junk-run L s j r a is f e k d h = go (sought rule-keywords ((trivia s) .rest)) a
         let y = again-free u in
         (z .0, z .1 ∙ ap (seek rule-keywords) rows ∙ seek-run j r a is [] k d h .0, y .0, y .1, z .2 ∙ ap (λ (c : List (ℕ × Choice)). errors c (u .out)) (f .no-chosen) ∙ wrote ((trivia s) .rest) ((trivia s) .out) rows (old (s .mode) (f .is-ok)))
 
--- accepted rules
--- a rule that the PEG accepts, whose next row past trivia is a rule keyword or none: no error, and the reader stands right behind the
--- rule's last brace
-pub accepted-rule : (L : Limits) (s : State) (r′ : List ℕ) → Fresh s → Running ((read-rule L s) .mode) → Peg (node RULE-DECL) (strip (s .rest)) (Res.yes r′) → (Off (sought rule-ends r′) → ⊥) → ((read-rule L s) .chosen ≡ []) × (strip ((read-rule L s) .rest) ≡ r′) × End (kinds.R-BRACE ∷ (read-rule L s) .rest) (s .rest)
-accepted-rule L s r′ f h g n = rule-calm L s r′ (f .is-ok) (fresh-inv s f) h g n
-
--- the next row past trivia is a rule keyword, or there is none
-pub next-rule : (r : List ℕ) → (Off (sought rule-keywords r) → ⊥) → Off (sought rule-ends r) → ⊥
-unfolding idOf
-next-rule r n o = n (sub-off rule-keywords rule-ends r tt o)
-
--- the same, of the item: no error is written
-pub brace-stands : (L : Limits) (s : State) (a : ℕ) (is r′ : List ℕ) → Fresh s → sought rule-keywords ((trivia s) .rest) ≡ hit a is → Running ((item L s) .mode) → Peg (node RULE-DECL) (strip (s .rest)) (Res.yes r′) → (Off (sought rule-keywords r′) → ⊥) → Fresh (item L s) × (strip ((item L s) .rest) ≡ r′) × End (kinds.R-BRACE ∷ (item L s) .rest) (s .rest) × (bads ((item L s) .out) ≡ bads (s .out))
-brace-stands L s a is r′ f e = go (sought rule-keywords ((trivia s) .rest)) e
+-- an item that was read without an error to its last row w: no error is written, and the reader stands right behind that row
+last-stands : (L : Limits) (s : State) (a : ℕ) (is r′ : List ℕ) (w : ℕ) → Fresh s → sought item-keywords ((trivia s) .rest) ≡ hit a is → (let u : State = read-item L (item-of a) (trivia s) in Running (u .mode) → (u .chosen ≡ []) × (strip (u .rest) ≡ r′) × End (w ∷ u .rest) ((trivia s) .rest)) → Running ((item L s) .mode) → Fresh (item L s) × (strip ((item L s) .rest) ≡ r′) × End (w ∷ (item L s) .rest) (s .rest) × (bads ((item L s) .out) ≡ bads (s .out))
+last-stands L s a is r′ w f e h = go (sought item-keywords ((trivia s) .rest)) e
   where
-    go : (x : Next) → x ≡ hit a is → let v : State = again (flush (item-at L x (trivia s))) in Running (v .mode) → Peg (node RULE-DECL) (strip (s .rest)) (Res.yes r′) → (Off (sought rule-keywords r′) → ⊥) → Fresh v × (strip (v .rest) ≡ r′) × End (kinds.R-BRACE ∷ v .rest) (s .rest) × (bads (v .out) ≡ bads (s .out))
-    go end x r g n = never cc
-    go other x r g n = never cc
-    go (hit b js) x r g n =
-        let u : State = read-rule L (trivia s) in
-        let v : State = again (flush u) in
-        let z = after-item u (again-running u r) in
-        let p = accepted-rule L (trivia s) r′ (trivia-fresh s f) (again-running u r) (subst (λ (l : List ℕ). Peg (node RULE-DECL) l (Res.yes r′)) (sym (strip-gap (s .mode) (s .rest))) g) (next-rule r′ n) in
-        let q : End (kinds.R-BRACE ∷ v .rest) ((trivia s) .rest) = subst (λ (l : List ℕ). End (kinds.R-BRACE ∷ l) ((trivia s) .rest)) (sym (z .1)) (p .2) in
-        (z .0, ap strip (z .1) ∙ p .1, end-trans (kinds.R-BRACE ∷ v .rest) ((trivia s) .rest) (s .rest) q (gap-end (s .mode) (s .rest)), ap bads (z .2) ∙ ap (λ (c : List (ℕ × Choice)). bads (errors c (u .out))) (p .0) ∙ rule-unsaid L (trivia s) ∙ gap-bads (s .mode) (s .rest) (s .out))
+    go : (x : Next) → x ≡ hit a is → let v : State = again (flush (item-at L x (trivia s))) in Running (v .mode) → Fresh v × (strip (v .rest) ≡ r′) × End (w ∷ v .rest) (s .rest) × (bads (v .out) ≡ bads (s .out))
+    go end x r = never cc
+    go other x r = never cc
+    go (hit b js) x r = subst (λ (c : ℕ). let v : State = again (flush (read-item L (item-of c) (trivia s))) in Running (v .mode) → Fresh v × (strip (v .rest) ≡ r′) × End (w ∷ v .rest) (s .rest) × (bads (v .out) ≡ bads (s .out))) (same b js x) at r
+      where
+        same : (b : ℕ) (js : List ℕ) → _≡_ {A = Next} (hit b js) (hit a is) → a ≡ b
+        same b js x = cc
+
+        at : let v : State = again (flush (read-item L (item-of a) (trivia s))) in Running (v .mode) → Fresh v × (strip (v .rest) ≡ r′) × End (w ∷ v .rest) (s .rest) × (bads (v .out) ≡ bads (s .out))
+        at r =
+            let u : State = read-item L (item-of a) (trivia s) in
+            let v : State = again (flush u) in
+            let z = after-item u (again-running u r) in
+            let p = h (again-running u r) in
+            let q : End (w ∷ v .rest) ((trivia s) .rest) = subst (λ (l : List ℕ). End (w ∷ l) ((trivia s) .rest)) (sym (z .1)) (p .2) in
+            (z .0, ap strip (z .1) ∙ p .1, end-trans (w ∷ v .rest) ((trivia s) .rest) (s .rest) q (gap-end (s .mode) (s .rest)), ap bads (z .2) ∙ ap (λ (c : List (ℕ × Choice)). bads (errors c (u .out))) (p .0) ∙ reads-unsaid L (item-of a) (trivia s) ∙ gap-bads (s .mode) (s .rest) (s .out))
 
 solid-size : (x : List ℕ) → Solid x → 1 ≤ length (strip x)
 solid-size [] d = absurd d
@@ -153,33 +162,67 @@ solid-size (i ∷ j ∷ x) d = go (trivial i) (solid-size (j ∷ x) d)
     go true h = h
     go false h = omega arith
 
--- right behind a row that is no trivia: trivia aside, one place
-one-place : (x p y v : List ℕ) → Solid x → x ++ y ≡ p ++ (kinds.R-BRACE ∷ v) → strip v ≡ strip y → v ≡ y
-one-place [] p y v d e h = absurd d
-one-place (i ∷ []) [] y v d e h = cc
-one-place (i ∷ []) (k ∷ p) y v d e h = let z : y ≡ p ++ (kinds.R-BRACE ∷ v) = cc in absurd (omega (arith, ap length h, ap length (ap strip z ∙ strip-append p (kinds.R-BRACE ∷ v)), length-append (strip p) (kinds.R-BRACE ∷ strip v)))
-one-place (i ∷ j ∷ x) [] y v d e h = let z : (j ∷ x) ++ y ≡ v = cc in absurd (omega (arith, solid-size (j ∷ x) d, ap length h, ap length (sym (ap strip z) ∙ strip-append (j ∷ x) y), length-append (strip (j ∷ x)) (strip y)))
-one-place (i ∷ j ∷ x) (k ∷ p) y v d e h = let z : (j ∷ x) ++ y ≡ p ++ (kinds.R-BRACE ∷ v) = cc in one-place (j ∷ x) p y v d z h
+-- right behind a row w that is no trivia: trivia aside, one place
+one-place : (w : ℕ) → ((v : List ℕ) → strip (w ∷ v) ≡ w ∷ strip v) → (x p y v : List ℕ) → Solid x → x ++ y ≡ p ++ (w ∷ v) → strip v ≡ strip y → v ≡ y
+one-place w firm [] p y v d e h = absurd d
+one-place w firm (i ∷ []) [] y v d e h = cc
+one-place w firm (i ∷ []) (k ∷ p) y v d e h = let z : y ≡ p ++ (w ∷ v) = cc in absurd (omega (arith, ap length h, ap length (ap strip z ∙ strip-append p (w ∷ v) ∙ ap (λ (l : List ℕ). strip p ++ l) (firm v)), length-append (strip p) (w ∷ strip v)))
+one-place w firm (i ∷ j ∷ x) [] y v d e h = let z : (j ∷ x) ++ y ≡ v = cc in absurd (omega (arith, solid-size (j ∷ x) d, ap length h, ap length (sym (ap strip z) ∙ strip-append (j ∷ x) y), length-append (strip (j ∷ x)) (strip y)))
+one-place w firm (i ∷ j ∷ x) (k ∷ p) y v d e h = let z : (j ∷ x) ++ y ≡ p ++ (w ∷ v) = cc in one-place w firm (j ∷ x) p y v d z h
 
--- an accepted rule begins with a rule keyword
-keyword-first : (r r′ : List ℕ) → Peg (node RULE-DECL) (strip r) (Res.yes r′) → (a : ℕ) × (is : List ℕ) × (next rule-keywords r ≡ hit a is)
-unfolding grammar idOf
-keyword-first r r′ g = go (next rule-keywords r) refl
+-- an accepted item of the production q begins with one of its keywords K, by which it is read as p
+abbrev Reads : Prog → ℕ → ℕ → Type 0
+Reads p b i = (item-of b ≡ p) × (pick item-keywords i ≡ some b)
+
+keyword-first : (K : List ℕ) (q : Production) (p : Prog) → T (dies K (node q)) → Each (Reads p) K → (r r′ : List ℕ) → Peg (node q) (strip r) (Res.yes r′) → (a : ℕ) × (is : List ℕ) × (next item-keywords r ≡ hit a is) × (item-of a ≡ p)
+keyword-first K q p t E r r′ g = go (next K r) refl
   where
-    none-there : Miss (next rule-keywords r) → ⊥
-    none-there m = yes-no r′ (det g Res.no (dies-no rule-keywords (strip r) (node RULE-DECL) tt (next-miss rule-keywords r m)))
+    none-there : Miss (next K r) → ⊥
+    none-there m = yes-no r′ (det g Res.no (dies-no K (strip r) (node q) t (next-miss K r m)))
 
-    go : (x : Next) → next rule-keywords r ≡ x → (a : ℕ) × (is : List ℕ) × (next rule-keywords r ≡ hit a is)
+    at : (a : ℕ) (is : List ℕ) → next K r ≡ hit a is → (l : List ℕ) → skip r ≡ l → sought K l ≡ hit a is → (a : ℕ) × (is : List ℕ) × (sought item-keywords l ≡ hit a is) × (item-of a ≡ p)
+    at a is e [] z h = never cc
+    at a is e (i ∷ l) z h =
+        let x = each-at (Reads p) K E i a (pick-of K i a is l h) in
+        (a, l, ap (λ (y : Option ℕ). elim y as (λ _. Next) [ none ↦ other | some b ↦ hit b l ]) (x .1), x .0)
+
+    go : (x : Next) → next K r ≡ x → (a : ℕ) × (is : List ℕ) × (next item-keywords r ≡ hit a is) × (item-of a ≡ p)
     go end e = absurd (none-there (subst Miss (sym e) tt))
     go other e = absurd (none-there (subst Miss (sym e) tt))
-    go (hit a is) e = (a, is, e)
+    go (hit a is) e = at a is e (skip r) refl e
 
--- THE THEOREM: rows x at item position, the last of them no trivia, that the PEG accepts as a rule, whose next row past trivia is `rule`,
--- `global`, `private` or none: unless stopped, the reader stands right behind them, between two items, and no error is written
-pub rule-stands : (L : Limits) (s : State) (x r : List ℕ) → Fresh s → s .rest ≡ x ++ r → Solid x → Peg (node RULE-DECL) (strip (s .rest)) (Res.yes (strip r)) → (Off (sought rule-keywords (strip r)) → ⊥) → let v : State = item L s in Running (v .mode) →
-    Fresh v × (v .rest ≡ r) × (bads (v .out) ≡ bads (s .out))
-rule-stands L s x r f e d g n k =
+-- an accepted item that is read without an error to its last row w, which the rows x end with: the reader stands right behind them
+behind-last : (L : Limits) (s : State) (x r : List ℕ) (w a : ℕ) (is : List ℕ) (p : Prog) → ((v : List ℕ) → strip (w ∷ v) ≡ w ∷ strip v) → Fresh s → s .rest ≡ x ++ r → Solid x → next item-keywords (s .rest) ≡ hit a is → item-of a ≡ p → (let u : State = read-item L p (trivia s) in Running (u .mode) → (u .chosen ≡ []) × (strip (u .rest) ≡ strip r) × End (w ∷ u .rest) ((trivia s) .rest)) → let v : State = item L s in Running (v .mode) → Fresh v × (v .rest ≡ r) × (bads (v .out) ≡ bads (s .out))
+behind-last L s x r w a is p firm f e d n q h k =
     let v : State = item L s in
-    let h = keyword-first (s .rest) (strip r) g in
-    let z = brace-stands L s (h .0) (h .1) (strip r) f (ap (sought rule-keywords) (gap-ok (s .mode) (s .rest) (f .is-ok)) ∙ h .2) k g n in
-    (z .0, one-place x (z .2 .0) r (v .rest) d (sym e ∙ sym (z .2 .1)) (z .1), z .3)
+    let z = last-stands L s a is (strip r) w f (ap (sought item-keywords) (gap-ok (s .mode) (s .rest) (f .is-ok)) ∙ n) (subst (λ (p : Prog). let u : State = read-item L p (trivia s) in Running (u .mode) → (u .chosen ≡ []) × (strip (u .rest) ≡ strip r) × End (w ∷ u .rest) ((trivia s) .rest)) (sym q) h) k in
+    (z .0, one-place w firm x (z .2 .0) r (v .rest) d (sym e ∙ sym (z .2 .1)) (z .1), z .3)
+
+-- THE THEOREM: rows x at item position, the last of them no trivia, that the PEG accepts as a rule, whose next row past trivia begins an item or is none:
+-- unless stopped, the reader stands right behind them, between two items, and no error is written
+pub rule-stands : (L : Limits) (s : State) (x r : List ℕ) → Fresh s → s .rest ≡ x ++ r → Solid x → Peg (node RULE-DECL) (strip (s .rest)) (Res.yes (strip r)) → (Off (sought item-keywords (strip r)) → ⊥) → let v : State = item L s in Running (v .mode) →
+    Fresh v × (v .rest ≡ r) × (bads (v .out) ≡ bads (s .out))
+unfolding grammar idOf
+rule-stands L s x r f e d g n k =
+    let h = keyword-first rule-keywords RULE-DECL rule-decl tt ((refl, refl), ((refl, refl), ((refl, refl), tt))) (s .rest) (strip r) g in
+    let t = trivia-fresh s f in
+    let G = subst (λ (l : List ℕ). Peg (node RULE-DECL) l (Res.yes (strip r))) (sym (strip-gap (s .mode) (s .rest))) g in
+    behind-last L s x r kinds.R-BRACE (h .0) (h .1) rule-decl (λ v. refl) f e d (h .2) (h .3) (λ u. rule-calm L (trivia s) (strip r) (t .is-ok) (fresh-inv (trivia s) t) u G n) k
+
+-- THE THEOREM: rows x at item position, the last of them no trivia, that the PEG accepts as an import or an include: unless stopped, the reader stands right
+-- behind them, between two items, and no error is written, whatever the next row is
+pub statement-stands : (L : Limits) (s : State) (x r : List ℕ) → Fresh s → s .rest ≡ x ++ r → Solid x → Peg (node IMPORT-STMT / last (node INCLUDE-STMT)) (strip (s .rest)) (Res.yes (strip r)) → let v : State = item L s in Running (v .mode) →
+    Fresh v × (v .rest ≡ r) × (bads (v .out) ≡ bads (s .out))
+unfolding grammar idOf
+statement-stands L s x r f e d g k = by g
+  where
+    stands : (q : Production) (b : ℕ) → Statement q b → T (dies (b ∷ []) (node q)) → Each (Reads (node q)) (b ∷ []) → Peg (node q) (strip (s .rest)) (Res.yes (strip r)) → let v : State = item L s in Fresh v × (v .rest ≡ r) × (bads (v .out) ≡ bads (s .out))
+    stands q b st t E g =
+        let h = keyword-first (b ∷ []) q (node q) t E (s .rest) (strip r) g in
+        let F = trivia-fresh s f in
+        let G = subst (λ (l : List ℕ). Peg (node q) l (Res.yes (strip r))) (sym (strip-gap (s .mode) (s .rest))) g in
+        behind-last L s x r kinds.STRING-LIT (h .0) (h .1) (node q) (λ v. refl) f e d (h .2) (h .3) (λ u. statement-calm L q b st (trivia s) (strip r) (F .is-ok) (fresh-inv (trivia s) F) u G) k
+
+    by : Peg (node IMPORT-STMT / last (node INCLUDE-STMT)) (strip (s .rest)) (Res.yes (strip r)) → let v : State = item L s in Fresh v × (v .rest ≡ r) × (bads (v .out) ≡ bads (s .out))
+    by (alt-yes g) = stands IMPORT-STMT kinds.IMPORT-KW import tt ((refl, refl), tt) g
+    by (alt-no n (last-is g)) = stands INCLUDE-STMT kinds.INCLUDE-KW include tt ((refl, refl), tt) g

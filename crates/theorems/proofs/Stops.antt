@@ -4,12 +4,13 @@ use mathlib.Core.Path.{_≡_, refl, ap, sym, _∙_, subst}
 use mathlib.Core.Logic.{_⊎_, inl, inr}
 use mathlib.Core.List.{List, [], _∷_, map}
 use mathlib.Core.Bool.{Bool, true, false, _&&_, _||_}
-use lib.Dec.{T}
+use lib.Dec.{T, eqb}
 use lib.ListN.{length}
+use Rattle.kinds.specs.Kinds as kinds
 use Rattle.kinds.specs.Sets.{idOf}
-use Rattle.definition.specs.Prog.{Production, Prog, eat, unless, ifnext, opt, many, then, _⨟_, _/_, last, recover, node, memo}
-use Rattle.definition.specs.Grammar.{grammar, kind, rule-decl}
-use Rattle.definition.specs.Run.{State, Limits, Reader, Mode, ok, failed, stopped, Stop, Next, end, other, hit, next, turn, back, if-ok, trivia, eat-row, branch, or-else, alts, go-on, loop, known, remember, memo-row, fails, begin, finish, nodes, exec, run, read-rule}
+use Rattle.definition.specs.Prog.{Production, IMPORT-STMT, INCLUDE-STMT, Prog, eat, unless, ifnext, opt, many, then, _⨟_, _/_, last, recover, node, memo}
+use Rattle.definition.specs.Grammar.{grammar, kind, rule-decl, item-of}
+use Rattle.definition.specs.Run.{State, Limits, Reader, Mode, ok, failed, stopped, Stop, Next, end, other, hit, next, turn, back, if-ok, trivia, eat-row, branch, or-else, alts, go-on, loop, known, remember, memo-row, fails, begin, finish, nodes, exec, run, read-item}
 use Rattle.definition.specs.Remaining.{Running}
 use Rattle.definition.proofs.Every.{productions, all, each, and-left, and-right, or-cases, never}
 use Rattle.theorems.proofs.Bound.{idle, idle-productions, recovery-stopped, idles, charged}
@@ -43,9 +44,18 @@ behind b (recover S) = b
 behind b (node a) = true
 behind b (memo a) = true
 
-pub recover-behind-node : ((a : Production) → T (behind false (grammar a))) × T (behind false rule-decl)
+-- what holds of the three sorts of items holds of any item
+any-sort : (C : Prog → Type 0) → C rule-decl → C (node IMPORT-STMT) → C (node INCLUDE-STMT) → (a : ℕ) → C (item-of a)
+any-sort C r m n a = go (eqb a kinds.IMPORT-KW) (eqb a kinds.INCLUDE-KW)
+  where
+    go : (x y : Bool) → C (elim x as (λ _. Prog) [ true ↦ node IMPORT-STMT | false ↦ elim y as (λ _. Prog) [ true ↦ node INCLUDE-STMT | false ↦ rule-decl ] ])
+    go true y = m
+    go false true = n
+    go false false = r
+
+pub recover-behind-node : ((a : Production) → T (behind false (grammar a))) × ((a : ℕ) → T (behind false (item-of a)))
 unfolding productions grammar is-node behind
-recover-behind-node = (each (λ a. behind false (grammar a)) tt, tt)
+recover-behind-node = (each (λ a. behind false (grammar a)) tt, any-sort (λ p. T (behind false p)) tt tt tt)
 
 finish-mode : (o : Bool) (a n : ℕ) (s : State) → (finish o a n s) .mode ≡ s .mode
 finish-mode o a n s = go o (s .mode) s
@@ -245,7 +255,7 @@ calm-run-is (suc d) o a s = ap (finish o (kind a) (length ((begin (suc d) s) .re
     by failed t e H = calm-same d (calm-run d) (run d) H (grammar a) (safe-productions a) o t (subst Running (sym e) tt)
     by (stopped w) t e H = idles d (calm (calm-run d)) w (grammar a) (idle-productions a) o t e ∙ sym (idles d (run d) w (grammar a) (idle-productions a) o t e)
 
--- THE THEOREM: a rule read by productions that are left alone once the reader is stopped is the rule as the definition reads it
-pub no-begin-after-stop : (L : Limits) (s : State) → Running (s .mode) → exec (L .depth) (calm (calm-run (L .depth))) rule-decl false s ≡ read-rule L s
-unfolding read-rule safe
-no-begin-after-stop L s r = calm-same (L .depth) (calm-run (L .depth)) (run (L .depth)) (λ o b u r. calm-run-is (L .depth) o b u) rule-decl tt false s r
+-- THE THEOREM: an item read by productions that are left alone once the reader is stopped is the item as the definition reads it
+pub no-begin-after-stop : (L : Limits) (a : ℕ) (s : State) → Running (s .mode) → exec (L .depth) (calm (calm-run (L .depth))) (item-of a) false s ≡ read-item L (item-of a) s
+unfolding read-item safe
+no-begin-after-stop L a s r = calm-same (L .depth) (calm-run (L .depth)) (run (L .depth)) (λ o b u r. calm-run-is (L .depth) o b u) (item-of a) (any-sort (λ p. T (safe p)) tt tt tt a) false s r

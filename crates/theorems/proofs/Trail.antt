@@ -7,8 +7,9 @@ use mathlib.Core.Bool.{Bool, true, false}
 use lib.ListN.{length}
 use Rattle.kinds.specs.Kinds as kinds
 use Rattle.kinds.specs.Sets.{kindOf, trivial}
-use Rattle.definition.specs.Grammar.{rule-decl}
-use Rattle.definition.specs.Run.{State, Reader, Limits, Event, opened, leaf, closed, bad, Choice, stray, Mode, ok, failed, stopped, Next, end, other, hit, next, sought, skip, past, trivia-out, trivia, seek, seek-out, skip-to, take, turn, put, begin, finish, nodes, errors, run, rule-keywords, read-rule, stray-item, item-at, flush, again, item, items, start, read}
+use Rattle.definition.specs.Prog.{Prog}
+use Rattle.definition.specs.Grammar.{item-of}
+use Rattle.definition.specs.Run.{State, Reader, Limits, Event, opened, leaf, closed, bad, Choice, stray, Mode, ok, failed, stopped, Next, end, other, hit, next, sought, skip, past, trivia-out, trivia, seek, seek-out, skip-to, take, turn, put, begin, finish, nodes, errors, run, rule-keywords, item-keywords, read-item, stray-item, item-at, flush, again, item, items, start, read}
 use Rattle.definition.proofs.Gap.{gap, gap-out}
 use Rattle.definition.proofs.Induct.{exec-kept, run-kept}
 use Rattle.definition.proofs.Order.{Steps, stepped}
@@ -129,9 +130,9 @@ going = record {
   at-node = node-goes;
 }
 
-rule-goes : (L : Limits) (s : State) → Goes s (read-rule L s)
-unfolding read-rule
-rule-goes L s = exec-kept (stepped Goes going) (L .depth) (run (L .depth)) (run-kept (stepped Goes going) (L .depth)) rule-decl false s
+reads-goes : (L : Limits) (p : Prog) (s : State) → Goes s (read-item L p s)
+unfolding read-item
+reads-goes L p s = exec-kept (stepped Goes going) (L .depth) (run (L .depth)) (run-kept (stepped Goes going) (L .depth)) p false s
 
 stray-goes : (s : State) → Goes s (stray-item s)
 stray-goes s =
@@ -152,14 +153,14 @@ flush-goes u = go (u .mode) u
 
 item-goes : (L : Limits) (s : State) → Goes s (item L s)
 item-goes L s =
-    let x : Next = sought rule-keywords ((trivia s) .rest) in
+    let x : Next = sought item-keywords ((trivia s) .rest) in
     let u : State = item-at L x (trivia s) in
     goes-trans s u (item L s) (goes-trans s (trivia s) u (trivia-goes s) (at x (trivia s))) (flush-goes u)
   where
     at : (x : Next) (t : State) → Goes t (item-at L x t)
     at end t = stays (length (t .rest)) (t .out)
     at other t = stray-goes t
-    at (hit a is) t = rule-goes L t
+    at (hit a is) t = reads-goes L (item-of a) t
 
 items-goes : (L : Limits) (n : ℕ) (s : State) → Goes s (items L n s)
 items-goes L zero s = stays (length (s .rest)) (s .out)

@@ -13,7 +13,6 @@ use Rattle.refusals.proofs.judged.Statement.{statement}
 use Rattle.refusals.proofs.judged.Tie as tie
 use Rattle.refusals.proofs.judged.Reads as reads
 use Rattle.refusals.proofs.judged.Lts as lts
-use Rattle.refusals.proofs.imports.Reads as imports-reads
 use Rattle.refusals.proofs.tiles.Reads as tiles-reads
 use Rattle.refusals.proofs.unknown.Reads as unknown-reads
 
@@ -47,26 +46,20 @@ tiles-requires c κs = search needs
 returns-8 : tie.Need-returns-8
 returns-8 c = λ fuel sc ev er e. first-is 3 (grounds (desk (c .before .before .before .before .before .before .before .before .before .before .before .before .before .before .args .src .now) (c .before .before .before .before .before .before .before .before .before .before .before .before .before .before .args .ids .now) (c .before .before .before .before .before .before .before .before .before .before .before .before .before .before .args .starts .now) (c .before .before .before .before .before .before .before .before .before .before .before .before .before .before .args .ends .now) fuel sc ev er)) (not-large (length (c .before .before .before .before .before .before .before .before .before .before .before .before .before .before .args .src .now)) (length (c .before .before .before .before .before .before .before .before .before .before .before .before .before .before .args .ids .now)) (length (c .before .before .before .before .before .before .before .before .before .before .before .before .before .before .args .starts .now)) (length (c .before .before .before .before .before .before .before .before .before .before .before .before .before .before .args .ends .now)) (c .before .before .before .before .before .before .before .before .before .if1 .left) (omega arith), (even (length (c .before .before .before .before .before .before .before .before .before .before .before .before .before .before .args .ids .now)) (length (c .before .before .before .before .before .before .before .before .before .before .before .before .before .before .args .starts .now)) (length (c .before .before .before .before .before .before .before .before .before .before .before .before .before .before .args .ends .now)) (c .before .before .before .before .before .if5 .left) (c .before .before .before .before .if6 .left), (sym (c .before .before .before .unknown .ensures) ∙ c .before .before .if7 .left, (ap (λ (b : Bool). not b) (sym (c .before .tiles .ensures)) ∙ c .if8 .taken))))
 
-imports-requires : tie.Need-imports-requires
-imports-requires c κs = search needs
+add-if9 : tie.Need-add-if9
+add-if9 c = search needs
+
+mul-if9 : tie.Need-mul-if9
+mul-if9 c = search needs
+
+add-if9-2 : tie.Need-add-if9-2
+add-if9-2 c = search needs
 
 returns-9 : tie.Need-returns-9
-returns-9 c = λ fuel sc ev er e. first-is 4 (grounds (desk (c .before .before .before .before .before .before .before .before .before .before .before .before .before .before .before .before .args .src .now) (c .before .before .before .before .before .before .before .before .before .before .before .before .before .before .before .before .args .ids .now) (c .before .before .before .before .before .before .before .before .before .before .before .before .before .before .before .before .args .starts .now) (c .before .before .before .before .before .before .before .before .before .before .before .before .before .before .before .before .args .ends .now) fuel sc ev er)) (not-large (length (c .before .before .before .before .before .before .before .before .before .before .before .before .before .before .before .before .args .src .now)) (length (c .before .before .before .before .before .before .before .before .before .before .before .before .before .before .before .before .args .ids .now)) (length (c .before .before .before .before .before .before .before .before .before .before .before .before .before .before .before .before .args .starts .now)) (length (c .before .before .before .before .before .before .before .before .before .before .before .before .before .before .before .before .args .ends .now)) (c .before .before .before .before .before .before .before .before .before .before .before .if1 .left) (omega arith), (even (length (c .before .before .before .before .before .before .before .before .before .before .before .before .before .before .before .before .args .ids .now)) (length (c .before .before .before .before .before .before .before .before .before .before .before .before .before .before .before .before .args .starts .now)) (length (c .before .before .before .before .before .before .before .before .before .before .before .before .before .before .before .before .args .ends .now)) (c .before .before .before .before .before .before .before .if5 .left) (c .before .before .before .before .before .before .if6 .left), (sym (c .before .before .before .before .before .unknown .ensures) ∙ c .before .before .before .before .if7 .left, (ap (λ (b : Bool). not b) (sym (c .before .before .before .tiles .ensures)) ∙ c .before .before .if8 .left, (sym (c .before .imports .ensures) ∙ c .if9 .taken)))))
-
-add-if10 : tie.Need-add-if10
-add-if10 c = search needs
-
-mul-if10 : tie.Need-mul-if10
-mul-if10 c = search needs
-
-add-if10-2 : tie.Need-add-if10-2
-add-if10-2 c = search needs
+returns-9 c = λ fuel sc ev er e. first-is 4 (grounds (desk (c .before .before .before .before .before .before .before .before .before .before .before .before .before .before .before .args .src .now) (c .before .before .before .before .before .before .before .before .before .before .before .before .before .before .before .args .ids .now) (c .before .before .before .before .before .before .before .before .before .before .before .before .before .before .before .args .starts .now) (c .before .before .before .before .before .before .before .before .before .before .before .before .before .before .before .args .ends .now) fuel sc ev er)) (not-large (length (c .before .before .before .before .before .before .before .before .before .before .before .before .before .before .before .args .src .now)) (length (c .before .before .before .before .before .before .before .before .before .before .before .before .before .before .before .args .ids .now)) (length (c .before .before .before .before .before .before .before .before .before .before .before .before .before .before .before .args .starts .now)) (length (c .before .before .before .before .before .before .before .before .before .before .before .before .before .before .before .args .ends .now)) (c .before .before .before .before .before .before .before .before .before .before .if1 .left) (omega arith), (even (length (c .before .before .before .before .before .before .before .before .before .before .before .before .before .before .before .args .ids .now)) (length (c .before .before .before .before .before .before .before .before .before .before .before .before .before .before .before .args .starts .now)) (length (c .before .before .before .before .before .before .before .before .before .before .before .before .before .before .before .args .ends .now)) (c .before .before .before .before .before .before .if5 .left) (c .before .before .before .before .before .if6 .left), (sym (c .before .before .before .before .unknown .ensures) ∙ c .before .before .before .if7 .left, (ap (λ (b : Bool). not b) (sym (c .before .before .tiles .ensures)) ∙ c .before .if8 .left, (lt-ltb (length sc) (words (length (c .before .before .before .before .before .before .before .before .before .before .before .before .before .before .before .args .ids .now))) (omega arith))))))
 
 returns-10 : tie.Need-returns-10
-returns-10 c = λ fuel sc ev er e. first-is 5 (grounds (desk (c .before .before .before .before .before .before .before .before .before .before .before .before .before .before .before .before .before .args .src .now) (c .before .before .before .before .before .before .before .before .before .before .before .before .before .before .before .before .before .args .ids .now) (c .before .before .before .before .before .before .before .before .before .before .before .before .before .before .before .before .before .args .starts .now) (c .before .before .before .before .before .before .before .before .before .before .before .before .before .before .before .before .before .args .ends .now) fuel sc ev er)) (not-large (length (c .before .before .before .before .before .before .before .before .before .before .before .before .before .before .before .before .before .args .src .now)) (length (c .before .before .before .before .before .before .before .before .before .before .before .before .before .before .before .before .before .args .ids .now)) (length (c .before .before .before .before .before .before .before .before .before .before .before .before .before .before .before .before .before .args .starts .now)) (length (c .before .before .before .before .before .before .before .before .before .before .before .before .before .before .before .before .before .args .ends .now)) (c .before .before .before .before .before .before .before .before .before .before .before .before .if1 .left) (omega arith), (even (length (c .before .before .before .before .before .before .before .before .before .before .before .before .before .before .before .before .before .args .ids .now)) (length (c .before .before .before .before .before .before .before .before .before .before .before .before .before .before .before .before .before .args .starts .now)) (length (c .before .before .before .before .before .before .before .before .before .before .before .before .before .before .before .before .before .args .ends .now)) (c .before .before .before .before .before .before .before .before .if5 .left) (c .before .before .before .before .before .before .before .if6 .left), (sym (c .before .before .before .before .before .before .unknown .ensures) ∙ c .before .before .before .before .before .if7 .left, (ap (λ (b : Bool). not b) (sym (c .before .before .before .before .tiles .ensures)) ∙ c .before .before .before .if8 .left, (sym (c .before .before .imports .ensures) ∙ c .before .if9 .left, (lt-ltb (length sc) (words (length (c .before .before .before .before .before .before .before .before .before .before .before .before .before .before .before .before .before .args .ids .now))) (omega arith)))))))
-
-returns-11 : tie.Need-returns-11
-returns-11 c = λ fuel sc ev er e. first-is 6 (grounds (desk (c .before .before .before .before .before .before .before .before .before .before .before .before .before .before .before .before .before .args .src .now) (c .before .before .before .before .before .before .before .before .before .before .before .before .before .before .before .before .before .args .ids .now) (c .before .before .before .before .before .before .before .before .before .before .before .before .before .before .before .before .before .args .starts .now) (c .before .before .before .before .before .before .before .before .before .before .before .before .before .before .before .before .before .args .ends .now) fuel sc ev er)) (not-large (length (c .before .before .before .before .before .before .before .before .before .before .before .before .before .before .before .before .before .args .src .now)) (length (c .before .before .before .before .before .before .before .before .before .before .before .before .before .before .before .before .before .args .ids .now)) (length (c .before .before .before .before .before .before .before .before .before .before .before .before .before .before .before .before .before .args .starts .now)) (length (c .before .before .before .before .before .before .before .before .before .before .before .before .before .before .before .before .before .args .ends .now)) (c .before .before .before .before .before .before .before .before .before .before .before .before .if1 .left) (omega arith), (even (length (c .before .before .before .before .before .before .before .before .before .before .before .before .before .before .before .before .before .args .ids .now)) (length (c .before .before .before .before .before .before .before .before .before .before .before .before .before .before .before .before .before .args .starts .now)) (length (c .before .before .before .before .before .before .before .before .before .before .before .before .before .before .before .before .before .args .ends .now)) (c .before .before .before .before .before .before .before .before .if5 .left) (c .before .before .before .before .before .before .before .if6 .left), (sym (c .before .before .before .before .before .before .unknown .ensures) ∙ c .before .before .before .before .before .if7 .left, (ap (λ (b : Bool). not b) (sym (c .before .before .before .before .tiles .ensures)) ∙ c .before .before .before .if8 .left, (sym (c .before .before .imports .ensures) ∙ c .before .if9 .left, (le-ltb (length sc) (words (length (c .before .before .before .before .before .before .before .before .before .before .before .before .before .before .before .before .before .args .ids .now))) (omega arith), (tt)))))))
+returns-10 c = λ fuel sc ev er e. first-is 5 (grounds (desk (c .before .before .before .before .before .before .before .before .before .before .before .before .before .before .before .args .src .now) (c .before .before .before .before .before .before .before .before .before .before .before .before .before .before .before .args .ids .now) (c .before .before .before .before .before .before .before .before .before .before .before .before .before .before .before .args .starts .now) (c .before .before .before .before .before .before .before .before .before .before .before .before .before .before .before .args .ends .now) fuel sc ev er)) (not-large (length (c .before .before .before .before .before .before .before .before .before .before .before .before .before .before .before .args .src .now)) (length (c .before .before .before .before .before .before .before .before .before .before .before .before .before .before .before .args .ids .now)) (length (c .before .before .before .before .before .before .before .before .before .before .before .before .before .before .before .args .starts .now)) (length (c .before .before .before .before .before .before .before .before .before .before .before .before .before .before .before .args .ends .now)) (c .before .before .before .before .before .before .before .before .before .before .if1 .left) (omega arith), (even (length (c .before .before .before .before .before .before .before .before .before .before .before .before .before .before .before .args .ids .now)) (length (c .before .before .before .before .before .before .before .before .before .before .before .before .before .before .before .args .starts .now)) (length (c .before .before .before .before .before .before .before .before .before .before .before .before .before .before .before .args .ends .now)) (c .before .before .before .before .before .before .if5 .left) (c .before .before .before .before .before .if6 .left), (sym (c .before .before .before .before .unknown .ensures) ∙ c .before .before .before .if7 .left, (ap (λ (b : Bool). not b) (sym (c .before .before .tiles .ensures)) ∙ c .before .if8 .left, (le-ltb (length sc) (words (length (c .before .before .before .before .before .before .before .before .before .before .before .before .before .before .before .args .ids .now))) (omega arith), (tt))))))
 
 pub judged-spec : {M : Type 1} → statement M
 judged-spec =
@@ -82,10 +75,8 @@ judged-spec =
     returns-7
     tiles-requires
     returns-8
-    imports-requires
+    add-if9
+    mul-if9
+    add-if9-2
     returns-9
-    add-if10
-    mul-if10
-    add-if10-2
-    returns-10
-    returns-11)
+    returns-10)

@@ -2,14 +2,14 @@
 use mathlib.Core.Path.{sym, _∙_}
 use native.Mathlib.Omega.{arith}
 use Rattle.kinds.proofs.Words.{lent-right}
-use Rattle.desk.proofs.Hand.{hand-stuck, hand-end, hand-rule, hand-stray}
+use Rattle.desk.proofs.Hand.{hand-stuck, hand-end, hand-item, hand-stray}
 use borrow.Author.Needs.{needs}
 use Rattle.desk.proofs.items.at_hand.Statement.{statement}
 use Rattle.desk.proofs.items.at_hand.Tie as tie
 use Rattle.desk.proofs.items.at_hand.Reads as reads
 use Rattle.desk.proofs.items.at_hand.Lts as lts
 use Rattle.desk.proofs.items.stray.Reads as stray-reads
-use Rattle.grammar.proofs.parts.rule_item.Reads as rule-item-reads
+use Rattle.grammar.proofs.parts.read_item.Reads as read-item-reads
 use Rattle.kinds.proofs.within.Reads as within-reads
 
 returns : tie.Need-returns
@@ -27,8 +27,8 @@ shared-slice-read-id c = search needs
 within-requires : tie.Need-within-requires
 within-requires c κs = search needs
 
-rule-item-requires : tie.Need-rule-item-requires
-rule-item-requires c κs = c .before .before .before .before .before .before .before .before .before .before .before .before .before .before .before .before .pre
+read-item-requires : tie.Need-read-item-requires
+read-item-requires c κs = c .before .before .before .before .before .before .before .before .before .before .before .before .before .before .before .before .pre
 
 same-length : tie.Need-same-length
 same-length c = search needs
@@ -40,7 +40,7 @@ same-length-3 : tie.Need-same-length-3
 same-length-3 c = search needs
 
 returns-3 : tie.Need-returns-3
-returns-3 c = hand-rule (c .before .before .before .before .before .before .before .before .before .before .before .before .before .before .before .if1 .left) (c .before .before .before .before .before .before .before .before .before .before .before .before .before .before .if2 .left) (sym (c .before .before .before .before .before .before .before .before .before .before .before .if3 .taken) ∙ c .before .before .before .before .before .before .before .before .before .before .before .before .within .ensures ∙ lent-right (c .before .before .before .before .before .before .before .before .before .before .before .before .before .before .before .before .before .before .before .before .before .before .before .args .sets .now) (c .before .before .before .before .before .before .before .before .before .before .before .before .before .before .before .before .before .before .before .before .before .before .before .pre .2 .1) 54 _) (c .before .before .before .before .before .before .rule-item .ensures)
+returns-3 c = hand-item (c .before .before .before .before .before .before .before .before .before .before .before .before .before .before .before .if1 .left) (c .before .before .before .before .before .before .before .before .before .before .before .before .before .before .if2 .left) (sym (c .before .before .before .before .before .before .before .before .before .before .before .if3 .taken) ∙ c .before .before .before .before .before .before .before .before .before .before .before .before .within .ensures ∙ lent-right (c .before .before .before .before .before .before .before .before .before .before .before .before .before .before .before .before .before .before .before .before .before .before .before .args .sets .now) (c .before .before .before .before .before .before .before .before .before .before .before .before .before .before .before .before .before .before .before .before .before .before .before .pre .2 .1) 10 _) (c .before .before .before .before .before .before .read-item .ensures)
 
 stray-requires : tie.Need-stray-requires
 stray-requires c κs = ((c .before .before .before .before .before .before .before .before .before .before .before .before .before .before .before .pre .0 .lines, c .before .before .before .before .before .before .before .before .before .before .before .before .before .before .before .pre .1 .0, c .before .before .before .before .before .before .before .before .before .before .before .before .before .before .before .pre .1 .1 .events), c .before .before .before .before .before .before .before .before .before .before .before .before .before .before .before .pre .1 .1 .errors, c .before .before .before .before .before .before .if2 .left, c .before .before .before .before .before .before .before .if1 .left, c .before .before .before .before .before .before .before .before .before .before .before .before .before .before .before .pre .2 .1)
@@ -52,7 +52,7 @@ same-length-5 : tie.Need-same-length-5
 same-length-5 c = search needs
 
 returns-4 : tie.Need-returns-4
-returns-4 c = hand-stray (c .before .before .before .before .before .before .before .before .before .before .before .before .if1 .left) (c .before .before .before .before .before .before .before .before .before .before .before .if2 .left) (sym (c .before .before .before .before .before .before .before .before .if3 .left) ∙ c .before .before .before .before .before .before .before .before .before .within .ensures ∙ lent-right (c .before .before .before .before .before .before .before .before .before .before .before .before .before .before .before .before .before .before .before .before .args .sets .now) (c .before .before .before .before .before .before .before .before .before .before .before .before .before .before .before .before .before .before .before .before .pre .2 .1) 54 _) (c .before .before .before .before .stray .ensures (c .before .before .before .before .before .before .before .before .before .before .before .before .before .before .before .before .before .before .before .before .args .src .now) (c .before .before .before .before .before .before .before .before .before .before .before .before .before .before .before .before .before .before .before .before .args .scratch .now) (c .before .before .before .before .before .before .before .before .before .before .before .before .before .before .before .before .before .before .before .before .pre .1))
+returns-4 c = hand-stray (c .before .before .before .before .before .before .before .before .before .before .before .before .if1 .left) (c .before .before .before .before .before .before .before .before .before .before .before .if2 .left) (sym (c .before .before .before .before .before .before .before .before .if3 .left) ∙ c .before .before .before .before .before .before .before .before .before .within .ensures ∙ lent-right (c .before .before .before .before .before .before .before .before .before .before .before .before .before .before .before .before .before .before .before .before .args .sets .now) (c .before .before .before .before .before .before .before .before .before .before .before .before .before .before .before .before .before .before .before .before .pre .2 .1) 10 _) (c .before .before .before .before .stray .ensures (c .before .before .before .before .before .before .before .before .before .before .before .before .before .before .before .before .before .before .before .before .args .src .now) (c .before .before .before .before .before .before .before .before .before .before .before .before .before .before .before .before .before .before .before .before .args .scratch .now) (c .before .before .before .before .before .before .before .before .before .before .before .before .before .before .before .before .before .before .before .before .pre .1))
 
 pub at-hand-spec : {M : Type 1} → statement M
 at-hand-spec =
@@ -63,7 +63,7 @@ at-hand-spec =
     mul-id
     shared-slice-read-id
     within-requires
-    rule-item-requires
+    read-item-requires
     same-length
     same-length-2
     same-length-3
