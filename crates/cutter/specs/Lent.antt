@@ -5,7 +5,7 @@ use mathlib.Core.List.{List, [], _∷_, map}
 use mathlib.Core.Bool.{Bool, true, false, cond, _||_}
 use mathlib.Core.Option.{none, some}
 use lib.Dec.{eqb}
-use lib.ListN.{length, getD}
+use lib.ListN.{length, getD, drop}
 use Rattle.cutter.specs.Classes.{wides}
 use Rattle.cutter.specs.Expr.{Tokens, step, Match, has, walk, longest}
 use Rattle.cutter.specs.Tokens as t
@@ -116,6 +116,11 @@ pub record Holds (o : Memo) (s : List ℕ) : Type 0 where
   pub slash : Run 0 (o .slash) s
   pub star : Run 0 (o .star) s
   pub hex : Run 1 (o .hex) s
+
+-- what is followed stands at a byte of the source, no further than `at`
+pub record Stands (o : Memo) (at : ℕ) (s : List ℕ) : Type 0 where
+  pub until : o .from ≤ at
+  pub holds : Holds o (drop (o .from) s)
 
 -- nothing matches here in normal mode, in hex mode
 pub record Known (lost astray : Bool) (s : List ℕ) : Type 0 where
