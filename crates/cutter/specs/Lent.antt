@@ -16,7 +16,7 @@ use Rattle.cutter.specs.declared.glyph.Glyph.{Glyph}
 use Rattle.cutter.specs.declared.matcher.Match as m
 use Rattle.cutter.specs.declared.matcher.Match.the-variants.{Found, Nothing}
 use Rattle.cutter.specs.declared.place.Place.{Place}
-use Rattle.cutter.specs.declared.place.Place.the-variants.{Elsewhere, Named, Equated, InHex, InJump}
+use Rattle.cutter.specs.declared.place.Place.the-variants.{Elsewhere, Named, Equated, InHex, InJump, Unclosed}
 use Rattle.cutter.specs.declared.row.Row as d
 use Rattle.cutter.specs.declared.runner.Runner.{Runner}
 use Rattle.cutter.specs.declared.memo.Memo.{Memo}
@@ -52,6 +52,7 @@ modeAt Named = 0
 modeAt Equated = 0
 modeAt InHex = 1
 modeAt InJump = 2
+modeAt Unclosed = 0
 
 -- a match is of one byte at least, and ends within the bytes
 abbrev pub Inside : m.Match → List ℕ → Type 0
