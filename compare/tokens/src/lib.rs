@@ -74,19 +74,26 @@ pub fn rows(source: &[u8]) -> Vec<Row> {
 /// The same rows, each with the mode that cut it.
 pub fn with_modes(source: &[u8]) -> Vec<(Row, Mode)> {
     const OPENING: [u32; 3] = [id::PATTERN_IDENT, id::EQUAL, id::L_BRACE];
+    const ENDING: [u32; 4] = [id::R_BRACE, id::PATTERN_IDENT, id::UNKNOWN, id::INVALID_UTF8];
     let mut cutter = Cutter::new(source);
     let mut rows = Vec::new();
     // How much of the opening stands just before.
     let mut seen = 0;
+    // Whether the closing brace of a hex pattern is still to come. A pattern's identifier or a row that
+    // nothing matches gives such a pattern up.
+    let mut open = false;
     while let Some(row) = cutter.next_row() {
         rows.push((row, cutter.mode()));
         match cutter.mode() {
             Mode::Normal if is_trivia(row.0) => {}
             Mode::Normal => {
                 seen = if row.0 == OPENING[seen] { seen + 1 } else { usize::from(row.0 == OPENING[0]) };
+                open &= !ENDING.contains(&row.0);
                 if seen == OPENING.len() {
-                    seen = 0;
+                    (seen, open) = (0, true);
                     cutter.enter(Mode::Hex);
+                } else if open && row.0 == id::L_BRACKET {
+                    cutter.enter(Mode::Jump);
                 }
             }
             Mode::Hex if row.0 == id::L_BRACKET => cutter.enter(Mode::Jump),

@@ -19,7 +19,7 @@ use Rattle.cutter.specs.Expr.{Match, Tokens, longest}
 use Rattle.cutter.specs.Tokens as t
 use Rattle.cutter.specs.Rows.{Row, keyword, named, next, strangeBy, strange, normalBy, normalRow, hexBy, hexRow, jumpBy, jumpRow, row, onwards}
 use Rattle.cutter.specs.declared.place.Place.{Place}
-use Rattle.cutter.specs.declared.place.Place.the-variants.{Elsewhere, Named, Equated, InHex, InJump}
+use Rattle.cutter.specs.declared.place.Place.the-variants.{Elsewhere, Named, Equated, InHex, InJump, Unclosed}
 
 module _ (s : List ℕ) where
   pub strange-some : (id len : ℕ) → some (id, len) ≡ longest 0 t.unknown s → _≡_ {A = Row} (3, len, Elsewhere) (strange s)
@@ -48,7 +48,7 @@ module _ (s : List ℕ) where
   unfolding normalRow
   normal-other p id len e f = sym (ap (λ b. (cond b (keyword (take len s)) id, len, next p id)) (ne-eqb id 74 f)) ∙ ap (λ o. normalBy o p s) e
 
-  pub hex-none : none ≡ longest 1 t.hex s → normalRow Elsewhere s ≡ hexRow s
+  pub hex-none : none ≡ longest 1 t.hex s → normalRow Unclosed s ≡ hexRow s
   unfolding hexRow
   hex-none e = ap (λ o. hexBy o s) e
 
@@ -97,7 +97,7 @@ pub renamed : {x : d.Row} {a b : Row} {s : List ℕ} → Made x a s → a ≡ b 
 renamed {x = x} {s = s} m e = subst (λ w. Made x w s) e m
 
 -- a row that the mode below hex made, where hex mode matched nothing
-pub made-below : {x y : d.Row} {s : List ℕ} → Made x (normalRow Elsewhere s) s → none ≡ longest 1 t.hex s
+pub made-below : {x y : d.Row} {s : List ℕ} → Made x (normalRow Unclosed s) s → none ≡ longest 1 t.hex s
     → y ≡ record { id = x .id; len = x .len; place = x .place; lost = x .lost; astray = true } → Made y (hexRow s) s
 made-below {s = s} m e f =
     subst (λ z. Made z (hexRow s) s) (sym f)
@@ -112,6 +112,7 @@ module _ (s : List ℕ) where
   hex-or-not Equated e = absurd (omega arith)
   hex-or-not InHex e = refl
   hex-or-not InJump e = absurd (omega arith)
+  hex-or-not Unclosed e = absurd (omega arith)
 
   pub at-hex : (p : Place) (n : ℕ) → n ≡ modeAt p → n ≡ 1 → hexRow s ≡ row p s
   at-hex p n e f = hex-or-not p (sym e ∙ f)
@@ -123,6 +124,7 @@ module _ (s : List ℕ) where
   jump-or-not Equated e = absurd (omega arith)
   jump-or-not InHex e = absurd (omega arith)
   jump-or-not InJump e = refl
+  jump-or-not Unclosed e = absurd (omega arith)
 
   pub at-jump : (p : Place) (n : ℕ) → n ≡ modeAt p → n ≡ 2 → jumpRow s ≡ row p s
   at-jump p n e f = jump-or-not p (sym e ∙ f)
@@ -134,6 +136,7 @@ module _ (s : List ℕ) where
   normal-or-not Equated e f = refl
   normal-or-not InHex e f = absurd (e refl)
   normal-or-not InJump e f = absurd (f refl)
+  normal-or-not Unclosed e f = refl
 
   pub at-normal : (p : Place) (n : ℕ) → n ≡ modeAt p → (n ≡ 1 → ⊥) → (n ≡ 2 → ⊥) → normalRow p s ≡ row p s
   at-normal p n e f g = normal-or-not p (λ x. f (e ∙ x)) (λ x. g (e ∙ x))

@@ -18,7 +18,7 @@ use Rattle.cutter.specs.Rows.{Row, same, keywords, sought, keyword, name
 use Rattle.cutter.specs.Each.{Longest, Unmatched, Mode, Strange, Normal, Hex, Jump, Cuts, Each}
 use Rattle.cutter.specs.Tiles.{Ids}
 use Rattle.cutter.specs.declared.place.Place.{Place}
-use Rattle.cutter.specs.declared.place.Place.the-variants.{Elsewhere, Named, Equated, InHex, InJump}
+use Rattle.cutter.specs.declared.place.Place.the-variants.{Elsewhere, Named, Equated, InHex, InJump, Unclosed}
 use Rattle.cutter.proofs.Equal.{both, left, right}
 use Rattle.cutter.proofs.Longest.{longest-fits, none-longer}
 use Rattle.cutter.proofs.Tiling.{row-fine}
@@ -68,7 +68,7 @@ module _ (s : List ℕ) where
   hex-said = go (longest 1 t.hex s) refl
     where
       go : (o : Match) → longest 1 t.hex s ≡ o → Hex s (hexBy o s)
-      go none e = inr (found-none 1 t.hex s e, normal-said Elsewhere)
+      go none e = inr (found-none 1 t.hex s e, normal-said Unclosed)
       go (some x) e = inl (x .0, x .1, found-longest 1 t.hex s (x .0) (x .1) e, refl)
 
   jump-said : Jump s (jumpRow s)
@@ -86,6 +86,7 @@ module _ (s : List ℕ) where
   cuts Equated = normal-said Equated
   cuts InHex = hex-said
   cuts InJump = jump-said
+  cuts Unclosed = normal-said Unclosed
 
 each-from : (n at : ℕ) (p : Place) (xs : List ℕ) → length xs ≤ n → Each p at xs (rows at 0 p xs)
 each-from zero at p [] h = refl
@@ -169,7 +170,7 @@ module _ (s : List ℕ) (r : Row) where
       (λ x. strange-id (x .1))
 
   hex-id : Hex s r → r .0 < 82
-  hex-id = ⊎-elim (λ x. subst (λ y. y .0 < 82) (sym (x .3)) (fits-below 1 t.hex s (x .0) (x .1) hex-below (x .2 .fits))) (λ x. normal-id Elsewhere (x .1))
+  hex-id = ⊎-elim (λ x. subst (λ y. y .0 < 82) (sym (x .3)) (fits-below 1 t.hex s (x .0) (x .1) hex-below (x .2 .fits))) (λ x. normal-id Unclosed (x .1))
 
   jump-id : Jump s r → r .0 < 82
   jump-id = ⊎-elim (λ x. subst (λ y. y .0 < 82) (sym (x .3)) (fits-below 2 t.jump s (x .0) (x .1) jump-below (x .2 .fits))) (λ x. hex-id (x .1))
@@ -180,6 +181,7 @@ module _ (s : List ℕ) (r : Row) where
   cut-id Equated = normal-id Equated
   cut-id InHex = hex-id
   cut-id InJump = jump-id
+  cut-id Unclosed = normal-id Unclosed
 
 ids-of : (rs : List (ℕ × ℕ × ℕ)) (p : Place) (at : ℕ) (s : List ℕ) → Each p at s rs → Ids rs
 ids-of [] p at s e = tt

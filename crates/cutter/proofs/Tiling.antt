@@ -12,7 +12,7 @@ use Rattle.cutter.specs.Tokens as t
 use Rattle.cutter.specs.Rows.{Row, strangeBy, strange, normalBy, normalRow, hexBy, hexRow, jumpBy, jumpRow, row, rows, cutting}
 use Rattle.cutter.specs.Tiles.{Tiles}
 use Rattle.cutter.specs.declared.place.Place.{Place}
-use Rattle.cutter.specs.declared.place.Place.the-variants.{Elsewhere, Named, Equated, InHex, InJump}
+use Rattle.cutter.specs.declared.place.Place.the-variants.{Elsewhere, Named, Equated, InHex, InJump, Unclosed}
 use Rattle.cutter.proofs.Glyphs.{glyph-some, glyph-within}
 
 -- a match is of one byte at least and ends within n bytes
@@ -64,7 +64,7 @@ module _ (s : List ℕ) (some-bytes : 0 < length s) where
   hex-fine = go (longest 1 t.hex s) (longest-good 1 t.hex s)
     where
       go : (o : Match) → Good (length s) o → Fine (hexBy o s)
-      go none g = normal-fine Elsewhere
+      go none g = normal-fine Unclosed
       go (some m) g = g
 
   jump-fine : Fine (jumpRow s)
@@ -82,6 +82,7 @@ module _ (s : List ℕ) (some-bytes : 0 < length s) where
   row-fine Equated = normal-fine Equated
   row-fine InHex = hex-fine
   row-fine InJump = jump-fine
+  row-fine Unclosed = normal-fine Unclosed
 
 tiled : (n at k : ℕ) (p : Place) (xs : List ℕ) → k ≤ length xs → at + (length xs - k) ≡ n → Tiles at n (rows at k p xs)
 tiled n at k p [] h e = omega arith

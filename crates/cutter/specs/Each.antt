@@ -14,7 +14,7 @@ use Rattle.cutter.specs.Tokens as t
 use Rattle.cutter.specs.Matches.{Fits}
 use Rattle.cutter.specs.Rows.{Row, named, next}
 use Rattle.cutter.specs.declared.place.Place.{Place}
-use Rattle.cutter.specs.declared.place.Place.the-variants.{Elsewhere, Named, Equated, InHex, InJump}
+use Rattle.cutter.specs.declared.place.Place.the-variants.{Elsewhere, Named, Equated, InHex, InJump, Unclosed}
 
 -- the first n bytes match an expression of kind i, and no longer part matches any
 pub record Longest (m : ℕ) (ts : Tokens) (s : List ℕ) (i n : ℕ) : Type 0 where
@@ -39,7 +39,7 @@ abbrev pub Normal : Place → List ℕ → Row → Type 0
 Normal p s r = Mode 0 t.normal s (λ i n. (named i (take n s), n, next p i)) r (Strange s r)
 
 abbrev pub Hex : List ℕ → Row → Type 0
-Hex s r = Mode 1 t.hex s (λ i n. (i, n, cond (eqb i k.L-BRACKET) InJump InHex)) r (Normal Elsewhere s r)
+Hex s r = Mode 1 t.hex s (λ i n. (i, n, cond (eqb i k.L-BRACKET) InJump InHex)) r (Normal Unclosed s r)
 
 abbrev pub Jump : List ℕ → Row → Type 0
 Jump s r = Mode 2 t.jump s (λ i n. (i, n, InJump)) r (Hex s r)
@@ -51,6 +51,7 @@ Cuts Named s r = Normal Named s r
 Cuts Equated s r = Normal Equated s r
 Cuts InHex s r = Hex s r
 Cuts InJump s r = Jump s r
+Cuts Unclosed s r = Normal Unclosed s r
 
 -- the rows of the bytes from place `at` on: each is cut where the one before it ends, and where that one left the cutting
 abbrev pub Each : Place → ℕ → List ℕ → List (ℕ × ℕ × ℕ) → Type 0

@@ -5,7 +5,7 @@ use mathlib.Core.List.{List, [], _∷_, map}
 use mathlib.Core.Bool.{Bool, true, false, cond, _||_}
 use mathlib.Core.Option.{none, some}
 use lib.Dec.{eqb}
-use lib.ListN.{length, getD}
+use lib.ListN.{length, getD, drop}
 use Rattle.cutter.specs.Classes.{wides}
 use Rattle.cutter.specs.Expr.{Tokens, step, Match, has, walk, longest}
 use Rattle.cutter.specs.Tokens as t
@@ -16,7 +16,7 @@ use Rattle.cutter.specs.declared.glyph.Glyph.{Glyph}
 use Rattle.cutter.specs.declared.matcher.Match as m
 use Rattle.cutter.specs.declared.matcher.Match.the-variants.{Found, Nothing}
 use Rattle.cutter.specs.declared.place.Place.{Place}
-use Rattle.cutter.specs.declared.place.Place.the-variants.{Elsewhere, Named, Equated, InHex, InJump}
+use Rattle.cutter.specs.declared.place.Place.the-variants.{Elsewhere, Named, Equated, InHex, InJump, Unclosed}
 use Rattle.cutter.specs.declared.row.Row as d
 use Rattle.cutter.specs.declared.runner.Runner.{Runner}
 use Rattle.cutter.specs.declared.memo.Memo.{Memo}
@@ -52,6 +52,7 @@ modeAt Named = 0
 modeAt Equated = 0
 modeAt InHex = 1
 modeAt InJump = 2
+modeAt Unclosed = 0
 
 -- a match is of one byte at least, and ends within the bytes
 abbrev pub Inside : m.Match → List ℕ → Type 0
@@ -116,6 +117,11 @@ pub record Holds (o : Memo) (s : List ℕ) : Type 0 where
   pub slash : Run 0 (o .slash) s
   pub star : Run 0 (o .star) s
   pub hex : Run 1 (o .hex) s
+
+-- what is followed stands at a byte of the source, no further than `at`
+pub record Stands (o : Memo) (at : ℕ) (s : List ℕ) : Type 0 where
+  pub until : o .from ≤ at
+  pub holds : Holds o (drop (o .from) s)
 
 -- nothing matches here in normal mode, in hex mode
 pub record Known (lost astray : Bool) (s : List ℕ) : Type 0 where

@@ -16,7 +16,7 @@ use Rattle.cutter.specs.Glyph.{glyph}
 use Rattle.cutter.specs.Expr.{Match, longest}
 use Rattle.cutter.specs.Tokens as t
 use Rattle.cutter.specs.declared.place.Place.{Place}
-use Rattle.cutter.specs.declared.place.Place.the-variants.{Elsewhere, Named, Equated, InHex, InJump}
+use Rattle.cutter.specs.declared.place.Place.the-variants.{Elsewhere, Named, Equated, InHex, InJump, Unclosed}
 use Rattle.cutter.specs.declared.answer.Cut.{Cut}
 use Rattle.cutter.specs.declared.answer.Cut.the-variants.{Rows, Refused}
 
@@ -59,6 +59,8 @@ onwards Named id = cond (eqb id k.EQUAL) Equated Elsewhere
 onwards Equated id = cond (eqb id k.L-BRACE) InHex Elsewhere
 onwards InHex id = Elsewhere
 onwards InJump id = Elsewhere
+-- "and ends with the closing brace; jump mode is the bracket within it", also where normal mode cuts before the closing brace
+onwards Unclosed id = cond (eqb id k.L-BRACKET) InJump (cond (eqb id k.R-BRACE) Elsewhere Unclosed)
 
 abbrev pub next : Place → ℕ → Place
 next p id = cond (eqb id k.PATTERN-IDENT) Named (cond (trivial id) p (onwards p id))
@@ -81,9 +83,9 @@ normalBy (some m) p s = (named (m .0) (take (m .1) s), m .1, next p (m .0))
 unfoldable pub normalRow : Place → List ℕ → Row
 normalRow p s = normalBy (longest 0 t.normal s) p s
 
--- "and ends with the closing brace", or with whatever else hex mode does not match; "jump mode is the bracket within it"
+-- what hex mode does not match normal mode cuts: the closing brace, or something else within the pattern
 abbrev pub hexBy : Match → List ℕ → Row
-hexBy none s = normalRow Elsewhere s
+hexBy none s = normalRow Unclosed s
 hexBy (some m) s = (m .0, m .1, cond (eqb (m .0) k.L-BRACKET) InJump InHex)
 
 unfoldable pub hexRow : List ℕ → Row
@@ -103,6 +105,7 @@ row Named s = normalRow Named s
 row Equated s = normalRow Equated s
 row InHex s = hexRow s
 row InJump s = jumpRow s
+row Unclosed s = normalRow Unclosed s
 
 -- the rows of the bytes from place `at` on, of which `skip` belong to the row before: id, start and end
 abbrev pub rows : ℕ → ℕ → Place → List ℕ → List (ℕ × ℕ × ℕ)

@@ -40,7 +40,8 @@ fn lesser(a: usize, b: usize) -> usize
 
 // The rows of a source, in the three lists; or refusal 1 or 13, which leave them as lent. The tables are laid out once, here, and lent to all that reads them.
 pub fn cut(source: &[u8], ids: &mut [u32], starts: &mut [u32], ends: &mut [u32]) -> Cut
-    ensures { λ r. ⌜ returning r (now (ids .exit)) (now (starts .exit)) (now (ends .exit)) ≡ cut (now (source .entry)) (now (ids .entry)) (now (starts .entry)) (now (ends .entry)) ⌝ }
+    ensures { λ r. ⌜ returning r (now (ids .exit)) (now (starts .exit)) (now (ends .exit))
+        ≡ cut (now (source .entry)) (now (ids .entry)) (now (starts .entry)) (now (ends .entry)) ⌝ }
 {
     if 1048576 < source.len() {
         return Cut::Refused(refusal::LONG);

@@ -90,7 +90,8 @@ pub fn tried(
     finals: &[u8],
     ranges: &[u32],
 ) -> Match
-    requires { ⌜ (start < 88) × (mode < 3) × Lent (now classes) (now states) (now finals) (now ranges) × (known ≡ true → longest mode (label start) (now s) ≡ none) ⌝ }
+    requires { ⌜ (start < 88) × (mode < 3) × Lent (now classes) (now states) (now finals) (now ranges)
+        × (known ≡ true → longest mode (label start) (now s) ≡ none) ⌝ }
     ensures { λ r. ⌜ (matchOf r ≡ longest mode (label start) (now (s .entry))) × Inside r (now (s .entry)) ⌝ }
 {
     if known {

@@ -1,4 +1,5 @@
-// The failures that are followed at one time.
+// The failures that are followed at one time. Only where a string, a regexp or a comment may begin are they asked, and only there do they go on to that place:
+// all other rows leave the memo as it is.
 use crate::characters::byte;
 use crate::matcher::FROM_HEX;
 use crate::matcher::FROM_NORMAL;
@@ -9,30 +10,32 @@ use crate::runner::covered_at;
 use crate::runner::follow;
 use crate::runner::renewed;
 ghost use mathlib.Core.Path.{_≡_};
-ghost use Prim.Native.Nat.{ℕ, _≤_};
+ghost use Prim.Native.Nat.{ℕ, _+_, _≤_};
 ghost use mathlib.Core.List.{List};
 ghost use mathlib.Core.Bool.{true};
 ghost use lib.ListN.{length, drop};
-ghost use Rattle.cutter.specs.Lent.{Lent, Holds, Known, Lost};
+ghost use Rattle.cutter.specs.Lent.{Lent, Holds, Stands, Known, Lost};
 
 // The last string, regexp and block comment that failed in normal mode, and the last comment in hex mode: text such as `/* /* /* ..` would otherwise be
-// read to its end again from each place that begins one.
+// read to its end again from each place that begins one. They stand at the byte `from` of the source.
 pub struct Memo {
     pub quote: Runner,
     pub slash: Runner,
     pub star: Runner,
     pub hex: Runner,
+    pub from: usize,
 }
 
-// What the memo tells of a place: whether normal mode matches nothing there, and whether hex mode does.
+// What the memo tells of a place: whether normal mode matches nothing there, and whether hex mode does; and the memo from then on.
 pub struct Seen {
+    pub memo: Memo,
     pub lost: bool,
     pub astray: bool,
 }
 
 // Nothing is followed.
 pub fn nothing() -> Memo
-    ensures { λ r. ⌜ ((s : List ℕ) → Holds r s) ⌝ }
+    ensures { λ r. ⌜ (r .from ≡ 0) × ((s : List ℕ) → Holds r s) ⌝ }
 {
     let idle = Runner { state: 0, skip: 0 };
     Memo {
@@ -40,10 +43,11 @@ pub fn nothing() -> Memo
         slash: idle,
         star: idle,
         hex: idle,
+        from: 0,
     }
 }
 
-// What a match would begin with: 1 a string, 2 a regexp, 3 a block comment.
+// What a match would begin with: 1 a string, 2 a regexp, 3 a block comment; 0 what never fails after many bytes.
 fn opening(s: &[u8]) -> u32 {
     let a = byte(s, 0);
     let b = byte(s, 1);
@@ -69,20 +73,41 @@ fn also(a: bool, b: bool) -> bool
     false
 }
 
-// The memo behind a row: what failed there is followed from its start, and all that is followed goes over the row's bytes.
-fn remember(
+// All that is followed goes on over the first bytes, up to a place of the source.
+fn gone_on(
     s: &[u8],
     memo: Memo,
-    lost: bool,
-    astray: bool,
     len: usize,
+    at: usize,
     classes: &[u8],
     states: &[u8],
     finals: &[u8],
     ranges: &[u32],
 ) -> Memo
-    requires { ⌜ (len ≤ length (now s)) × Holds memo (now s) × Known lost astray (now s) × Lent (now classes) (now states) (now finals) (now ranges) ⌝ }
-    ensures { λ r. ⌜ Holds r (drop len (now (s .entry))) ⌝ }
+    requires { ⌜ (len ≤ length (now s)) × Holds memo (now s) × Lent (now classes) (now states) (now finals) (now ranges) ⌝ }
+    ensures { λ r. ⌜ (r .from ≡ at) × Holds r (drop len (now (s .entry))) ⌝ }
+{
+    let quote = memo.quote;
+    let slash = memo.slash;
+    let star = memo.star;
+    let hex = memo.hex;
+    let quote = follow(s, quote, len, NORMAL, classes, states, finals, ranges);
+    let slash = follow(s, slash, len, NORMAL, classes, states, finals, ranges);
+    let star = follow(s, star, len, NORMAL, classes, states, finals, ranges);
+    let hex = follow(s, hex, len, HEX, classes, states, finals, ranges);
+    Memo {
+        quote,
+        slash,
+        star,
+        hex,
+        from: at,
+    }
+}
+
+// What failed here is followed from now on.
+fn begun(s: &[u8], memo: Memo, lost: bool, astray: bool) -> Memo
+    requires { ⌜ Holds memo (now s) × Known lost astray (now s) ⌝ }
+    ensures { λ r. ⌜ (r .from ≡ memo .from) × Holds r (now (s .entry)) ⌝ }
 {
     let kind = opening(s);
     let quote = memo.quote;
@@ -93,64 +118,20 @@ fn remember(
     let slash = renewed(s, slash, also(lost, kind == 2), FROM_NORMAL, NORMAL);
     let star = renewed(s, star, also(lost, kind == 3), FROM_NORMAL, NORMAL);
     let hex = renewed(s, hex, also(astray, kind == 3), FROM_HEX, HEX);
-    let quote = follow(s, quote, len, NORMAL, classes, states, finals, ranges);
-    let slash = follow(s, slash, len, NORMAL, classes, states, finals, ranges);
-    let star = follow(s, star, len, NORMAL, classes, states, finals, ranges);
-    let hex = follow(s, hex, len, HEX, classes, states, finals, ranges);
     Memo {
         quote,
         slash,
         star,
         hex,
+        from: memo.from,
     }
 }
 
-// Whether nothing is followed, as in most text.
-fn is_idle(memo: Memo) -> bool {
-    let quote = memo.quote;
-    let slash = memo.slash;
-    let star = memo.star;
-    let hex = memo.hex;
-    if quote.state != 0 {
-        return false;
-    }
-    if slash.state != 0 {
-        return false;
-    }
-    if star.state != 0 {
-        return false;
-    }
-    hex.state == 0
-}
-
-// The memo behind a row before which nothing was followed.
-fn begun(
-    s: &[u8],
-    lost: bool,
-    astray: bool,
-    len: usize,
-    classes: &[u8],
-    states: &[u8],
-    finals: &[u8],
-    ranges: &[u32],
-) -> Memo
-    requires { ⌜ (len ≤ length (now s)) × Known lost astray (now s) × Lent (now classes) (now states) (now finals) (now ranges) ⌝ }
-    ensures { λ r. ⌜ Holds r (drop len (now (s .entry))) ⌝ }
-{
-    let idle = nothing();
-    if lost {
-        return remember(s, idle, lost, astray, len, classes, states, finals, ranges);
-    }
-    if astray {
-        return remember(s, idle, lost, astray, len, classes, states, finals, ranges);
-    }
-    idle
-}
-
-// Whether the memo tells that normal mode matches nothing here.
+// Whether the memo tells that normal mode matches nothing here: a failure covers only a match that begins as it did.
 fn lost_at(
     s: &[u8],
     memo: Memo,
+    kind: u32,
     classes: &[u8],
     states: &[u8],
     finals: &[u8],
@@ -162,29 +143,29 @@ fn lost_at(
     let quote = memo.quote;
     let slash = memo.slash;
     let star = memo.star;
-    if covered_at(
-        s,
-        quote,
-        FROM_NORMAL,
-        NORMAL,
-        classes,
-        states,
-        finals,
-        ranges,
-    ) {
-        return true;
+    if kind == 1 {
+        return covered_at(
+            s,
+            quote,
+            FROM_NORMAL,
+            NORMAL,
+            classes,
+            states,
+            finals,
+            ranges,
+        );
     }
-    if covered_at(
-        s,
-        slash,
-        FROM_NORMAL,
-        NORMAL,
-        classes,
-        states,
-        finals,
-        ranges,
-    ) {
-        return true;
+    if kind == 2 {
+        return covered_at(
+            s,
+            slash,
+            FROM_NORMAL,
+            NORMAL,
+            classes,
+            states,
+            finals,
+            ranges,
+        );
     }
     covered_at(
         s,
@@ -199,47 +180,66 @@ fn lost_at(
 }
 
 // A fresh match is not tried where one that is followed covers it.
-pub fn looked(
+fn asked(
     s: &[u8],
     memo: Memo,
+    kind: u32,
     classes: &[u8],
     states: &[u8],
     finals: &[u8],
     ranges: &[u32],
 ) -> Seen
     requires { ⌜ Holds memo (now s) × Lent (now classes) (now states) (now finals) (now ranges) ⌝ }
-    ensures { λ r. ⌜ Known (r .lost) (r .astray) (now (s .entry)) ⌝ }
+    ensures { λ r. ⌜ (r .memo ≡ memo) × Known (r .lost) (r .astray) (now (s .entry)) ⌝ }
 {
-    if is_idle(memo) {
-        return Seen {
-            lost: false,
-            astray: false,
-        };
-    }
     let hex = memo.hex;
-    Seen {
-        lost: lost_at(s, memo, classes, states, finals, ranges),
-        astray: covered_at(s, hex, FROM_HEX, HEX, classes, states, finals, ranges),
-    }
+    let lost = lost_at(s, memo, kind, classes, states, finals, ranges);
+    let astray = covered_at(s, hex, FROM_HEX, HEX, classes, states, finals, ranges);
+    Seen { memo, lost, astray }
 }
 
-// The memo behind a row. Where nothing is followed and the row was matched, as most are, there is nothing to do.
-pub fn kept(
-    s: &[u8],
+// What the memo tells of a place of the source, once it has gone on to that place.
+pub fn looked(
+    source: &[u8],
+    at: usize,
     memo: Memo,
-    lost: bool,
-    astray: bool,
-    len: usize,
     classes: &[u8],
     states: &[u8],
     finals: &[u8],
     ranges: &[u32],
-) -> Memo
-    requires { ⌜ (len ≤ length (now s)) × Holds memo (now s) × Known lost astray (now s) × Lent (now classes) (now states) (now finals) (now ranges) ⌝ }
-    ensures { λ r. ⌜ Holds r (drop len (now (s .entry))) ⌝ }
+) -> Seen
+    requires { ⌜ (at ≤ length (now source)) × Stands memo at (now source) × Lent (now classes) (now states) (now finals) (now ranges) ⌝ }
+    ensures { λ r. ⌜ Stands (r .memo) at (now (source .entry)) × Known (r .lost) (r .astray) (drop at (now (source .entry))) ⌝ }
 {
-    if is_idle(memo) {
-        return begun(s, lost, astray, len, classes, states, finals, ranges);
+    let kind = opening(&source[at..]);
+    if kind == 0 {
+        return Seen {
+            memo,
+            lost: false,
+            astray: false,
+        };
     }
-    remember(s, memo, lost, astray, len, classes, states, finals, ranges)
+    let from = memo.from;
+    let memo = gone_on(
+        &source[from..],
+        memo,
+        at - from,
+        at,
+        classes,
+        states,
+        finals,
+        ranges,
+    );
+    asked(&source[at..], memo, kind, classes, states, finals, ranges)
+}
+
+// The memo behind a row. Where it does not stand at the row's first byte, the row is none that can fail after many bytes.
+pub fn kept(source: &[u8], at: usize, memo: Memo, lost: bool, astray: bool) -> Memo
+    requires { ⌜ (at ≤ length (now source)) × Stands memo at (now source) × Known lost astray (drop at (now source)) ⌝ }
+    ensures { λ r. ⌜ Stands r at (now (source .entry)) ⌝ }
+{
+    if memo.from != at {
+        return memo;
+    }
+    begun(&source[at..], memo, lost, astray)
 }

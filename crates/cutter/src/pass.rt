@@ -28,7 +28,8 @@ fn count(
     let mut n: usize = 0;
     while at < source.len() {
         let r = next_row(
-            &source[at..],
+            source,
+            at,
             place,
             memo,
             classes,
@@ -76,8 +77,11 @@ pub fn fill(
     ranges: &[u32],
     keys: &[u8],
 ) -> usize
-    requires { ⌜ (length (now source) ≤ 1048576) × Lent (now classes) (now states) (now finals) (now ranges) × (now keys ≡ keyTable) × Room (now source) (now ids) (now starts) (now ends) ⌝ }
-    ensures { λ r. ⌜ (r ≡ length (cutting (now (source .entry)))) × (r ≤ length (now (source .entry))) × Filled (now (source .entry)) (now (ids .entry)) (now (starts .entry)) (now (ends .entry)) (now (ids .exit)) (now (starts .exit)) (now (ends .exit)) ⌝ }
+    requires { ⌜ (length (now source) ≤ 1048576) × Lent (now classes) (now states) (now finals) (now ranges) × (now keys ≡ keyTable)
+        × Room (now source) (now ids) (now starts) (now ends) ⌝ }
+    ensures { λ r. ⌜ (r ≡ length (cutting (now (source .entry)))) × (r ≤ length (now (source .entry)))
+        × Filled (now (source .entry)) (now (ids .entry)) (now (starts .entry)) (now (ends .entry))
+        (now (ids .exit)) (now (starts .exit)) (now (ends .exit)) ⌝ }
 {
     let mut place = Place::Elsewhere;
     let mut memo = nothing();
@@ -85,7 +89,8 @@ pub fn fill(
     let mut n: usize = 0;
     while at < source.len() {
         let r = next_row(
-            &source[at..],
+            source,
+            at,
             place,
             memo,
             classes,

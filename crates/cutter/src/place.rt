@@ -7,13 +7,15 @@ ghost use mathlib.Core.Path.{_≡_};
 ghost use Rattle.cutter.specs.Rows.{next};
 ghost use Rattle.cutter.specs.Lent.{modeAt};
 
-// Where the cutting stands: how much of a pattern identifier, an equals sign and an opening brace was just seen, or in which mode it is.
+// Where the cutting stands: how much of a pattern identifier, an equals sign and an opening brace was just seen, or in which mode it is; or, `Unclosed`, that
+// normal mode cuts within a hex pattern whose closing brace has not come.
 pub enum Place {
     Elsewhere,
     Named,
     Equated,
     InHex,
     InJump,
+    Unclosed,
 }
 
 // Where a row of normal mode leaves the cutting.
@@ -42,6 +44,15 @@ pub fn onward(place: Place, id: u32) -> Place
         Place::Elsewhere => Place::Elsewhere,
         Place::InHex => Place::Elsewhere,
         Place::InJump => Place::Elsewhere,
+        Place::Unclosed => {
+            if id == kind::L_BRACKET {
+                return Place::InJump;
+            }
+            if id == kind::R_BRACE {
+                return Place::Elsewhere;
+            }
+            Place::Unclosed
+        }
     }
 }
 
@@ -55,5 +66,6 @@ pub fn mode_of(place: Place) -> usize
         Place::Elsewhere => NORMAL,
         Place::Named => NORMAL,
         Place::Equated => NORMAL,
+        Place::Unclosed => NORMAL,
     }
 }

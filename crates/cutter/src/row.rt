@@ -130,10 +130,10 @@ fn hex_row(
 {
     let Match::Found(id, len) = tried(s, astray, FROM_HEX, HEX, classes, states, finals, ranges)
     else {
-        let elsewhere = Place::Elsewhere;
+        let unclosed = Place::Unclosed;
         let r = normal_row(
             s,
-            elsewhere,
+            unclosed,
             lost,
             astray,
             classes,

@@ -5,23 +5,24 @@ use crate::memo::looked;
 use crate::place::Place;
 use crate::row::row_at;
 ghost use mathlib.Core.Path.{_≡_};
-ghost use Prim.Native.Nat.{_≤_, _<_};
+ghost use Prim.Native.Nat.{_+_, _≤_, _<_};
 ghost use lib.ListN.{length, drop};
 ghost use Rattle.cutter.specs.Rows.{row};
-ghost use Rattle.cutter.specs.Lent.{Lent, Holds, turnOf};
+ghost use Rattle.cutter.specs.Lent.{Lent, Stands, turnOf};
 ghost use Rattle.cutter.specs.Table.{keyTable};
 
 // A row, and the memo behind it.
 pub struct Turn {
-    pub id: u32,
-    pub len: usize,
-    pub place: Place,
     pub memo: Memo,
+    pub len: usize,
+    pub id: u32,
+    pub place: Place,
 }
 
 // The next row of the cutting, and what is known behind it.
 pub fn next_row(
-    s: &[u8],
+    source: &[u8],
+    at: usize,
     place: Place,
     memo: Memo,
     classes: &[u8],
@@ -30,12 +31,14 @@ pub fn next_row(
     ranges: &[u32],
     keys: &[u8],
 ) -> Turn
-    requires { ⌜ (0 < length (now s)) × Lent (now classes) (now states) (now finals) (now ranges) × (now keys ≡ keyTable) × Holds memo (now s) ⌝ }
-    ensures { λ r. ⌜ (turnOf r ≡ row place (now (s .entry))) × (0 < r .len) × (r .len ≤ length (now (s .entry))) × Holds (r .memo) (drop (r .len) (now (s .entry))) ⌝ }
+    requires { ⌜ (at < length (now source)) × Lent (now classes) (now states) (now finals) (now ranges) × (now keys ≡ keyTable) ⌝ }
+    requires { ⌜ Stands memo at (now source) ⌝ }
+    ensures { λ r. ⌜ (turnOf r ≡ row place (drop at (now (source .entry)))) × (0 < r .len) × (at + r .len ≤ length (now (source .entry))) ⌝ }
+    ensures { λ r. ⌜ Stands (r .memo) at (now (source .entry)) ⌝ }
 {
-    let seen = looked(s, memo, classes, states, finals, ranges);
+    let seen = looked(source, at, memo, classes, states, finals, ranges);
     let r = row_at(
-        s,
+        &source[at..],
         place,
         seen.lost,
         seen.astray,
@@ -46,22 +49,12 @@ pub fn next_row(
         keys,
     );
     let to = r.place;
-    let len = r.len;
-    let memo = kept(
-        s,
-        memo,
-        r.lost,
-        r.astray,
-        len,
-        classes,
-        states,
-        finals,
-        ranges,
-    );
+    let memo = seen.memo;
+    let memo = kept(source, at, memo, r.lost, r.astray);
     Turn {
-        id: r.id,
-        len,
-        place: to,
         memo,
+        len: r.len,
+        id: r.id,
+        place: to,
     }
 }

@@ -201,6 +201,8 @@ fn modes() {
     show(b"$a=x{00");
     show(b"$ = {rule 00");
     show(b"$a={//c");
+    show(b"$={[/**/-][-]00}00");
+    show(b"$={-}[1_");
     tell(
         b"a comment with an invalid byte in hex mode",
         b"$a={/*\xFF*/",

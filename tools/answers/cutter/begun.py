@@ -1,10 +1,21 @@
 WHERE = "memo/begun"
 USES = """-- `begun` meets its contract.
-use lib.ListN.{drop}
+use mathlib.Core.Path.{_≡_, refl, ap, _∙_}
+use native.Mathlib.Omega.{arith}
+use Rattle.cutter.specs.Expr.{longest}
+use Rattle.cutter.proofs.Tests.{starts-normal, starts-hex}
 """
-REMEMBERS = "({pre} .0, {nothing} .ensures ({args} .s .now), {pre} .1, {pre} .2)"
+
+
+def again(runner, mode, name, number):
+    start = {"0": "starts-normal", "1": "starts-hex"}[mode]
+    return f"(omega arith, {{pre}} .0 .{runner}, λ e. ap (λ ts. longest {mode} ts ({{args}} .s .now)) {start} ∙ {{pre}} .1 .{name} ({{also{number}}} .ensures e))"
+
+
 ANS = {
-    "remember-requires": REMEMBERS,
-    "remember-requires-2": REMEMBERS,
-    "returns-3": "{nothing} .ensures (drop ({args} .len) ({args} .s .now))",
+    "renewed-requires": again("quote", "0", "normal", ""),
+    "renewed-requires-2": again("slash", "0", "normal", "2"),
+    "renewed-requires-3": again("star", "0", "normal", "3"),
+    "renewed-requires-4": again("hex", "1", "hex", "4"),
+    "returns": "(refl, record { quote = {renewed} .ensures; slash = {renewed2} .ensures; star = {renewed3} .ensures; hex = {renewed4} .ensures })",
 }

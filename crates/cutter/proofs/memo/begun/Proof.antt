@@ -1,32 +1,58 @@
 -- `begun` meets its contract.
-use lib.ListN.{drop}
+use mathlib.Core.Path.{_≡_, refl, ap, _∙_}
+use native.Mathlib.Omega.{arith}
+use Rattle.cutter.specs.Expr.{longest}
+use Rattle.cutter.proofs.Tests.{starts-normal, starts-hex}
 use borrow.Author.Needs.{needs}
 use Rattle.cutter.proofs.memo.begun.Statement.{statement}
 use Rattle.cutter.proofs.memo.begun.Tie as tie
 use Rattle.cutter.proofs.memo.begun.Reads as reads
 use Rattle.cutter.proofs.memo.begun.Lts as lts
-use Rattle.cutter.proofs.memo.nothing.Reads as nothing-reads
-use Rattle.cutter.proofs.memo.remember.Reads as remember-reads
+use Rattle.cutter.proofs.memo.also.Reads as also-reads
+use Rattle.cutter.proofs.memo.opening.Reads as opening-reads
+use Rattle.cutter.proofs.runner.renewed.Reads as renewed-reads
 
-nothing-requires : tie.Need-nothing-requires
-nothing-requires c κs = search needs
+opening-requires : tie.Need-opening-requires
+opening-requires c κs = search needs
 
-remember-requires : tie.Need-remember-requires
-remember-requires c κs = (c .before .before .before .before .before .before .before .pre .0, c .before .nothing .ensures (c .before .before .before .before .before .before .before .args .s .now), c .before .before .before .before .before .before .before .pre .1, c .before .before .before .before .before .before .before .pre .2)
+also-requires : tie.Need-also-requires
+also-requires c κs = search needs
+
+renewed-requires : tie.Need-renewed-requires
+renewed-requires c κs = (omega arith, c .before .before .before .before .before .before .before .pre .0 .quote, λ e. ap (λ ts. longest 0 ts (c .before .before .before .before .before .before .before .args .s .now)) starts-normal ∙ c .before .before .before .before .before .before .before .pre .1 .normal (c .also .ensures e))
+
+also-requires-2 : tie.Need-also-requires-2
+also-requires-2 c κs = search needs
+
+renewed-requires-2 : tie.Need-renewed-requires-2
+renewed-requires-2 c κs = (omega arith, c .before .before .before .before .before .before .before .before .before .pre .0 .slash, λ e. ap (λ ts. longest 0 ts (c .before .before .before .before .before .before .before .before .before .args .s .now)) starts-normal ∙ c .before .before .before .before .before .before .before .before .before .pre .1 .normal (c .also2 .ensures e))
+
+also-requires-3 : tie.Need-also-requires-3
+also-requires-3 c κs = search needs
+
+renewed-requires-3 : tie.Need-renewed-requires-3
+renewed-requires-3 c κs = (omega arith, c .before .before .before .before .before .before .before .before .before .before .before .pre .0 .star, λ e. ap (λ ts. longest 0 ts (c .before .before .before .before .before .before .before .before .before .before .before .args .s .now)) starts-normal ∙ c .before .before .before .before .before .before .before .before .before .before .before .pre .1 .normal (c .also3 .ensures e))
+
+also-requires-4 : tie.Need-also-requires-4
+also-requires-4 c κs = search needs
+
+renewed-requires-4 : tie.Need-renewed-requires-4
+renewed-requires-4 c κs = (omega arith, c .before .before .before .before .before .before .before .before .before .before .before .before .before .pre .0 .hex, λ e. ap (λ ts. longest 1 ts (c .before .before .before .before .before .before .before .before .before .before .before .before .before .args .s .now)) starts-hex ∙ c .before .before .before .before .before .before .before .before .before .before .before .before .before .pre .1 .hex (c .also4 .ensures e))
 
 returns : tie.Need-returns
-returns c = search needs
-
-remember-requires-2 : tie.Need-remember-requires-2
-remember-requires-2 c κs = (c .before .before .before .before .before .before .before .before .pre .0, c .before .before .nothing .ensures (c .before .before .before .before .before .before .before .before .args .s .now), c .before .before .before .before .before .before .before .before .pre .1, c .before .before .before .before .before .before .before .before .pre .2)
-
-returns-2 : tie.Need-returns-2
-returns-2 c = search needs
-
-returns-3 : tie.Need-returns-3
-returns-3 c = c .before .before .nothing .ensures (drop (c .before .before .before .before .before .before .before .before .args .len) (c .before .before .before .before .before .before .before .before .args .s .now))
+returns c = (refl, record { quote = c .before .before .before .before .before .before .renewed .ensures; slash = c .before .before .before .before .renewed2 .ensures; star = c .before .before .renewed3 .ensures; hex = c .renewed4 .ensures })
 
 pub begun-spec : {M : Type 1} → statement M
 begun-spec =
     tie.close
-    (tie.spec nothing-requires remember-requires returns remember-requires-2 returns-2 returns-3)
+    (tie.spec
+    opening-requires
+    also-requires
+    renewed-requires
+    also-requires-2
+    renewed-requires-2
+    also-requires-3
+    renewed-requires-3
+    also-requires-4
+    renewed-requires-4
+    returns)

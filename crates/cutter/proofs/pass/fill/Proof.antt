@@ -6,9 +6,8 @@ use borrow.Author.Needs.{needs}
 use mathlib.Core.List.{List, [], _∷_}
 use lib.ListN.{length, getD, set, take, drop, length-drop, length-set}
 use Rattle.cutter.specs.Rows.{row, rows, cutting}
-use lib.Seq.{drop-drop}
-use Rattle.cutter.specs.Lent.{turnOf, Holds}
-use Rattle.cutter.proofs.Walks.{tail}
+use Rattle.cutter.specs.Lent.{turnOf, Stands}
+use Rattle.cutter.proofs.Stands.{stands, onwards}
 use Rattle.cutter.proofs.Fills.{Triple, turn, over, begun, wrote, wrote-length, wrote-more, wrote-all, nth, below}
 use Rattle.cutter.proofs.Tiling.{few}
 use Rattle.cutter.proofs.pass.fill.Statement.{statement}
@@ -17,94 +16,78 @@ use Rattle.cutter.proofs.pass.fill.Tie as tie
 abbrev Inv-loop : tie.InvT-loop
 Inv-loop source ids₀ starts₀ ends₀ classes states finals ranges keys place₀ memo₀ at₀ n₀ ids starts ends place memo at n = (at ≤ length source) × (n ≤ length (cutting source)) × (rows at 0 place (drop at source) ≡ drop n (cutting source))
     × (ids ≡ wrote (λ x. x .0) (cutting source) n ids₀) × (starts ≡ wrote (λ x. x .1) (cutting source) n starts₀)
-    × (ends ≡ wrote (λ x. x .2) (cutting source) n ends₀) × Holds memo (drop at source)
+    × (ends ≡ wrote (λ x. x .2) (cutting source) n ends₀) × Stands memo at source
 
 abbrev μ-loop : tie.MeasureT-loop
 μ-loop source ids₀ starts₀ ends₀ classes states finals ranges keys place₀ memo₀ at₀ n₀ ids starts ends place memo at n = length source - at
 
 abbrev start : tie.After-next-row Inv-loop μ-loop → tie.Start Inv-loop μ-loop
-start g = g .before .before .before .before .before .before .before .before .before .before .before .before .before .before
+start g = g .before .before .before .before .before .before .before .before .before .before .before .before .before
 
 abbrev text : tie.After-next-row Inv-loop μ-loop → List ℕ
 text g = start g .args .source .now
 
-rowed : (g : tie.After-next-row Inv-loop μ-loop) → let l = g .before .before .before .loop in turnOf (g .next-row .result) ≡ row (l .place) (drop (l .at) (text g))
-rowed g = let l = g .before .before .before .loop in g .next-row .ensures .0 ∙ ap (row (l .place)) (tail (text g) (l .at))
+rowed : (g : tie.After-next-row Inv-loop μ-loop) → let l = g .before .before .loop in turnOf (g .next-row .result) ≡ row (l .place) (drop (l .at) (text g))
+rowed g = g .next-row .ensures .0 .0
 
-fits : (g : tie.After-next-row Inv-loop μ-loop) → g .before .before .before .loop .at + g .next-row .result .len ≤ length (text g)
-fits g =
-    let l = g .before .before .before .loop in
-    let e : length (take (length (text g) - l .at) (drop (l .at) (text g))) ≡ length (text g) - l .at =
-    ap length (tail (text g) (l .at)) ∙ length-drop (l .at) (text g) in
-    omega (arith, g .next-row .ensures .2, g .before .before .loop-test .taken)
+fits : (g : tie.After-next-row Inv-loop μ-loop) → g .before .before .loop .at + g .next-row .result .len ≤ length (text g)
+fits g = g .next-row .ensures .0 .2
 
 -- the row at hand is the n-th
 here : (g : tie.After-next-row Inv-loop μ-loop) →
-    let l = g .before .before .before .loop in
+    let l = g .before .before .loop in
     let r = g .next-row .result in
     drop (l .n) (cutting (text g)) ≡ (r .id, l .at, l .at + r .len) ∷ rows (l .at + r .len) 0 (r .place) (drop (l .at + r .len) (text g))
 here g =
-    let l = g .before .before .before .loop in
-    sym (l .inv .2) ∙ turn (text g) (l .at) (l .place) (turnOf (g .next-row .result)) (g .before .before .loop-test .taken) (rowed g) (g .next-row .ensures .1)
+    let l = g .before .before .loop in
+    sym (l .inv .2) ∙ turn (text g) (l .at) (l .place) (turnOf (g .next-row .result)) (g .before .loop-test .taken) (rowed g) (g .next-row .ensures .0 .1)
 
-there : (g : tie.After-next-row Inv-loop μ-loop) → g .before .before .before .loop .n < length (cutting (text g))
+there : (g : tie.After-next-row Inv-loop μ-loop) → g .before .before .loop .n < length (cutting (text g))
 there g =
-    let l = g .before .before .before .loop in
+    let l = g .before .before .loop in
     let r = g .next-row .result in
     below (cutting (text g)) (l .n) (r .id, l .at, l .at + r .len) (rows (l .at + r .len) 0 (r .place) (drop (l .at + r .len) (text g))) (here g)
 
 nth-row : (g : tie.After-next-row Inv-loop μ-loop) →
-    let l = g .before .before .before .loop in
+    let l = g .before .before .loop in
     let r = g .next-row .result in
     (getD (cutting (text g)) (l .n) (0, 0, 0) ≡ (r .id, l .at, l .at + r .len))
     × (drop (l .n + 1) (cutting (text g)) ≡ rows (l .at + r .len) 0 (r .place) (drop (l .at + r .len) (text g)))
 nth-row g =
-    let l = g .before .before .before .loop in
+    let l = g .before .before .loop in
     let r = g .next-row .result in
     nth (cutting (text g)) (l .n) (r .id, l .at, l .at + r .len) (rows (l .at + r .len) 0 (r .place) (drop (l .at + r .len) (text g))) (there g) (here g)
 
 -- the lists keep their lengths
-ids-length : (g : tie.After-next-row Inv-loop μ-loop) → length (g .before .before .before .loop .ids) ≡ length (start g .args .ids .now)
-ids-length g = let l = g .before .before .before .loop in ap length (l .inv .3) ∙ wrote-length (λ x. x .0) (cutting (text g)) (start g .args .ids .now) (start g .pre .3 .first) (l .n) (l .inv .1)
+ids-length : (g : tie.After-next-row Inv-loop μ-loop) → length (g .before .before .loop .ids) ≡ length (start g .args .ids .now)
+ids-length g = let l = g .before .before .loop in ap length (l .inv .3) ∙ wrote-length (λ x. x .0) (cutting (text g)) (start g .args .ids .now) (start g .pre .3 .first) (l .n) (l .inv .1)
 
-starts-length : (g : tie.After-next-row Inv-loop μ-loop) → length (g .before .before .before .loop .starts) ≡ length (start g .args .starts .now)
-starts-length g = let l = g .before .before .before .loop in ap length (l .inv .4) ∙ wrote-length (λ x. x .1) (cutting (text g)) (start g .args .starts .now) (start g .pre .3 .second) (l .n) (l .inv .1)
+starts-length : (g : tie.After-next-row Inv-loop μ-loop) → length (g .before .before .loop .starts) ≡ length (start g .args .starts .now)
+starts-length g = let l = g .before .before .loop in ap length (l .inv .4) ∙ wrote-length (λ x. x .1) (cutting (text g)) (start g .args .starts .now) (start g .pre .3 .second) (l .n) (l .inv .1)
 
-ends-length : (g : tie.After-next-row Inv-loop μ-loop) → length (g .before .before .before .loop .ends) ≡ length (start g .args .ends .now)
-ends-length g = let l = g .before .before .before .loop in ap length (l .inv .5) ∙ wrote-length (λ x. x .2) (cutting (text g)) (start g .args .ends .now) (start g .pre .3 .third) (l .n) (l .inv .1)
+ends-length : (g : tie.After-next-row Inv-loop μ-loop) → length (g .before .before .loop .ends) ≡ length (start g .args .ends .now)
+ends-length g = let l = g .before .before .loop in ap length (l .inv .5) ∙ wrote-length (λ x. x .2) (cutting (text g)) (start g .args .ends .now) (start g .pre .3 .third) (l .n) (l .inv .1)
 
-in-ids : (g : tie.After-next-row Inv-loop μ-loop) → g .before .before .before .loop .n < length (g .before .before .before .loop .ids)
+in-ids : (g : tie.After-next-row Inv-loop μ-loop) → g .before .before .loop .n < length (g .before .before .loop .ids)
 in-ids g = omega (arith, there g, start g .pre .3 .first, ids-length g)
 
-in-starts : (g : tie.After-next-row Inv-loop μ-loop) → g .before .before .before .loop .n < length (g .before .before .before .loop .starts)
+in-starts : (g : tie.After-next-row Inv-loop μ-loop) → g .before .before .loop .n < length (g .before .before .loop .starts)
 in-starts g = omega (arith, there g, start g .pre .3 .second, starts-length g)
 
-in-ends : (g : tie.After-next-row Inv-loop μ-loop) → g .before .before .before .loop .n < length (g .before .before .before .loop .ends)
+in-ends : (g : tie.After-next-row Inv-loop μ-loop) → g .before .before .loop .n < length (g .before .before .loop .ends)
 in-ends g = omega (arith, there g, start g .pre .3 .third, ends-length g)
 
-remembered : (g : tie.After-next-row Inv-loop μ-loop) → Holds (g .next-row .result .memo) (drop (g .before .before .before .loop .at + g .next-row .result .len) (text g))
-remembered g =
-    let l = g .before .before .before .loop in
-    let r = g .next-row .result in
-    subst (Holds (r .memo)) (ap (drop (r .len)) (tail (text g) (l .at)) ∙ drop-drop (r .len) (l .at) (text g)) (g .next-row .ensures .3)
+remembered : (g : tie.After-next-row Inv-loop μ-loop) → Stands (g .next-row .result .memo) (g .before .before .loop .at + g .next-row .result .len) (text g)
+remembered g = onwards (g .next-row .result .len) (g .next-row .ensures .1)
 
 nothing-requires : tie.Need-nothing-requires Inv-loop μ-loop
 nothing-requires c κs = search needs
 
 loop-holds : tie.Need-loop-holds Inv-loop μ-loop
-loop-holds c = (omega arith, omega arith, begun _, refl, refl, refl, c .nothing .ensures (drop 0 (c .before .before .before .before .before .before .before .before .before .before .args .source .now)))
-
-sub-next-row : tie.Need-sub-next-row Inv-loop μ-loop
-sub-next-row c = omega arith
-
-part-next-row-start : tie.Need-part-next-row-start Inv-loop μ-loop
-part-next-row-start c = omega arith
-
-part-next-row-end : tie.Need-part-next-row-end Inv-loop μ-loop
-part-next-row-end c = omega arith
+loop-holds c = (omega arith, omega arith, begun _, refl, refl, refl, stands _ 0 (c .before .before .before .before .before .before .before .before .before .before .args .source .now) (c .nothing .ensures .0) (c .nothing .ensures .1 (drop 0 (c .before .before .before .before .before .before .before .before .before .before .args .source .now))))
 
 next-row-requires : tie.Need-next-row-requires Inv-loop μ-loop
-next-row-requires c κs = let s = c .before .before .before .before .before .before .before .before .before .before .before .before .before in (rw (tail (s .args .source .now) (c .before .before .loop .at)) (simp length-drop (omega arith)), s .pre .1, s .pre .2, subst (Holds (c .before .before .loop .memo)) (sym (tail (s .args .source .now) (c .before .before .loop .at))) (c .before .before .loop .inv .6))
+next-row-requires c κs = let s = c .before .before .before .before .before .before .before .before .before .before .before .before in ((c .loop-test .taken, s .pre .1, s .pre .2), c .before .loop .inv .6)
 
 mul-ids : tie.Need-mul-ids Inv-loop μ-loop
 mul-ids c = omega (arith, in-ids (c .before), ids-length (c .before), start (c .before) .good .1 .0 .1)
@@ -113,7 +96,7 @@ slice-write-ids : tie.Need-slice-write-ids Inv-loop μ-loop
 slice-write-ids c = in-ids (c .before)
 
 cast-starts : tie.Need-cast-starts Inv-loop μ-loop
-cast-starts c = omega (arith, start (c .before) .pre .0, c .before .before .before .loop-test .taken)
+cast-starts c = omega (arith, start (c .before) .pre .0, c .before .before .loop-test .taken)
 
 mul-starts : tie.Need-mul-starts Inv-loop μ-loop
 mul-starts c = omega (arith, in-starts (c .before), starts-length (c .before), start (c .before) .good .1 .1 .0 .1)
@@ -137,11 +120,11 @@ add-n : tie.Need-add-n Inv-loop μ-loop
 add-n c = omega (arith, in-ids (c .before .before), ids-length (c .before .before), start (c .before .before) .good .1 .0 .0)
 
 loop-less : tie.Need-loop-less Inv-loop μ-loop
-loop-less c = omega (arith, fits (c .before .before), c .before .before .next-row .ensures .1)
+loop-less c = omega (arith, fits (c .before .before), c .before .before .next-row .ensures .0 .1)
 
 loop-again : tie.Need-loop-again Inv-loop μ-loop
 loop-again c = let g = c .before .before in
-    let l = g .before .before .before .loop in
+    let l = g .before .before .loop in
     let rs = cutting (text g) in (
       fits g,
       omega (arith, there g),
@@ -186,9 +169,6 @@ fill-spec =
     μ-loop
     nothing-requires
     loop-holds
-    sub-next-row
-    part-next-row-start
-    part-next-row-end
     next-row-requires
     mul-ids
     slice-write-ids
