@@ -22,11 +22,12 @@ pub and-right : (a b : Bool) → a && b ≡ true → b ≡ true
 and-right true b e = e
 and-right false b e = cc
 
-pub record Judged (r : List ℕ) : Type 0 where
+pub record Judged (s r : List ℕ) : Type 0 where
   pub least : 1 ≤ form r
   pub most : form r ≤ 10
   pub kept : named [] (names r) ≡ true
   pub none : 4 ≤ form r → length (names r) ≡ 0
+  pub shown : shows (form r) (found s r) ≡ true
 
 module _ (s r : List ℕ) where
   abbrev t₁ : Bool
@@ -38,7 +39,7 @@ module _ (s r : List ℕ) where
   abbrev t₃ : Bool
   t₃ = counts (form r) (count r)
 
-  pub judged : reads s r ≡ true → Judged r
+  pub judged : reads s r ≡ true → Judged s r
   unfolding reads
   judged e =
       let e₈ = and-left (t₁ && leb 1 (form r) && leb (form r) 10 && t₃ && t₂ && named [] (names r)) (shows (form r) (found s r)) e in
@@ -54,6 +55,7 @@ module _ (s r : List ℕ) where
         none = λ h.
             let z : count r ≡ 0 = eqb-true (count r) 0 (sym (ap (λ (b : Bool). cond b (leb 1 (count r)) (eqb (count r) 0)) (le-ltb (form r) 4 h)) ∙ c) in
             omega (arith, z, names-count r, min-le-left (count r) (length r - head));
+        shown = and-right (t₁ && leb 1 (form r) && leb (form r) 10 && t₃ && t₂ && named [] (names r)) (shows (form r) (found s r)) e;
       }
 
 -- an empty text

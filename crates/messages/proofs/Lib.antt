@@ -11,3 +11,4 @@ pub mod Answers
 pub mod Readable
 pub mod Examples
 pub mod Spots
+pub mod Characters
