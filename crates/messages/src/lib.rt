@@ -15,7 +15,6 @@ use crate::record::FORM;
 use crate::record::HEAD;
 use crate::record::START;
 use crate::record::number_at;
-use crate::text::begins;
 use crate::writing::clear;
 use crate::writing::put;
 pub use answer::Part;
@@ -24,11 +23,13 @@ pub use record::size;
 pub use spot::Spot;
 pub use spot::spot_of;
 pub use text::TEXT;
+pub use text::begins;
 ghost use Prim.Native.Nat.{_≤_, _<_};
 ghost use mathlib.Core.Path.{_≡_};
 ghost use lib.Dec.{leb};
 ghost use lib.ListN.{length, getD};
-ghost use Rattle.messages.specs.Record.{names, part};
+ghost use Rattle.messages.specs.Record.{start, names, part};
+ghost use Rattle.messages.specs.Spot.{spotOf};
 ghost use Rattle.messages.specs.Message.{messaging};
 ghost use Rattle.messages.specs.Pieces.{told, content, listed, opening, quoted, closing, pieces, pieceAt, whole};
 ghost use Rattle.messages.specs.Answer.{returning};
@@ -251,4 +252,11 @@ pub fn message(source: &[u8], numbers: &[u32], room: &mut [u8]) -> Written
     let end = write(source, &text, numbers, room);
     clear(&mut room[end..]);
     Written::Length(end)
+}
+
+// Where the record's span begins.
+pub fn record_spot(source: &[u8], numbers: &[u32]) -> Spot
+    ensures { λ r. ⌜ r ≡ spotOf (now (source .entry)) (start (now (numbers .entry))) ⌝ }
+{
+    spot_of(source, number_at(numbers, START) as usize)
 }
