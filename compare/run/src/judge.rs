@@ -1,7 +1,7 @@
 //! Puts one question to every side and compares.
 
-use common::listing::listing;
 use crate::messages;
+use common::listing::listing;
 use common::{events_of, reading_of, strip_empty_errors, Question, Reading, Reply, Side};
 use model::{utf8, Model};
 use std::panic::{catch_unwind, AssertUnwindSafe};

@@ -61,7 +61,8 @@ pub fn wild(count: u64, seed: u64) -> Result<(), String> {
     Ok(())
 }
 
-const TEXTS: [&[u8]; 6] = [b"rule", b"\xC3\xA9", b"\xED\xA0\x80", b"\xF0\x9F\x99\x82", b"`, found `", b"\xC2"];
+const TEXTS: [&[u8]; 6] =
+    [b"rule", b"\xC3\xA9", b"\xED\xA0\x80", b"\xF0\x9F\x99\x82", b"`, found `", b"\xC2"];
 
 fn spoiled(rng: &mut Rng) -> (Vec<u8>, Vec<u32>) {
     let source: Vec<u8> = (0..rng.below(6)).flat_map(|_| rng.pick(&TEXTS).to_vec()).collect();
