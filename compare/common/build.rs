@@ -16,7 +16,11 @@ fn main() {
     constants(&mut out, "id", "IDS", &ids);
     constants(&mut out, "kind", "KINDS", &kinds);
     constants(&mut out, "name", "NAMES", &names);
-    macro_of(&mut out, &ids, &kinds);
+    let descriptions = descriptions(&text);
+    assert_eq!(descriptions.len(), names.len(), "a description for each name");
+    writeln!(out, "/// What each name is called in a message.").unwrap();
+    writeln!(out, "pub const DESCRIPTIONS: &[&str] = &{descriptions:?};").unwrap();
+    macro_of(&mut out, &ids, &kinds, &descriptions);
     let place = Path::new(&env::var_os("OUT_DIR").unwrap()).join("kinds.rs");
     fs::write(place, out).unwrap();
 }
@@ -35,6 +39,13 @@ fn rows(text: &str, heading: &str) -> Vec<Vec<String>> {
     rows
 }
 
+/// The page's descriptions, by name. They stand as plain text, since one is the sign that parts cells.
+fn descriptions(text: &str) -> Vec<String> {
+    let part = text.lines().skip_while(|l| *l != "## Descriptions").filter(|l| l.starts_with("| "));
+    let last = |l: &str| l.strip_suffix(" |").unwrap().splitn(4, " | ").nth(2).unwrap().to_string();
+    part.map(last).collect()
+}
+
 fn constants(out: &mut String, module: &str, list: &str, rows: &[Vec<String>]) {
     let all: Vec<&str> = rows.iter().map(|r| r[1].as_str()).collect();
     writeln!(out, "pub const {list}: &[&str] = &{all:?};").unwrap();
@@ -47,10 +58,10 @@ fn constants(out: &mut String, module: &str, list: &str, rows: &[Vec<String>]) {
 }
 
 /// A macro that hands the page to another one: enums cannot be made of constants.
-fn macro_of(out: &mut String, ids: &[Vec<String>], kinds: &[Vec<String>]) {
+fn macro_of(out: &mut String, ids: &[Vec<String>], kinds: &[Vec<String>], descriptions: &[String]) {
     writeln!(out, "#[macro_export]\nmacro_rules! page {{ ($then:ident) => {{ $then! {{ ids {{").unwrap();
-    for id in ids {
-        writeln!(out, "{} {},", id[1], id[0]).unwrap();
+    for (id, description) in ids.iter().zip(descriptions) {
+        writeln!(out, "{} {} {description:?},", id[1], id[0]).unwrap();
     }
     writeln!(out, "}} kinds {{").unwrap();
     for kind in kinds.iter().filter(|k| k[2] != "-") {

@@ -101,14 +101,25 @@ pub struct Cut {
     pub lists: [Vec<u32>; 3],
 }
 
+/// What writing a message gives back: refusal, length of the text, and its room, which held `LENT_BYTE` everywhere.
+#[derive(Clone, Debug, PartialEq, Eq)]
+pub struct Told {
+    pub refusal: u32,
+    pub length: u32,
+    pub room: Vec<u8>,
+}
+
 /// The content of lent cells before a call: neither zero nor anything that a reader writes.
 pub const LENT: u32 = 0xA5A5_A5A5;
 pub const LENT_WORD: u64 = 0xA5A5_A5A5_A5A5_A5A5;
+pub const LENT_BYTE: u8 = 0xA5;
 
 /// Anything that reads as document 01 says: the model, and the library through its C face.
 pub trait Side {
     fn read(&self, question: &Question) -> Reply;
     fn merge(&self, events: &[u32], room: usize) -> Merged;
+    /// The message of the error record that the numbers begin with.
+    fn message(&self, source: &[u8], numbers: &[u32], room: usize) -> Told;
 }
 
 /// A reading without its buffers: all that can be asked of the Rust.
@@ -128,6 +139,14 @@ pub struct Record {
     pub end: u32,
     pub form: u32,
     pub names: Vec<u32>,
+}
+
+impl Record {
+    /// The record as it stands in a list.
+    pub fn numbers(&self) -> Vec<u32> {
+        let head = [self.start, self.end, self.form, self.names.len() as u32];
+        [&head[..], &self.names].concat()
+    }
 }
 
 pub fn events_of(numbers: &[u32]) -> Vec<Event> {

@@ -1,6 +1,6 @@
 //! Stableglow itself, through its C face.
 
-use common::{Cut, Merged, Question, Reply, Side, LENT, LENT_WORD};
+use common::{Cut, Merged, Question, Reply, Side, Told, LENT, LENT_BYTE, LENT_WORD};
 
 extern "C" {
     fn stableglow_read(
@@ -40,6 +40,16 @@ extern "C" {
         ends: *mut u32,
         ends_len: usize,
         count: *mut u32,
+    ) -> u32;
+
+    fn stableglow_message(
+        source: *const u8,
+        source_len: usize,
+        numbers: *const u32,
+        numbers_len: usize,
+        room: *mut u8,
+        room_len: usize,
+        length: *mut u32,
     ) -> u32;
 }
 
@@ -125,5 +135,23 @@ impl Side for Library {
         let mut count = LENT;
         let refusal = merge_into(events, &mut room, &mut count);
         Merged { refusal, count, room }
+    }
+
+    fn message(&self, source: &[u8], numbers: &[u32], room: usize) -> Told {
+        let mut room = vec![LENT_BYTE; room];
+        let mut length = LENT;
+        // SAFETY: as above.
+        let refusal = unsafe {
+            stableglow_message(
+                source.as_ptr(),
+                source.len(),
+                numbers.as_ptr(),
+                numbers.len(),
+                room.as_mut_ptr(),
+                room.len(),
+                &mut length,
+            )
+        };
+        Told { refusal, length, room }
     }
 }

@@ -26,18 +26,29 @@ pub struct Probed {
 
 /// Reads rows that tile the source. Answers outcomes 0 and 1 alone: the Rust has no limit of depth.
 pub fn read(question: &Question) -> Reading {
+    told(question).0
+}
+
+/// The reading, and the Rust's own message for each of its error records.
+pub fn told(question: &Question) -> (Reading, Vec<String>) {
     let probed = parser::Parser::probe(&question.source, &tokens(question), question.fuel as usize);
+    let texts = probed.events.iter().filter_map(|event| match event {
+        cst::Event::Error { message, .. } => Some(message.clone()),
+        _ => None,
+    });
+    let texts = texts.collect();
     let (raw, records) = with_records(probed.events.iter().cloned(), &question.source);
     let (merged, again) = with_records(ErrorMerger::new(probed.events.into_iter()), &question.source);
     assert_eq!(records, again, "merging leaves errors alone");
-    Reading {
+    let reading = Reading {
         raw,
         merged,
         records,
         outcome: u32::from(probed.out_of_fuel),
         rows: probed.rows as u32,
         fuel: probed.fuel as u32,
-    }
+    };
+    (reading, texts)
 }
 
 /// A source read with the modes that the parser sets.

@@ -1,6 +1,6 @@
 //! Takes the Rust's messages apart into document 01's form and names.
 
-use common::kinds::NAMES;
+use common::kinds::DESCRIPTIONS;
 
 /// The form and names of a message about `found`. The message is put together again from them and must
 /// be the same text, so nothing is guessed.
@@ -19,7 +19,8 @@ pub fn apart(message: &str, found: &[u8]) -> (u32, Vec<u32>) {
     (form, names)
 }
 
-/// No name holds the word "found" with a comma before it, so the first such place ends the names.
+/// No description holds the word "found" with a comma before it, so the first such place ends the names. None
+/// holds a joint either, and no two are the same.
 fn expecting(message: &str) -> (u32, Vec<u32>) {
     let list = message.strip_prefix("expecting ").expect(message);
     let (form, list) = match list.split_once(", found ") {
@@ -27,15 +28,15 @@ fn expecting(message: &str) -> (u32, Vec<u32>) {
         Some((list, "end of file")) => (3, list),
         Some((list, _)) => (1, list),
     };
-    let number =
-        |name: &str| NAMES.iter().position(|n| *n == name).unwrap_or_else(|| panic!("no name {name}")) as u32;
+    let place = |text: &str| DESCRIPTIONS.iter().position(|d| *d == text);
+    let number = |text: &str| place(text).unwrap_or_else(|| panic!("no description {text}")) as u32;
     let names = list.replace(" or ", ", ");
     (form, names.split(", ").map(number).collect())
 }
 
 /// The message that forms 1 to 4 stand for; the fixed ones need no test.
 fn together(form: u32, names: &[u32], found: &[u8]) -> Option<String> {
-    let names: Vec<&str> = names.iter().map(|n| NAMES[*n as usize]).collect();
+    let names: Vec<&str> = names.iter().map(|n| DESCRIPTIONS[*n as usize]).collect();
     let list = match names.split_last() {
         None => String::new(),
         Some((last, [])) => last.to_string(),

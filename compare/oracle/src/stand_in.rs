@@ -35,10 +35,9 @@ impl Span {
     }
 }
 
-/// Ids, tokens and kinds out of docs/KINDS.md. An id's description is its own name, so that the names can
-/// be read out of a message again.
+/// Ids, tokens, kinds and descriptions out of docs/KINDS.md.
 macro_rules! stand_in {
-    (ids { $($id:ident $i:literal,)* }
+    (ids { $($id:ident $i:literal $description:literal,)* }
      kinds { $($kind:ident $k:literal $of:ident,)* }
      nodes { $($node:ident $n:literal,)* }) => {
         #[allow(non_camel_case_types)]
@@ -47,7 +46,7 @@ macro_rules! stand_in {
 
         impl TokenId {
             pub fn description(&self) -> &'static str {
-                match self { $(Self::$id => stringify!($id),)* }
+                match self { $(Self::$id => $description,)* }
             }
         }
 

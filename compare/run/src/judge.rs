@@ -1,5 +1,6 @@
 //! Puts one question to every side and compares.
 
+use crate::messages;
 use common::listing::listing;
 use common::{events_of, reading_of, strip_empty_errors, Question, Reading, Reply, Side};
 use model::{utf8, Model};
@@ -27,7 +28,7 @@ pub fn judge(question: &Question, library: Option<&dyn Side>) -> Result<Seen, St
         Ok(reading) => reading,
     };
     let stripped = stripped(&ours);
-    same_as_rust(question, &stripped)?;
+    same_as_rust(question, &stripped, library)?;
     let accepted = model::peg::accepts(&question.ids);
     if ours.outcome == 0 && accepted != ours.records.is_empty() {
         return Err(format!("the PEG accepts: {accepted}; error records: {}", ours.records.len()));
@@ -48,16 +49,17 @@ fn refused(refusal: u32) -> Seen {
 
 /// The Rust is never too deep. But too deep acts as out of fuel does, so with one begin step less than
 /// ours took it must stop at the same place.
-fn same_as_rust(question: &Question, ours: &Reading) -> Result<(), String> {
+fn same_as_rust(question: &Question, ours: &Reading, library: Option<&dyn Side>) -> Result<(), String> {
     let mut asked = question.clone();
     let mut wanted = ours.clone();
     if ours.outcome == 2 {
         asked.fuel = question.fuel - ours.fuel - 1;
         (wanted.outcome, wanted.fuel) = (1, 0);
     }
-    let rust =
-        catch_unwind(AssertUnwindSafe(|| oracle::read(&asked))).map_err(|_| "the Rust panics".to_string())?;
-    same_readings(&wanted, &rust)
+    let (rust, texts) =
+        catch_unwind(AssertUnwindSafe(|| oracle::told(&asked))).map_err(|_| "the Rust panics".to_string())?;
+    same_readings(&wanted, &rust)?;
+    messages::same_texts(&question.source, &ours.records, &texts, library)
 }
 
 /// Document 01's domain leaves out rows that the Rust and module 2 judge differently. With the Standard's

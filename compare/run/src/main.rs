@@ -4,6 +4,7 @@ mod cases;
 mod cut;
 mod differences;
 mod judge;
+mod messages;
 mod minimise;
 mod modes;
 mod tally;
@@ -20,7 +21,7 @@ use std::{env, panic, process, thread};
 use tally::{all_same_utf8, report, Tally};
 
 const USAGE: &str = "run cases FOLDER | run compare COUNT [SEED [SORT]] | run merge COUNT [SEED] | \
-    run cut COUNT SEED [SORT] | run modes [COUNT SEED] | run differences | run show SORT SEED NUMBER | \
+    run messages COUNT SEED | run cut COUNT SEED [SORT] | run modes [COUNT SEED] | run differences | run show SORT SEED NUMBER | \
     run vectors COUNT SEED [FOLDER | only SORT]";
 
 fn main() {
@@ -43,6 +44,7 @@ fn work() -> Result<(), String> {
         ["compare", count, seed, sort] => compare(number(count)?, number(seed)?, Some(named(sort)?)),
         ["merge", count] => merges(number(count)?, 1),
         ["merge", count, seed] => merges(number(count)?, number(seed)?),
+        ["messages", count, seed] => messages::wild(number(count)?, number(seed)?),
         ["cut", count, seed] => cut::compare(number(count)?, number(seed)?, None),
         ["cut", count, seed, sort] => cut::compare(number(count)?, number(seed)?, Some(sort)),
         ["modes"] => modes::tell(),

@@ -10,12 +10,8 @@ use Rattle.definition.specs.Run.{State}
 use Rattle.definition.specs.Render.{Source}
 use Rattle.definition.specs.Answer.{Desk, tile, any, no-id, words, grounds, first-of, refusal, source-of}
 use Rattle.definition.specs.Remaining.{back-by, rows-before, place, remaining}
-use Rattle.definition.proofs.Every.{and-left, and-right, never}
+use Rattle.definition.proofs.Every.{and-left, and-right, never, both}
 use Rattle.definition.proofs.Shown.{put-off, later, Before}
-
-both : (a b : Bool) → T a → T b → T (a && b)
-both true b x y = y
-both false b x y = x
 
 -- rows n on
 tile-drop : (n q z : ℕ) (ss es : List ℕ) → T (tile q z ss es) → n ≤ length es → T (tile (getD (q ∷ es) n 0) z (drop n ss) (drop n es))

@@ -23,6 +23,10 @@ pub and-right : (a b : Bool) → T (a && b) → T b
 and-right true b t = t
 and-right false b t = absurd t
 
+pub both : (a b : Bool) → T a → T b → T (a && b)
+both true b s t = t
+both false b s t = s
+
 pub or-cases : (a b : Bool) → T (a || b) → T a ⊎ T b
 or-cases true b t = inl tt
 or-cases false b t = inr t

@@ -16,7 +16,7 @@ enum Read {
     Differs,
 }
 
-// How many rows a table has: ids, kinds and names.
+// How many rows a table has: ids, kinds, names and descriptions.
 fn size(table: usize) -> u32
     ensures { λ r. ⌜ r ≤ 122 ⌝ }
 {
@@ -24,6 +24,7 @@ fn size(table: usize) -> u32
         1 => 82,
         2 => 122,
         3 => 85,
+        4 => 85,
         _ => 0,
     }
 }
@@ -64,6 +65,20 @@ fn after_name(line: &[u8], at: usize, name: u32) -> usize {
     after(line, at, &text[..k])
 }
 
+// What the name is called in a message, as the name text has it.
+fn after_description(line: &[u8], at: usize, name: u32) -> usize {
+    let text = messages::TEXT;
+    let from = messages::begins(name as usize);
+    let to = messages::begins(name as usize + 1);
+    if to < from {
+        return NOWHERE;
+    }
+    if text.len() < to {
+        return NOWHERE;
+    }
+    after(line, at, &text[from..to])
+}
+
 // The id of a kind, or a dash where the kind is a node's.
 fn after_id(line: &[u8], at: usize, kind: u32) -> usize {
     if kind < kinds::kind::ERROR {
@@ -80,7 +95,12 @@ fn is_right(table: usize, n: u32, line: &[u8]) -> bool {
         let kind = after(line, after_kind(line, text, n), b" | ");
         return after(line, after_id(line, kind, n), b" |") == line.len();
     }
-    after(line, after_name(line, text, n), b" |") == line.len()
+    let name = after_name(line, text, n);
+    if table == 4 {
+        let description = after(line, name, b" | ");
+        return after(line, after_description(line, description, n), b" |") == line.len();
+    }
+    after(line, name, b" |") == line.len()
 }
 
 // Whether the line is the heading of the table.
@@ -89,6 +109,7 @@ fn heads(table: usize, line: &[u8]) -> bool {
         1 => check::same(line, b"## Ids"),
         2 => check::same(line, b"## Kinds"),
         3 => check::same(line, b"## Names"),
+        4 => check::same(line, b"## Descriptions"),
         _ => false,
     }
 }
@@ -120,7 +141,7 @@ fn is_row(line: &[u8]) -> bool {
 
 fn next_table(at: Place, line: &[u8]) -> Read {
     let table = at.table;
-    if table < 3 {
+    if table < 4 {
         if at.next == size(table) {
             if heads(table + 1, line) {
                 return Read::On(Place {
@@ -187,8 +208,8 @@ fn differs(page: &[u8]) -> usize {
         line += 1;
         from = to + 1;
     }
-    if at.table == 3 {
-        if at.next == size(3) {
+    if at.table == 4 {
+        if at.next == size(4) {
             return 0;
         }
     }
@@ -233,7 +254,8 @@ fn main() {
     if line == 0 {
         count(1, b" ids, ");
         count(2, b" kinds, ");
-        count(3, b" names: page and code agree\n");
+        count(3, b" names, ");
+        count(4, b" descriptions: page and code agree\n");
         let sets = kinds::SETS;
         io::print_decimal(STDOUT_FILENO, members(false, &sets) as u64);
         io::write_all(STDOUT_FILENO, b" ids in 55 sets, ");

@@ -4,8 +4,10 @@ use mathlib.Core.List.{List, [], _∷_}
 use Rattle.definition.specs.Answer.{After}
 use Rattle.definition.specs.Merge.{Returned}
 use Rattle.cutter.specs.Rows as c
+use Rattle.messages.specs.Message as m
 
--- the refusal's number, the count's cell and the room; the cell has 32 bits, and a list whose count needs more takes 64 GiB
+-- the refusal's number, the cell of the count or the length, and the room; the cell has 32 bits, and a list whose count needs more takes 64 GiB, a
+-- text 4 GiB
 pub record Face : Type 0 where
   pub number : ℕ
   pub count : List ℕ
@@ -13,6 +15,9 @@ pub record Face : Type 0 where
 
 abbrev pub face : Returned → Face
 face r = record { number = r .number; count = (r .count % 2 ^ 32) ∷ []; room = r .room }
+
+abbrev pub messageFace : m.Returned → Face
+messageFace r = record { number = r .number; count = (r .count % 2 ^ 32) ∷ []; room = r .room }
 
 abbrev pub faced : ℕ → List ℕ → List ℕ → Face
 faced number count room = record { number = number; count = count; room = room }

@@ -3,6 +3,7 @@ use cutter::Cut;
 use desk::read::Reading;
 use desk::read::base;
 use merger::Merged;
+use messages::Written;
 use shapes::refusal;
 ghost use mathlib.Core.Path.{_≡_};
 ghost use Rattle.definition.specs.Run.{base};
@@ -10,7 +11,8 @@ ghost use Rattle.definition.specs.Answer.{after};
 ghost use Rattle.definition.specs.Merge.{merging};
 ghost use Rattle.refusals.specs.Judge.{desk};
 ghost use Rattle.cutter.specs.Rows.{cut};
-ghost use Rattle.stableglow.specs.Face.{face, faced, readFace, readFaced, cutFace, cutFaced};
+ghost use Rattle.messages.specs.Message.{messaging};
+ghost use Rattle.stableglow.specs.Face.{face, faced, messageFace, readFace, readFaced, cutFace, cutFaced};
 
 // Cuts rule text into rows. Returns the refusal's number, 0 for an answer; the count of rows stands in `count`.
 #[no_mangle]
@@ -105,6 +107,34 @@ pub extern "C" fn stableglow_merge(events: &[u32], room: &mut [u32], count: &mut
         }
         Merged::Events(n) => {
             *count = [(n % 4294967296) as u32];
+            0
+        }
+    }
+}
+
+// Writes the message of the error record that the numbers begin with into the room. Returns the refusal's number, 0 for an answer; the count of bytes
+// stands in `length`.
+#[no_mangle]
+pub extern "C" fn stableglow_message(
+    source: &[u8],
+    numbers: &[u32],
+    room: &mut [u8],
+    length: &mut [u32; 1],
+) -> u32
+    ensures { λ r. ⌜ faced r (now (length .exit)) (now (room .exit)) ≡ messageFace (messaging (now (source .entry)) (now (numbers .entry)) (now (room .entry))) ⌝ }
+{
+    let written = messages::message(source, numbers, room);
+    match written {
+        Written::Unread => {
+            *length = [0];
+            11
+        }
+        Written::Full => {
+            *length = [0];
+            12
+        }
+        Written::Length(n) => {
+            *length = [(n % 4294967296) as u32];
             0
         }
     }

@@ -1,35 +1,52 @@
--- An unexpected row is one that was matched inside `not`, so it is a row of the file and has text: form 5 ("Unexpected: 5 empty") cannot occur.
+-- What is known of the errors that are chosen. An unexpected row is one that was matched inside `not`, so it is a row of the file and has text: form 5
+-- ("Unexpected: 5 empty") cannot occur. What is expected has names, at least one, and none twice.
 use Prim.Native.Nat.{ℕ, zero, suc, _+_, _-_, _≤_, _<_, min}
 use mathlib.Core.Path.{_≡_, refl, ap, sym, _∙_, subst}
 use mathlib.Core.List.{List, [], _∷_, _++_}
 use mathlib.Core.Bool.{Bool, true, false, _&&_}
 use mathlib.Core.Option.{Option, none, some}
 use lib.Dec.{eqb, ltb, T, eqb→eq, ltb→lt}
-use lib.ListN.{length, getD, take, drop, length-take, length-drop}
+use lib.ListN.{length, getD, take, drop, length-take, length-drop, length-append}
 use native.Mathlib.Omega.{arith}
+use borrow.Author.Tests.{eqb-false}
 use Rattle.kinds.specs.Kinds as kinds
-use Rattle.kinds.specs.Sets.{kindOf, trivial}
+use Rattle.kinds.specs.Sets.{idOf, kindOf, trivial}
 use Rattle.utf8.specs.Utf8.{utf8}
 use Rattle.shapes.specs.Shapes.{Rec}
 use Rattle.definition.specs.Prog.{Prog}
-use Rattle.definition.specs.Grammar.{item-of}
-use Rattle.definition.specs.Run.{State, Reader, Limits, Event, opened, leaf, closed, bad, Choice, wanted, unwanted, stray, Mode, ok, failed, stopped, Next, end, other, hit, next, sought, skip, past, trivia-out, trivia, seek, seek-out, skip-to, turn, put, begin, finish, nodes, furthest, pending, add, decide, choose, errors, run, rule-keywords, item-keywords, read-item, stray-item, item-at, flush, again, item, items, start, read}
+use Rattle.definition.specs.Prog.{Production}
+use Rattle.definition.specs.Grammar.{grammar, item-of, rule-decl}
+use Rattle.definition.specs.Run.{State, Reader, Limits, Event, opened, leaf, closed, bad, Choice, wanted, unwanted, stray, Mode, ok, failed, stopped, Next, end, other, hit, next, sought, skip, past, trivia-out, trivia, seek, seek-out, skip-to, turn, put, begin, finish, nodes, has, join, further, furthest, pending, add, decide, choose, errors, run, rule-keywords, item-keywords, read-item, stray-item, item-at, flush, again, item, items, start, read}
 use Rattle.definition.specs.Render.{Source, starts-at, ends-at, id-at, text-at, form-found, form-slash, form-unknown, form-wanted, form-unwanted, form-of, record-of, records, Reading}
 use Rattle.definition.specs.Answer.{Desk, tile, answer, given, source-of}
-use Rattle.definition.proofs.Every.{and-left, and-right, never}
+use Rattle.definition.proofs.Every.{and-left, and-right, never, productions, each}
 use Rattle.definition.proofs.Gap.{gap-out}
-use Rattle.definition.proofs.Induct.{exec-kept, run-kept}
-use Rattle.definition.proofs.Order.{Steps, stepped}
+use Rattle.definition.proofs.Induct.{enters, exec-kept-if, run-kept-if}
+use Rattle.definition.proofs.Order.{StepsIf, stepped-if}
 use Rattle.definition.proofs.Grows.{sought-hit}
 use Rattle.definition.proofs.Tidy.{Ins, charge-same, read-tidy}
 use Rattle.definition.proofs.Cut.{Rows, rows-of}
 use Rattle.theorems.proofs.Answered.{given-is}
 
--- what is unexpected is a row, not the source's end
-abbrev Row : ℕ → Choice → Type 0
-Row n (wanted ns) = Unit
+-- the number is not among those of the list
+abbrev pub Fresh : List ℕ → ℕ → Type 0
+Fresh [] n = Unit
+Fresh (m ∷ l) n = (m ≡ n → ⊥) × Fresh l n
+
+-- "A name is a token id or one of "expression", "operator", "pattern modifier"; names stand in order of first entry, none twice."
+abbrev pub Names : List ℕ → Type 0
+Names [] = Unit
+Names (n ∷ ns) = (n < 85) × Fresh ns n × Names ns
+
+-- what is expected has names; what is unexpected is a row, not the source's end
+abbrev pub Row : ℕ → Choice → Type 0
+Row n (wanted ns) = (1 ≤ length ns) × Names ns
 Row n unwanted = 1 ≤ n
 Row n stray = Unit
+
+abbrev Wanted : Option (ℕ × List ℕ) → Type 0
+Wanted none = Unit
+Wanted (some w) = (1 ≤ length (w .1)) × Names (w .1)
 
 abbrev Unwanted : Option ℕ → Type 0
 Unwanted none = Unit
@@ -39,7 +56,7 @@ abbrev Chosen : List (ℕ × Choice) → Type 0
 Chosen [] = Unit
 Chosen (e ∷ es) = Row (e .0) (e .1) × Chosen es
 
-abbrev Written : List Event → Type 0
+abbrev pub Written : List Event → Type 0
 Written [] = Unit
 Written (opened n ∷ es) = Written es
 Written (leaf a n ∷ es) = Written es
@@ -47,6 +64,7 @@ Written (closed a n m ∷ es) = Written es
 Written (bad n c ∷ es) = Row n c × Written es
 
 record Rowed (s : State) : Type 0 where
+  pub wants : Wanted (s .want)
   pub unwants : Unwanted (s .unwant)
   pub chose : Chosen (s .chosen)
   pub wrote : Written (s .out)
@@ -54,8 +72,73 @@ record Rowed (s : State) : Type 0 where
 abbrev Keeps : State → State → Type 0
 Keeps s t = Rowed s → Rowed t
 
-alike : (s t : State) → t .unwant ≡ s .unwant → t .chosen ≡ s .chosen → (Written (s .out) → Written (t .out)) → Keeps s t
-alike s t a b w i = record { unwants = subst Unwanted (sym a) (i .unwants); chose = subst Chosen (sym b) (i .chose); wrote = w (i .wrote) }
+alike : (s t : State) → t .want ≡ s .want → t .unwant ≡ s .unwant → t .chosen ≡ s .chosen → (Written (s .out) → Written (t .out)) → Keeps s t
+alike s t w₀ a b w i = record { wants = subst Wanted (sym w₀) (i .wants); unwants = subst Unwanted (sym a) (i .unwants); chose = subst Chosen (sym b) (i .chose); wrote = w (i .wrote) }
+
+-- the names that the grammar enters: at least one, and each a name
+below : List ℕ → Bool
+below [] = true
+below (n ∷ ns) = ltb n 85 && below ns
+
+nameable : List ℕ → Bool
+nameable [] = false
+nameable (n ∷ ns) = below (n ∷ ns)
+
+-- each production's names are so, by one computed test
+grammar-names : (a : Production) → T (enters nameable (grammar a))
+unfolding below nameable grammar productions idOf
+grammar-names a = each (λ a. enters nameable (grammar a)) tt a
+
+rule-names : T (enters nameable rule-decl)
+unfolding below nameable idOf
+rule-names = tt
+
+fresh-last : (ns : List ℕ) (n x : ℕ) → Fresh ns n → (x ≡ n → ⊥) → Fresh (ns ++ (x ∷ [])) n
+fresh-last [] n x f h = (h, tt)
+fresh-last (m ∷ ns) n x f h = (f .0, fresh-last ns n x (f .1) h)
+
+names-last : (ns : List ℕ) (x : ℕ) → Names ns → x < 85 → Fresh ns x → Names (ns ++ (x ∷ []))
+names-last [] x k l f = (l, tt, tt)
+names-last (n ∷ ns) x k l f = (k .0, fresh-last ns n x (k .1) (λ e. f .0 (sym e)), names-last ns x (k .2) l (f .1))
+
+new-name : (ns : List ℕ) (x : ℕ) → has ns x ≡ false → Fresh ns x
+new-name [] x h = tt
+new-name (n ∷ ns) x h = go (eqb x n) refl h (new-name ns x)
+  where
+    go : (b : Bool) → eqb x n ≡ b → elim b as (λ _. Bool) [ true ↦ true | false ↦ has ns x ] ≡ false → (has ns x ≡ false → Fresh ns x) → Fresh (n ∷ ns) x
+    go true e h f = never cc
+    go false e h f = ((λ q. eqb-false x n e (sym q)), f h)
+
+join-names : (ns xs : List ℕ) → Names ns → T (below xs) → Names (join ns xs) × (length ns ≤ length (join ns xs))
+unfolding below
+join-names ns [] k t = (k, omega arith)
+join-names ns (x ∷ xs) k t = go (has ns x) refl (λ ms i. join-names ms xs i (and-right (ltb x 85) (below xs) t))
+  where
+    go : (b : Bool) → has ns x ≡ b → ((ms : List ℕ) → Names ms → Names (join ms xs) × (length ms ≤ length (join ms xs))) → let l : List ℕ = elim b as (λ _. List ℕ) [ true ↦ join ns xs | false ↦ join (ns ++ (x ∷ [])) xs ] in Names l × (length ns ≤ length l)
+    go true e f = f ns k
+    go false e f =
+        let i = f (ns ++ (x ∷ [])) (names-last ns x k (ltb→lt x 85 (and-left (ltb x 85) (below xs) t)) (new-name ns x e)) in
+        (i .0, omega (arith, i .1, length-append ns (x ∷ [])))
+
+some-names : (xs : List ℕ) → T (nameable xs) → (1 ≤ length (join [] xs)) × Names (join [] xs)
+unfolding below nameable
+some-names [] t = absurd t
+some-names (x ∷ xs) t =
+    let i = join-names (x ∷ []) xs (ltb→lt x 85 (and-left (ltb x 85) (below xs) t), tt, tt) (and-right (ltb x 85) (below xs) t) in (omega (arith, i .1), i .0)
+
+any-below : (xs : List ℕ) → T (nameable xs) → T (below xs)
+unfolding below nameable
+any-below [] t = absurd t
+any-below (x ∷ xs) t = t
+
+further-names : (r : ℕ) (xs : List ℕ) (w : Option (ℕ × List ℕ)) → T (nameable xs) → Wanted w → Wanted (further r xs w)
+further-names r xs none t h = some-names xs t
+further-names r xs (some w) t h = go (ltb r (w .0)) (eqb r (w .0))
+  where
+    go : (a b : Bool) → Wanted (elim a as (λ _. Option (ℕ × List ℕ)) [ true ↦ some (r, join [] xs) | false ↦ elim b as (λ _. Option (ℕ × List ℕ)) [ true ↦ some (r, join (w .1) xs) | false ↦ some w ] ])
+    go true b = some-names xs t
+    go false true = let i = join-names (w .1) xs (h .1) (any-below xs t) in (omega (arith, i .1, h .0), i .0)
+    go false false = h
 
 furthest-row : (r : ℕ) (u : Option ℕ) → 1 ≤ r → Unwanted u → Unwanted (furthest r u)
 furthest-row r none l h = l
@@ -76,18 +159,18 @@ add-row r c es l h = go (pending r es)
     go true = h
     go false = chosen-append es r c h l
 
-decide-row : (w : Option (ℕ × List ℕ)) (u : Option ℕ) (es : List (ℕ × Choice)) → Unwanted u → Chosen es → Chosen (decide w u es)
-decide-row none none es b c = c
-decide-row none (some u) es b c = add-row u unwanted es b c
-decide-row (some w) none es b c = add-row (w .0) (wanted (w .1)) es tt c
-decide-row (some w) (some u) es b c = go (ltb u (w .0))
+decide-row : (w : Option (ℕ × List ℕ)) (u : Option ℕ) (es : List (ℕ × Choice)) → Wanted w → Unwanted u → Chosen es → Chosen (decide w u es)
+decide-row none none es a b c = c
+decide-row none (some u) es a b c = add-row u unwanted es b c
+decide-row (some w) none es a b c = add-row (w .0) (wanted (w .1)) es a c
+decide-row (some w) (some u) es a b c = go (ltb u (w .0))
   where
     go : (x : Bool) → Chosen (elim x as (λ _. List (ℕ × Choice)) [ true ↦ add u unwanted es | false ↦ add (w .0) (wanted (w .1)) es ])
     go true = add-row u unwanted es b c
-    go false = add-row (w .0) (wanted (w .1)) es tt c
+    go false = add-row (w .0) (wanted (w .1)) es a c
 
 choose-keeps : (s : State) → Keeps s (choose s)
-choose-keeps s i = record { unwants = tt; chose = decide-row (s .want) (s .unwant) (s .chosen) (i .unwants) (i .chose); wrote = i .wrote }
+choose-keeps s i = record { wants = tt; unwants = tt; chose = decide-row (s .want) (s .unwant) (s .chosen) (i .wants) (i .unwants) (i .chose); wrote = i .wrote }
 
 trivia-writes : (r : List ℕ) (o : List Event) → Written o → Written (trivia-out r o)
 trivia-writes [] o h = h
@@ -116,40 +199,41 @@ unexpected-row S s a is h = let q = sought-hit S (skip (s .rest)) a is h in omeg
 begin-keeps : (d : ℕ) (s : State) → Keeps s (begin d s)
 begin-keeps d s =
     let c = charge-same 0 d (s .fuel) (trivia s) in
-    alike s (begin d s) (c .1) (c .2) (λ h. subst Written (sym (c .3)) (gap-writes (s .mode) (s .rest) (s .out) h))
+    alike s (begin d s) (c .0) (c .1) (c .2) (λ h. subst Written (sym (c .3)) (gap-writes (s .mode) (s .rest) (s .out) h))
 
 finish-keeps : (o : Bool) (a n : ℕ) (s : State) → Keeps s (finish o a n s)
 finish-keeps o a n s = go o (s .mode) s
   where
     go : (o : Bool) (m : Mode) (s : State) → Keeps (turn m s) (finish o a n (turn m s))
-    go o ok s i = record { unwants = i .unwants; chose = i .chose; wrote = i .wrote }
-    go true failed s i = record { unwants = i .unwants; chose = i .chose; wrote = i .wrote }
-    go true (stopped w) s i = record { unwants = i .unwants; chose = i .chose; wrote = i .wrote }
-    go false failed s i = let j = choose-keeps (turn failed s) i in record { unwants = tt; chose = j .chose; wrote = i .wrote }
-    go false (stopped w) s i = let j = choose-keeps (turn (stopped w) s) i in record { unwants = tt; chose = j .chose; wrote = i .wrote }
+    go o ok s i = record { wants = i .wants; unwants = i .unwants; chose = i .chose; wrote = i .wrote }
+    go true failed s i = record { wants = i .wants; unwants = i .unwants; chose = i .chose; wrote = i .wrote }
+    go true (stopped w) s i = record { wants = i .wants; unwants = i .unwants; chose = i .chose; wrote = i .wrote }
+    go false failed s i = let j = choose-keeps (turn failed s) i in record { wants = tt; unwants = tt; chose = j .chose; wrote = i .wrote }
+    go false (stopped w) s i = let j = choose-keeps (turn (stopped w) s) i in record { wants = tt; unwants = tt; chose = j .chose; wrote = i .wrote }
 
-keeping : Steps Keeps
+keeping : StepsIf nameable Keeps
 keeping = record {
   same = λ s i. i;
   trans = λ s t u p q i. q (p i);
-  at-turn = λ m s r. alike s (turn m s) refl refl (λ h. h);
-  at-expected = λ ns s. alike s _ refl refl (λ h. h);
-  at-unexpected = λ S s a is h i. record { unwants = furthest-row (length (skip (s .rest))) (s .unwant) (unexpected-row S s a is h) (i .unwants); chose = i .chose; wrote = i .wrote };
+  at-turn = λ m s r. alike s (turn m s) refl refl refl (λ h. h);
+  at-expected = λ ns t s i. record { wants = further-names (length (skip (s .rest))) ns (s .want) t (i .wants); unwants = i .unwants; chose = i .chose; wrote = i .wrote };
+  at-unexpected = λ S s a is h i. record { wants = i .wants; unwants = furthest-row (length (skip (s .rest))) (s .unwant) (unexpected-row S s a is h) (i .unwants); chose = i .chose; wrote = i .wrote };
   at-choose = choose-keeps;
-  at-keep = λ r a s. alike s _ refl refl (λ h. h);
-  at-trivia = λ s. alike s (trivia s) refl refl (gap-writes (s .mode) (s .rest) (s .out));
-  at-take = λ S s a is m e. alike s _ refl refl (gap-writes (s .mode) (s .rest) (s .out));
-  at-skip = λ S s. alike s (skip-to S s) refl refl (seek-writes S (s .rest) (s .out));
-  at-back = λ s t p i. let j = p i in record { unwants = j .unwants; chose = j .chose; wrote = i .wrote };
+  at-keep = λ r a s. alike s _ refl refl refl (λ h. h);
+  at-trivia = λ s. alike s (trivia s) refl refl refl (gap-writes (s .mode) (s .rest) (s .out));
+  at-take = λ S s a is m e. alike s _ refl refl refl (gap-writes (s .mode) (s .rest) (s .out));
+  at-skip = λ S s. alike s (skip-to S s) refl refl refl (seek-writes S (s .rest) (s .out));
+  at-back = λ s t p i. let j = p i in record { wants = j .wants; unwants = j .unwants; chose = j .chose; wrote = i .wrote };
   at-node = λ d o a f F s i. finish-keeps o a (length ((begin d s) .rest)) (f (begin d s)) (F (begin d s) (begin-keeps d s i));
 }
 
 reads-keeps : (L : Limits) (p : Prog) (s : State) → Keeps s (read-item L p s)
 unfolding read-item
-reads-keeps L p s = exec-kept (stepped Keeps keeping) (L .depth) (run (L .depth)) (run-kept (stepped Keeps keeping) (L .depth)) p false s
+reads-keeps L p s =
+    exec-kept-if (stepped-if Keeps keeping) (L .depth) (run (L .depth)) (run-kept-if (stepped-if Keeps keeping) grammar-names (L .depth)) p rule-names false s
 
 stray-keeps : (s : State) → Keeps s (stray-item s)
-stray-keeps s = alike s (stray-item s) refl refl (λ h. seek-writes rule-keywords (s .rest) (opened (length (s .rest)) ∷ bad (length (s .rest)) stray ∷ s .out) (tt, h))
+stray-keeps s = alike s (stray-item s) refl refl refl (λ h. seek-writes rule-keywords (s .rest) (opened (length (s .rest)) ∷ bad (length (s .rest)) stray ∷ s .out) (tt, h))
 
 errors-write : (c : List (ℕ × Choice)) (o : List Event) → Chosen c → Written o → Written (errors c o)
 errors-write [] o h g = g
@@ -159,9 +243,9 @@ flush-keeps : (u : State) → Keeps u (again (flush u))
 flush-keeps u = go (u .mode) u
   where
     go : (m : Mode) (u : State) → Keeps (turn m u) (again (flush (turn m u)))
-    go ok u i = record { unwants = tt; chose = tt; wrote = errors-write (u .chosen) (u .out) (i .chose) (i .wrote) }
-    go failed u i = record { unwants = tt; chose = tt; wrote = errors-write (u .chosen) (u .out) (i .chose) (i .wrote) }
-    go (stopped w) u i = record { unwants = tt; chose = tt; wrote = errors-write (u .chosen) (u .out) (i .chose) (i .wrote) }
+    go ok u i = record { wants = tt; unwants = tt; chose = tt; wrote = errors-write (u .chosen) (u .out) (i .chose) (i .wrote) }
+    go failed u i = record { wants = tt; unwants = tt; chose = tt; wrote = errors-write (u .chosen) (u .out) (i .chose) (i .wrote) }
+    go (stopped w) u i = record { wants = tt; unwants = tt; chose = tt; wrote = errors-write (u .chosen) (u .out) (i .chose) (i .wrote) }
 
 item-keeps : (L : Limits) (s : State) → Keeps s (item L s)
 item-keeps L s i = let x : Next = sought item-keywords ((trivia s) .rest) in flush-keeps (item-at L x (trivia s)) (at x (trivia s) (keeping .at-trivia s i))
@@ -181,12 +265,12 @@ items-keep L (suc n) s = go (s .rest) (s .mode) s (items-keep L n)
     go (j ∷ js) (stopped w) s H i = i
     go (j ∷ js) ok s H i = let t : State = turn ok (put (j ∷ js) (s .out) s) in H (item L t) (item-keeps L t i)
 
-read-rowed : (L : Limits) (r : List ℕ) (f : ℕ) → Written ((read L r f) .out)
-read-rowed L r f = items-keep L (length r) (start r f) (record { unwants = tt; chose = tt; wrote = tt }) .wrote
+pub read-rowed : (L : Limits) (r : List ℕ) (f : ℕ) → Written ((read L r f) .out)
+read-rowed L r f = items-keep L (length r) (start r f) (record { wants = tt; unwants = tt; chose = tt; wrote = tt }) .wrote
 
 -- a row's text
 
-tile-rises : (q z : ℕ) (ss es : List ℕ) → T (tile q z ss es) → (i : ℕ) → i < length es → getD (q ∷ es) i z < getD es i z
+pub tile-rises : (q z : ℕ) (ss es : List ℕ) → T (tile q z ss es) → (i : ℕ) → i < length es → getD (q ∷ es) i z < getD es i z
 tile-rises q z ss [] t i l = absurd (omega (arith, l))
 tile-rises q z [] (e ∷ es) t i l = absurd t
 tile-rises q z (s ∷ ss) (e ∷ es) t zero l =
@@ -194,7 +278,7 @@ tile-rises q z (s ∷ ss) (e ∷ es) t zero l =
     omega (arith, eqb→eq s q (and-left (eqb s q) (ltb s e) u), ltb→lt s e (and-right (eqb s q) (ltb s e) u))
 tile-rises q z (s ∷ ss) (e ∷ es) t (suc i) l = tile-rises e z ss es (and-right (eqb s q && ltb s e) (tile e z ss es) t) i (omega (arith, l))
 
-tile-within : (q z : ℕ) (ss es : List ℕ) → T (tile q z ss es) → (i : ℕ) → i < length es → getD es i z ≤ z
+pub tile-within : (q z : ℕ) (ss es : List ℕ) → T (tile q z ss es) → (i : ℕ) → i < length es → getD es i z ≤ z
 tile-within q z ss [] t i l = absurd (omega (arith, l))
 tile-within q z [] (e ∷ es) t i l = absurd t
 tile-within q z (s ∷ ss) (e ∷ []) t zero l = last e z ss (and-right (eqb s q && ltb s e) (tile e z ss []) t)

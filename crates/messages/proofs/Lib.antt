@@ -1,0 +1,14 @@
+pub mod Either
+pub mod Cuts
+pub mod Zeros
+pub mod Puts
+pub mod Listed
+pub mod Joined
+pub mod Said
+pub mod Judged
+pub mod Fitting
+pub mod Answers
+pub mod Readable
+pub mod Examples
+pub mod Spots
+pub mod Characters
