@@ -47,7 +47,10 @@ sorts-are (a ∷ b ∷ []) = refl
 sorts-are (a ∷ b ∷ c ∷ []) = refl
 sorts-are (a ∷ b ∷ c ∷ d ∷ l) = ap (λ (t : Bool). leb 1 a && leb a 4 && t) (sorts-are l)
 
-pub well-formed-of : (es : List Quad) → M.sorts es ≡ true → well-formed (W.flat es) ≡ true
+pub well-formed-is : (l : List ℕ) → well-formed l ≡ M.well-formed l
+well-formed-is l = ap (λ (t : Bool). eqb (length l % width) 0 && t) (sorts-are l)
+
+well-formed-of : (es : List Quad) → M.sorts es ≡ true → well-formed (W.flat es) ≡ true
 well-formed-of es s =
     let n : length (W.flat es) % width ≡ 0 = omega (arith, flat-length es) in
     ap (λ (i : ℕ). eqb i 0 && sorts (W.flat es)) n ∙ sorts-are (W.flat es) ∙ ap M.sorts (quads-flat es) ∙ s
