@@ -2,13 +2,16 @@
 use cutter::Cut;
 use desk::read::Reading;
 use merger::Merged;
+use outline::Listed;
 ghost use mathlib.Core.Path.{_≡_};
 ghost use Rattle.definition.specs.Answer.{after};
 ghost use Rattle.definition.specs.Merge.{merging};
+ghost use Rattle.outline.specs.Rules.{ruling};
+ghost use Rattle.outline.specs.Outline.{outlining};
 ghost use Rattle.refusals.specs.Judge.{desk};
 ghost use Rattle.notes.specs.Means.{limits};
 ghost use Rattle.cutter.specs.Rows.{cut};
-ghost use Rattle.stableglow.specs.Face.{face, faced, readFace, readFaced, cutFace, cutFaced};
+ghost use Rattle.stableglow.specs.Face.{face, listFace, faced, Told, readFace, readFaced, cutFace, cutFaced};
 
 // Cuts rule text into rows. Returns the refusal's number, 0 for an answer; the count of rows stands in `count`.
 #[no_mangle]
@@ -95,4 +98,53 @@ pub extern "C" fn stableglow_merge(events: &[u32], room: &mut [u32], count: &mut
             0
         }
     }
+}
+
+// The refusal's number, 0 for an answer; the count of rules or nodes stands in `count`.
+fn told(listed: Listed, count: &mut [u32; 1]) -> u32
+    ensures { λ r. ⌜ Told listed r (now (count .exit)) ⌝ }
+{
+    match listed {
+        Listed::Malformed => {
+            *count = [0];
+            9
+        }
+        Listed::Broken => {
+            *count = [0];
+            15
+        }
+        Listed::Full => {
+            *count = [0];
+            14
+        }
+        Listed::Entries(n) => {
+            *count = [(n % 4294967296) as u32];
+            0
+        }
+    }
+}
+
+// Lists the rules of an event list in the room, eight numbers each. Returns the refusal's number, 0 for an answer; the count of rules stands in `count`.
+#[no_mangle]
+pub extern "C" fn stableglow_rules(events: &[u32], room: &mut [u32], count: &mut [u32; 1]) -> u32
+    ensures { λ r. ⌜ faced r (now (count .exit)) (now (room .exit)) ≡ listFace (ruling (now (events .entry)) (now (room .entry))) ⌝ }
+{
+    let listed = outline::rules(events, room);
+    told(listed, count)
+}
+
+// Lists the nodes below the one that the event at index `at` opens, to a depth, in the room, four numbers each. Returns the refusal's number, 0 for an
+// answer; the count of nodes stands in `count`.
+#[no_mangle]
+pub extern "C" fn stableglow_outline(
+    events: &[u32],
+    at: usize,
+    depth: u32,
+    room: &mut [u32],
+    count: &mut [u32; 1],
+) -> u32
+    ensures { λ r. ⌜ faced r (now (count .exit)) (now (room .exit)) ≡ listFace (outlining (now (events .entry)) at depth (now (room .entry))) ⌝ }
+{
+    let listed = outline::outline(events, at, depth, room);
+    told(listed, count)
 }
