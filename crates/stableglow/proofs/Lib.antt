@@ -1,1 +1,2 @@
 pub mod CutRead
+pub mod ReadRules
