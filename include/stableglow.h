@@ -49,6 +49,22 @@ uint32_t stableglow_merge(const uint32_t *events, size_t events_len, uint32_t *r
 uint32_t stableglow_message(const uint8_t *source, size_t source_len, const uint32_t *numbers, size_t numbers_len, uint8_t *room,
                             size_t room_len, uint32_t *length);
 
+/* Lists the rules of an event list, the reader's or a merged one, into the room: eight numbers for each RULE_DECL node, in file order of
+   their begins: name start, name end, start, end, counts of META_DEF nodes, PATTERN_DEF nodes and IDENT rows in RULE_TAGS inside it, and 1
+   where an ERROR node lies inside it, else 0. A rule that closed as ERROR is none; a name used twice is listed twice.
+   Returns 0 and writes the count of rules to *count and zeros past the list;
+   or returns 9 (not a list of events), 15 (the events do not nest, or more than 1,026 nodes are open, or a rule has no name) or 14 (no room),
+   with 0 in *count and the room as it was lent. What the reader wrote, merged or not, is never refused 9 or 15: hand on as many events as
+   it counted. The two lists must not overlap. */
+uint32_t stableglow_rules(const uint32_t *events, size_t events_len, uint32_t *room, size_t room_len, uint32_t *count);
+
+/* Lists the nodes below the one that the event at index `at` (from 0) opens, to a depth, into the room: kind, start, end and depth of each,
+   a node before those below it. The node's children have depth 1; depth 0 lists nothing.
+   Returns 0 and writes the count of nodes to *count and zeros past the list; or a number as stableglow_rules does, and 15 also where no node
+   is opened at that index, with 0 in *count and the room as it was lent. The two lists must not overlap. */
+uint32_t stableglow_outline(const uint32_t *events, size_t events_len, size_t at, uint32_t depth, uint32_t *room, size_t room_len,
+                            uint32_t *count);
+
 #ifdef __cplusplus
 }
 #endif

@@ -1,2 +1,3 @@
 pub mod CutRead
 pub mod ReadMessage
+pub mod ReadRules

@@ -1,8 +1,12 @@
 -- What the exports return and leave behind, in numbers.
 use Prim.Native.Nat.{ℕ, _%_, _^_}
+use mathlib.Core.Path.{_≡_}
 use mathlib.Core.List.{List, [], _∷_}
 use Rattle.definition.specs.Answer.{After}
 use Rattle.definition.specs.Merge.{Returned}
+use Rattle.outline.specs.Rules as o
+use Rattle.outline.specs.Returning.{returning}
+use Rattle.outline.specs.declared.answer.Listed.{Listed}
 use Rattle.cutter.specs.Rows as c
 use Rattle.messages.specs.Message as m
 
@@ -16,11 +20,19 @@ pub record Face : Type 0 where
 abbrev pub face : Returned → Face
 face r = record { number = r .number; count = (r .count % 2 ^ 32) ∷ []; room = r .room }
 
+-- likewise of a list of rules, or of an outline
+abbrev pub listFace : o.Returned → Face
+listFace r = record { number = r .number; count = (r .count % 2 ^ 32) ∷ []; room = r .room }
+
 abbrev pub messageFace : m.Returned → Face
 messageFace r = record { number = r .number; count = (r .count % 2 ^ 32) ∷ []; room = r .room }
 
 abbrev pub faced : ℕ → List ℕ → List ℕ → Face
 faced number count room = record { number = number; count = count; room = room }
+
+-- the number and the count's cell that a list's answer is told by, whatever its room
+abbrev pub Told : Listed → ℕ → List ℕ → Type 0
+Told l number count = (room : List ℕ) → faced number count room ≡ listFace (returning l room)
 
 -- the refusal's number, the answer's five cells, and the three buffers; rows and counts in cells of 32 bits
 pub record ReadFace : Type 0 where

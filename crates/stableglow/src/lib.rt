@@ -4,15 +4,18 @@ use desk::read::Reading;
 use desk::read::base;
 use merger::Merged;
 use messages::Written;
+use outline::Listed;
 use shapes::refusal;
 ghost use mathlib.Core.Path.{_≡_};
 ghost use Rattle.definition.specs.Run.{base};
 ghost use Rattle.definition.specs.Answer.{after};
 ghost use Rattle.definition.specs.Merge.{merging};
+ghost use Rattle.outline.specs.Rules.{ruling};
+ghost use Rattle.outline.specs.Outline.{outlining};
 ghost use Rattle.refusals.specs.Judge.{desk};
 ghost use Rattle.cutter.specs.Rows.{cut};
 ghost use Rattle.messages.specs.Message.{messaging};
-ghost use Rattle.stableglow.specs.Face.{face, faced, messageFace, readFace, readFaced, cutFace, cutFaced};
+ghost use Rattle.stableglow.specs.Face.{face, listFace, faced, messageFace, Told, readFace, readFaced, cutFace, cutFaced};
 
 // Cuts rule text into rows. Returns the refusal's number, 0 for an answer; the count of rows stands in `count`.
 #[no_mangle]
@@ -23,7 +26,9 @@ pub extern "C" fn stableglow_cut(
     ends: &mut [u32],
     count: &mut [u32; 1],
 ) -> u32
-    ensures { λ r. ⌜ cutFaced r (now (count .exit)) (now (ids .exit)) (now (starts .exit)) (now (ends .exit)) ≡ cutFace (cut (now (source .entry)) (now (ids .entry)) (now (starts .entry)) (now (ends .entry))) ⌝ }
+    ensures { λ r. ⌜
+        cutFaced r (now (count .exit)) (now (ids .exit)) (now (starts .exit)) (now (ends .exit))
+        ≡ cutFace (cut (now (source .entry)) (now (ids .entry)) (now (starts .entry)) (now (ends .entry))) ⌝ }
 {
     let done = cutter::cut(source, ids, starts, ends);
     match done {
@@ -52,7 +57,11 @@ pub extern "C" fn stableglow_read(
     errors: &mut [u32],
     answer: &mut [u32; 5],
 ) -> u32
-    ensures { λ r. ⌜ readFaced r (now (answer .exit)) (now (events .exit)) (now (errors .exit)) (now (scratch .exit)) ≡ readFace (after base (desk (now (source .entry)) (now (ids .entry)) (now (starts .entry)) (now (ends .entry)) fuel (now (scratch .entry)) (now (events .entry)) (now (errors .entry)))) ⌝ }
+    ensures { λ r. ⌜
+        readFaced r (now (answer .exit)) (now (events .exit)) (now (errors .exit)) (now (scratch .exit))
+        ≡ readFace (after base
+        (desk (now (source .entry)) (now (ids .entry)) (now (starts .entry)) (now (ends .entry)) fuel (now (scratch .entry))
+        (now (events .entry)) (now (errors .entry)))) ⌝ }
 {
     let limits = base();
     let reading = desk::read::read(
@@ -127,15 +136,64 @@ pub extern "C" fn stableglow_message(
     match written {
         Written::Unread => {
             *length = [0];
-            11
+            refusal::RECORD
         }
         Written::Full => {
             *length = [0];
-            12
+            refusal::TEXT
         }
         Written::Length(n) => {
             *length = [(n % 4294967296) as u32];
             0
         }
     }
+}
+
+// The refusal's number, 0 for an answer; the count of rules or nodes stands in `count`.
+fn told(listed: Listed, count: &mut [u32; 1]) -> u32
+    ensures { λ r. ⌜ Told listed r (now (count .exit)) ⌝ }
+{
+    match listed {
+        Listed::Malformed => {
+            *count = [0];
+            refusal::MALFORMED
+        }
+        Listed::Broken => {
+            *count = [0];
+            refusal::NESTING
+        }
+        Listed::Full => {
+            *count = [0];
+            refusal::RULES
+        }
+        Listed::Entries(n) => {
+            *count = [(n % 4294967296) as u32];
+            0
+        }
+    }
+}
+
+// Lists the rules of an event list in the room, eight numbers each. Returns the refusal's number, 0 for an answer; the count of rules stands in `count`.
+#[no_mangle]
+pub extern "C" fn stableglow_rules(events: &[u32], room: &mut [u32], count: &mut [u32; 1]) -> u32
+    ensures { λ r. ⌜ faced r (now (count .exit)) (now (room .exit)) ≡ listFace (ruling (now (events .entry)) (now (room .entry))) ⌝ }
+{
+    let listed = outline::rules(events, room);
+    told(listed, count)
+}
+
+// Lists the nodes below the one that the event at index `at` opens, to a depth, in the room, four numbers each. Returns the refusal's number, 0 for an
+// answer; the count of nodes stands in `count`.
+#[no_mangle]
+pub extern "C" fn stableglow_outline(
+    events: &[u32],
+    at: usize,
+    depth: u32,
+    room: &mut [u32],
+    count: &mut [u32; 1],
+) -> u32
+    ensures { λ r. ⌜ faced r (now (count .exit)) (now (room .exit)) ≡ listFace (outlining (now (events .entry)) at depth (now (room .entry))) ⌝ }
+{
+    let listed = outline::outline(events, at, depth, room);
+    told(listed, count)
 }
