@@ -165,6 +165,7 @@ fn read_rows(source: &[u8], ids: &[u32], starts: &[u32], ends: &[u32]) {
         starts,
         ends,
         FUEL,
+        desk::read::base(),
         &mut scratch,
         &mut events,
         &mut errors,

@@ -8,12 +8,12 @@ use lib.Dec.{eqb, ltb, leb}
 use lib.ListN.{length, drop}
 use borrow.Author.Tests.{eqb-true}
 use native.Mathlib.Omega.{arith}
+use Rattle.shapes.specs.Shapes.{Entry, entries}
+use Rattle.shapes.proofs.Laws.{entries-flat, flat-length}
 use Rattle.kinds.specs.Kinds as kd
 use Rattle.definition.specs.Render as W
-use Rattle.definition.specs.Render.{Quad}
 use Rattle.definition.specs.Merge as M
-use Rattle.definition.specs.Merge.{quads, error-of, Span, Mark, ended, marked, marks, paired, merge, finished}
-use Rattle.theorems.proofs.Joined.{quads-flat, flat-length}
+use Rattle.definition.specs.Merge.{error-of, Span, Mark, ended, marked, marks, paired, merge, finished}
 use Rattle.outline.specs.Shape.{Event, opens, row, closes, tells, event, events, sorts, width, well-formed}
 use Rattle.outline.specs.Rules.{Rule, deepest, nests, rules, all-named, flat, refusing, Given, judged, fitting, listing}
 use Rattle.outline.specs.Forest.{joins, merged, blank, blanks}
@@ -23,24 +23,24 @@ use Rattle.outline.proofs.Joining.{merged-alike}
 
 -- EVENTS OF FOUR NUMBERS
 
-abbrev pub of : Quad → Event
+abbrev pub of : Entry → Event
 of e = event (e .0) (e .1) (e .2) (e .3)
 
-abbrev pub shown : List Quad → List Event
+abbrev pub shown : List Entry → List Event
 shown [] = []
 shown (e ∷ es) = of e ∷ shown es
 
-events-are : (l : List ℕ) → events l ≡ shown (quads l)
+events-are : (l : List ℕ) → events l ≡ shown (entries l)
 events-are [] = refl
 events-are (a ∷ []) = refl
 events-are (a ∷ b ∷ []) = refl
 events-are (a ∷ b ∷ c ∷ []) = refl
 events-are (a ∷ b ∷ c ∷ d ∷ l) = ap (λ (es : List Event). event a b c d ∷ es) (events-are l)
 
-pub events-of : (es : List Quad) → events (W.flat es) ≡ shown es
-events-of es = events-are (W.flat es) ∙ ap shown (quads-flat es)
+pub events-of : (es : List Entry) → events (W.flat es) ≡ shown es
+events-of es = events-are (W.flat es) ∙ ap shown (entries-flat es)
 
-sorts-are : (l : List ℕ) → sorts l ≡ M.sorts (quads l)
+sorts-are : (l : List ℕ) → sorts l ≡ M.sorts (entries l)
 sorts-are [] = refl
 sorts-are (a ∷ []) = refl
 sorts-are (a ∷ b ∷ []) = refl
@@ -50,10 +50,10 @@ sorts-are (a ∷ b ∷ c ∷ d ∷ l) = ap (λ (t : Bool). leb 1 a && leb a 4 &&
 pub well-formed-is : (l : List ℕ) → well-formed l ≡ M.well-formed l
 well-formed-is l = ap (λ (t : Bool). eqb (length l % width) 0 && t) (sorts-are l)
 
-well-formed-of : (es : List Quad) → M.sorts es ≡ true → well-formed (W.flat es) ≡ true
+well-formed-of : (es : List Entry) → M.sorts es ≡ true → well-formed (W.flat es) ≡ true
 well-formed-of es s =
     let n : length (W.flat es) % width ≡ 0 = omega (arith, flat-length es) in
-    ap (λ (i : ℕ). eqb i 0 && sorts (W.flat es)) n ∙ sorts-are (W.flat es) ∙ ap M.sorts (quads-flat es) ∙ s
+    ap (λ (i : ℕ). eqb i 0 && sorts (W.flat es)) n ∙ sorts-are (W.flat es) ∙ ap M.sorts (entries-flat es) ∙ s
 
 -- what an event is to the merger
 abbrev Plain : Event → Type 0
@@ -62,20 +62,20 @@ Plain (row k a b) = Unit
 Plain (closes k) = eqb k kd.ERROR ≡ false
 Plain tells = Unit
 
-data Part (e : Quad) : Type 0 where
+data Part (e : Entry) : Type 0 where
   begins : of e ≡ opens kd.ERROR (e .2) (e .3) → error-of 1 e ≡ true → Part e
   ends : of e ≡ closes kd.ERROR → error-of 1 e ≡ false → error-of 3 e ≡ true → Part e
   other : Plain (of e) → error-of 1 e ≡ false → error-of 3 e ≡ false → Part e
 
 -- its sort, by the tests for 1, 2 and 3
-abbrev form : Quad → Bool → Bool → Bool → Event
+abbrev form : Entry → Bool → Bool → Bool → Event
 form e x y z =
     elim x [
       | true ↦ opens (e .1) (e .2) (e .3)
       | false ↦ elim y [ true ↦ row (e .1) (e .2) (e .3) | false ↦ elim z [ true ↦ closes (e .1) | false ↦ tells ] ]
     ]
 
-part : (e : Quad) → Part e
+part : (e : Entry) → Part e
 part e = go (eqb (e .0) 1) (eqb (e .0) 2) (eqb (e .0) 3) (eqb (e .1) kd.ERROR) refl refl refl refl
   where
     is : {x y z : Bool} → eqb (e .0) 1 ≡ x → eqb (e .0) 2 ≡ y → eqb (e .0) 3 ≡ z → of e ≡ form e x y z
@@ -97,13 +97,13 @@ part e = go (eqb (e .0) 1) (eqb (e .0) 2) (eqb (e .0) 3) (eqb (e .1) kd.ERROR) r
     go false false true false p q r s = other (subst Plain (sym (is p q r)) s) (tests 1 p s) (tests 3 r s)
     go false false false k p q r s = other (subst Plain (sym (is p q r)) tt) (tests 1 p s) (tests 3 r s)
 
-marks-begin : (e : Quad) (es : List Quad) → error-of 1 e ≡ true → marks (e ∷ es) ≡ M.opens (e .2, e .3) ∷ marks es
+marks-begin : (e : Entry) (es : List Entry) → error-of 1 e ≡ true → marks (e ∷ es) ≡ M.opens (e .2, e .3) ∷ marks es
 marks-begin e es p = ap (λ (t : Bool). marked t (error-of 3 e) e (marks es)) p
 
-marks-end : (e : Quad) (es : List Quad) → error-of 1 e ≡ false → error-of 3 e ≡ true → marks (e ∷ es) ≡ ended (marks es)
+marks-end : (e : Entry) (es : List Entry) → error-of 1 e ≡ false → error-of 3 e ≡ true → marks (e ∷ es) ≡ ended (marks es)
 marks-end e es p q = ap₂ (λ (t u : Bool). marked t u e (marks es)) p q
 
-marks-other : (e : Quad) (es : List Quad) → error-of 1 e ≡ false → error-of 3 e ≡ false → marks (e ∷ es) ≡ M.keeps e ∷ marks es
+marks-other : (e : Entry) (es : List Entry) → error-of 1 e ≡ false → error-of 3 e ≡ false → marks (e ∷ es) ≡ M.keeps e ∷ marks es
 marks-other e es p q = ap₂ (λ (t u : Bool). marked t u e (marks es)) p q
 
 -- WHAT THE MARKS LEAVE, the spans of ERROR nodes left out
@@ -170,7 +170,7 @@ after-end t es = blanks (elim t [ true ↦ drop 1 (merged es) | false ↦ closes
 abbrev Leaves : List Mark → List Event → Type 0
 Leaves ms es = (left ms ≡ blanks (merged es)) × (left (ended ms) ≡ after-end (joins kd.ERROR es) es)
 
-marks-leave : (es : List Quad) → Leaves (marks es) (shown es)
+marks-leave : (es : List Entry) → Leaves (marks es) (shown es)
 marks-leave [] = (refl, refl)
 marks-leave (e ∷ es) = go (part e) (marks-leave es)
   where
@@ -194,11 +194,11 @@ marks-leave (e ∷ es) = go (part e) (marks-leave es)
     go (other p q r) h = moved (marks-other e es q r) refl (as-kept p h)
 
 -- THEOREM: the finished list is the merged one, spans of ERROR nodes apart
-pub finished-is-merged : (l : List ℕ) → paired (marks (quads l)) 0 ≡ true → blanks (events (W.flat (finished l))) ≡ blanks (merged (events l))
+pub finished-is-merged : (l : List ℕ) → paired (marks (entries l)) 0 ≡ true → blanks (events (W.flat (finished l))) ≡ blanks (merged (events l))
 finished-is-merged l h =
     ap blanks (events-of (finished l))
-    ∙ merge-leaves (marks (quads l)) [] h
-    ∙ marks-leave (quads l) .0
+    ∙ merge-leaves (marks (entries l)) [] h
+    ∙ marks-leave (entries l) .0
     ∙ ap (λ (es : List Event). blanks (merged es)) (sym (events-are l))
 
 -- A LIST THAT NESTS IS MERGED, and the merged list nests
@@ -261,7 +261,7 @@ end-pairs es (j ∷ js) ms h H =
     ap (λ (t : Bool). paired (ended ms) (elim t [ true ↦ suc (errors js) | false ↦ errors js ])) (and-left (eqb j kd.ERROR) (nests es js) h)
     ∙ ended-pairs ms (errors js) (H js (and-right (eqb j kd.ERROR) (nests es js) h))
 
-nests-pairs : (es : List Quad) (js : List ℕ) → nests (shown es) js ≡ true → paired (marks es) (errors js) ≡ true
+nests-pairs : (es : List Entry) (js : List ℕ) → nests (shown es) js ≡ true → paired (marks es) (errors js) ≡ true
 nests-pairs [] [] h = refl
 nests-pairs [] (j ∷ js) h = never cc
 nests-pairs (e ∷ es) js h = go (part e) (λ is. nests-pairs es is)
@@ -288,7 +288,7 @@ ended-sorted (M.joins z ∷ ms) = refl
 ended-sorted (M.closes ∷ ms) = refl
 ended-sorted (M.keeps e ∷ ms) = refl
 
-marks-sorted : (es : List Quad) → M.sorts es ≡ true → sorted (marks es) ≡ true
+marks-sorted : (es : List Entry) → M.sorts es ≡ true → sorted (marks es) ≡ true
 marks-sorted [] h = refl
 marks-sorted (e ∷ es) h =
     let ok = and-left (leb 1 (e .0) && leb (e .0) 4) (M.sorts es) h in
@@ -310,14 +310,14 @@ merge-sorts (M.keeps e ∷ ms) st h =
 
 module _ (l : List ℕ) (w : well-formed l ≡ true) (n : nests (events l) [] ≡ true) where
   -- THEOREM: what `rules` does not refuse 9 or 15 for its nesting, the merger does not refuse 10
-  pub nesting-pairs : paired (marks (quads l)) 0 ≡ true
-  nesting-pairs = nests-pairs (quads l) [] (ap (λ (es : List Event). nests es []) (sym (events-are l)) ∙ n)
+  pub nesting-pairs : paired (marks (entries l)) 0 ≡ true
+  nesting-pairs = nests-pairs (entries l) [] (ap (λ (es : List Event). nests es []) (sym (events-are l)) ∙ n)
 
   -- THEOREM: the merged list is no case of refusal 9
   pub finished-well-formed : well-formed (W.flat (finished l)) ≡ true
   finished-well-formed =
       let s = sym (sorts-are l) ∙ and-right (eqb (length l % width) 0) (sorts l) w in
-      well-formed-of (finished l) (merge-sorts (marks (quads l)) [] (marks-sorted (quads l) s))
+      well-formed-of (finished l) (merge-sorts (marks (entries l)) [] (marks-sorted (entries l) s))
 
   -- THEOREM: the merged list nests
   pub finished-nests : nests (events (W.flat (finished l))) [] ≡ true

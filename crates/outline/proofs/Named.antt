@@ -12,8 +12,8 @@ use native.Mathlib.Omega.{arith}
 use Rattle.kinds.specs.Kinds as kd
 use Rattle.kinds.specs.Sets.{idOf, kindOf, pick, trivial}
 use Rattle.definition.specs.Prog.{Production, RULE-DECL, RULE-MODS, Prog, eat, unless, ifnext, opt, many, then, _⨟_, _/_, last, recover, node, memo}
-use Rattle.definition.specs.Grammar.{grammar, kind, rule-decl, one}
-use Rattle.definition.specs.Run.{State, Reader, Limits, Event, opened, leaf, closed, bad, Choice, stray, Mode, ok, failed, stopped, Next, end, other, hit, next, sought, skip, past, trivia-out, trivia, seek-out, skip-to, turn, put, back, begin, finish, nodes, if-ok, eat-row, eats, refuse-row, branch, or-else, alts, go-on, loop, fails, known, remember, memo-row, choose, first-names, swallow, recovered, recovery, exec, run, errors, rule-keywords, read-rule, stray-item, item-at, flush, again, item, items, start, read}
+use Rattle.definition.specs.Grammar.{grammar, kind, item-of, one}
+use Rattle.definition.specs.Run.{State, Reader, Limits, Event, opened, leaf, closed, bad, Choice, stray, Mode, ok, failed, stopped, Next, end, other, hit, next, sought, skip, past, trivia-out, trivia, seek-out, skip-to, turn, put, back, begin, finish, nodes, if-ok, eat-row, eats, refuse-row, branch, or-else, alts, go-on, loop, fails, known, remember, memo-row, choose, first-names, swallow, recovered, recovery, exec, run, errors, rule-keywords, item-keywords, read-item, stray-item, item-at, flush, again, item, items, start, read}
 use Rattle.definition.proofs.Gap.{gap-out}
 use Rattle.definition.proofs.Every.{productions, each-but}
 use Rattle.definition.proofs.Agree.{nil-cons}
@@ -324,9 +324,9 @@ module _ (L : Limits) where
   abbrev Whole : List Event → Type 0
   Whole o = Sound most-open [] o
 
-  rule-whole : (s : State) → Whole (s .out) → Whole ((read-rule L s) .out)
-  unfolding read-rule
-  rule-whole s h = exec-low most-open (L .depth) (run (L .depth)) (run-low most-open (L .depth)) rule-decl false s [] (omega arith) h
+  reads-whole : (p : Prog) (s : State) → Whole (s .out) → Whole ((read-item L p s) .out)
+  unfolding read-item
+  reads-whole p s h = exec-low most-open (L .depth) (run (L .depth)) (run-low most-open (L .depth)) p false s [] (omega arith) h
 
   stray-whole : (s : State) → Whole (s .out) → Whole ((stray-item s) .out)
   stray-whole s h =
@@ -347,13 +347,13 @@ module _ (L : Limits) where
 
   item-whole : (s : State) → Whole (s .out) → Whole ((item L s) .out)
   item-whole s h =
-      let x : Next = sought rule-keywords ((trivia s) .rest) in
+      let x : Next = sought item-keywords ((trivia s) .rest) in
       flush-whole (item-at L x (trivia s)) (at x (trivia s) (trivia-keeps most-open [] s h))
     where
       at : (x : Next) (t : State) → Whole (t .out) → Whole ((item-at L x t) .out)
       at end t h = h
       at other t h = stray-whole t h
-      at (hit a is) t h = rule-whole t h
+      at (hit a is) t h = reads-whole (item-of a) t h
 
   items-whole : (n : ℕ) (s : State) → Whole (s .out) → Whole ((items L n s) .out)
   items-whole zero s h = h

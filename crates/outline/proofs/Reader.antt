@@ -7,11 +7,12 @@ use lib.Dec.{eqb, ltb}
 use lib.ListN.{length}
 use borrow.Author.Tests.{eq-eqb, eqb-true, lt-ltb}
 use native.Mathlib.Omega.{arith}
+use Rattle.shapes.specs.Shapes.{Entry}
 use Rattle.kinds.specs.Kinds as kd
 use Rattle.definition.specs.Run as D
 use Rattle.definition.specs.Run.{State, Limits, read}
 use Rattle.definition.specs.Render as W
-use Rattle.definition.specs.Render.{Source, starts-at, ends-at, span-end, bads, Quad, render, Reading}
+use Rattle.definition.specs.Render.{Source, starts-at, ends-at, span-end, bads, render, Reading}
 use Rattle.definition.specs.Answer as A
 use Rattle.definition.specs.Answer.{Desk, answer, source-of}
 use Rattle.definition.specs.Merge as M
@@ -91,7 +92,7 @@ kinds-length (t ∷ st) = ap suc (kinds-length st)
 
 module _ (x : Source) (most : ℕ) (low : most < deepest) where
   -- what stands behind a moment of rendering
-  record Fine (st : List (ℕ × ℕ)) (ns : List Bool) (l : List Quad) : Type 0 where
+  record Fine (st : List (ℕ × ℕ)) (ns : List Bool) (l : List Entry) : Type 0 where
     pub level : length ns ≡ length st
     pub few : length st ≤ most
     pub nest : nests (shown l) (kinds st) ≡ true
@@ -105,7 +106,7 @@ module _ (x : Source) (most : ℕ) (low : most < deepest) where
       go true e = ap₂ _&&_ (ap has-name (name-inside es 0) ∙ f (eqb-true (t .0) kd.RULE-DECL e)) h
       go false e = h
 
-  fine-open : (t : ℕ × ℕ) (n : ℕ) (st : List (ℕ × ℕ)) (ns : List Bool) (l : List Quad) → Fine (t ∷ st) (false ∷ ns) l → Fine st ns ((1, t .0, starts-at x n, t .1) ∷ l)
+  fine-open : (t : ℕ × ℕ) (n : ℕ) (st : List (ℕ × ℕ)) (ns : List Bool) (l : List Entry) → Fine (t ∷ st) (false ∷ ns) l → Fine st ns ((1, t .0, starts-at x n, t .1) ∷ l)
   fine-open t n st ns l f = record {
     level = omega (arith, f .level);
     few = omega (arith, f .few);
@@ -114,7 +115,7 @@ module _ (x : Source) (most : ℕ) (low : most < deepest) where
     named = open-named t (starts-at x n) (shown l) (λ e. f .names .0 e refl) (f .named);
   }
 
-  fine-row : (a b c : ℕ) (st : List (ℕ × ℕ)) (ns : List Bool) (l : List Quad) → Fine st ns l → Fine st (met a ns) ((2, a, b, c) ∷ l)
+  fine-row : (a b c : ℕ) (st : List (ℕ × ℕ)) (ns : List Bool) (l : List Entry) → Fine st ns l → Fine st (met a ns) ((2, a, b, c) ∷ l)
   fine-row a b c st ns l f = record {
     level = met-level ns ∙ f .level;
     few = f .few;
@@ -127,7 +128,7 @@ module _ (x : Source) (most : ℕ) (low : most < deepest) where
       met-level [] = refl
       met-level (b ∷ ns) = refl
 
-  fine-close : (a b e : ℕ) (st : List (ℕ × ℕ)) (ns : List Bool) (l : List Quad) → suc (length ns) ≤ most → Fine st ns l → Fine ((a, e) ∷ st) (eqb a kd.RULE-DECL ∷ ns) ((3, a, b, e) ∷ l)
+  fine-close : (a b e : ℕ) (st : List (ℕ × ℕ)) (ns : List Bool) (l : List Entry) → suc (length ns) ≤ most → Fine st ns l → Fine ((a, e) ∷ st) (eqb a kd.RULE-DECL ∷ ns) ((3, a, b, e) ∷ l)
   fine-close a b e st ns l h f = record {
     level = ap suc (f .level);
     few = omega (arith, h, f .level);
@@ -139,11 +140,11 @@ module _ (x : Source) (most : ℕ) (low : most < deepest) where
       other : {A : Type 0} → a ≡ kd.RULE-DECL → eqb a kd.RULE-DECL ≡ false → A
       other p q = let c : true ≡ false = sym (eq-eqb a kd.RULE-DECL p) ∙ q in never cc
 
-  fine-tell : (a b c : ℕ) (st : List (ℕ × ℕ)) (ns : List Bool) (l : List Quad) → Fine st ns l → Fine st ns ((4, a, b, c) ∷ l)
+  fine-tell : (a b c : ℕ) (st : List (ℕ × ℕ)) (ns : List Bool) (l : List Entry) → Fine st ns l → Fine st ns ((4, a, b, c) ∷ l)
   fine-tell a b c st ns l f = record { level = f .level; few = f .few; nest = f .nest; names = names-tell (shown l) 0 st ns (f .names); named = f .named }
 
   -- THE INDUCTION, as rendering goes: from the last event to the first
-  fine-render : (w : List D.Event) (st : List (ℕ × ℕ)) (ns : List Bool) (l : List Quad) → Sound most ns w → Fine st ns l → Fine [] [] (render x st w l)
+  fine-render : (w : List D.Event) (st : List (ℕ × ℕ)) (ns : List Bool) (l : List Entry) → Sound most ns w → Fine st ns l → Fine [] [] (render x st w l)
   fine-render [] [] ns l h f = subst (λ (ms : List Bool). Fine [] ms l) h f
   fine-render [] (t ∷ st) ns l h f = absurd (omega (arith, f .level, ap length h))
   fine-render (D.opened n ∷ w) st [] l h f = absurd h
@@ -160,10 +161,10 @@ module _ (L : Limits) (low : L .depth ≤ 1024) (d : Desk) (R : Reading) (e : an
       let x : Source = source-of d in
       let z : ℕ = length (d .bytes) in
       let o : List D.Event = (read L (d .ids) (d .fuel)) .out in
-      let l : List Quad = (3, kd.SOURCE-FILE, 0, z) ∷ [] in
+      let l : List Entry = (3, kd.SOURCE-FILE, 0, z) ∷ [] in
       let f = fine-render x (most-open L) (omega (arith, low)) o [] [] l (read-whole L (d .ids) (d .fuel)) (record { level = refl; few = omega arith; nest = refl; names = tt; named = refl }) in
-      let is : R .events ≡ (1, kd.SOURCE-FILE, 0, z) ∷ render x [] o l = ap (λ (r : Reading). r .events) (given-is L d R e .whole) ∙ ap (λ (l : List Quad). (1, kd.SOURCE-FILE, 0, z) ∷ l) (sym (render-keeps x [] o [] l)) in
-      subst (λ (es : List Quad). (nests (shown es) [] ≡ true) × (all-named (rules (shown es)) ≡ true)) (sym is) (f .nest, f .named)
+      let is : R .events ≡ (1, kd.SOURCE-FILE, 0, z) ∷ render x [] o l = ap (λ (r : Reading). r .events) (given-is L d R e .whole) ∙ ap (λ (l : List Entry). (1, kd.SOURCE-FILE, 0, z) ∷ l) (sym (render-keeps x [] o [] l)) in
+      subst (λ (es : List Entry). (nests (shown es) [] ≡ true) × (all-named (rules (shown es)) ≡ true)) (sym is) (f .nest, f .named)
 
   abbrev l : List ℕ
   l = W.flat (R .events)

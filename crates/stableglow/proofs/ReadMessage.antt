@@ -8,10 +8,11 @@ use lib.Dec.{eqb, ltb, leb}
 use lib.ListN.{length, getD, drop, List·getD-eq-default}
 use lib.Seq.{drop-at}
 use borrow.Author.Tests.{ltb-true, ltb-false, le-leb, lt-ltb, ne-eqb}
+use Rattle.shapes.specs.Shapes.{Rec, flat-records}
 use Rattle.kinds.specs.Kinds as kinds
 use Rattle.utf8.specs.Utf8.{utf8}
 use Rattle.definition.specs.Run.{State, Limits, Event, opened, leaf, closed, bad, Choice, wanted, unwanted, stray, read}
-use Rattle.definition.specs.Render.{Source, starts-at, ends-at, id-at, text-at, form-found, form-slash, form-unknown, form-wanted, form-unwanted, form-of, names-of, Rec, flat-records, record-of, records, Reading}
+use Rattle.definition.specs.Render.{Source, starts-at, ends-at, id-at, text-at, form-found, form-slash, form-unknown, form-wanted, form-unwanted, form-of, names-of, record-of, records, Reading}
 use Rattle.definition.specs.Answer.{Desk, After, Answer, given, source-of, left-by}
 use Rattle.definition.proofs.Cut.{Rows, rows-of}
 use Rattle.theorems.proofs.Answered.{given-is}
@@ -19,7 +20,6 @@ use Rattle.theorems.proofs.Matched.{Fresh, Names, Row, Written, read-rowed, til
 use Rattle.messages.specs.Record.{part, behind, counts, has, named, empty, quotes, shows, reads, size, recordAt}
 use Rattle.messages.specs.Message.{message, written, messaging}
 use Rattle.messages.proofs.Readable.{reads-when}
-use Rattle.notes.specs.Means.{limits}
 use Rattle.desk.specs.declared.read.Reading.the-variants.{Answered}
 use Rattle.desk.proofs.Demands.{Promised, read-given, read-errors}
 
@@ -213,25 +213,25 @@ each-reads bytes after (r ∷ rs) (suc n) t h =
     ap (λ (l : List ℕ). reads bytes (recordAt n l)) (behind-first after r rs) ∙ each-reads bytes after rs n (t .1) (omega arith)
 
 -- THE THEOREM: k records stand in the buffer er that the reader left, and each of them reads, so it is told or there is no room for it
-module _ (d : Desk) {o c e k f : ℕ} {ev er sc : List ℕ} (p : Promised d (Answered o c e k f) ev er sc) where
+module _ (L : Limits) (d : Desk) {o c e k f : ℕ} {ev er sc : List ℕ} (p : Promised L d (Answered o c e k f) ev er sc) where
   R : Reading
-  R = read-given d p .0
+  R = read-given L d p .0
 
   all-told : Told (d .bytes) (R .errors)
   unfolding R
   all-told =
-      let g = given-is limits d (read-given d p .0) (read-given d p .1) in
+      let g = given-is L d (read-given L d p .0) (read-given L d p .1) in
       subst (Told (d .bytes)) (sym (ap (λ (r : Reading). r .errors) (g .whole)))
-      (records-told limits d (rows-of d (g .unrefused) .0) ((read limits (d .ids) (d .fuel)) .out) [] (read-rowed limits (d .ids) (d .fuel)) tt)
+      (records-told L d (rows-of d (g .unrefused) .0) ((read L (d .ids) (d .fuel)) .out) [] (read-rowed L (d .ids) (d .fuel)) tt)
 
   many : k ≡ length (R .errors)
   unfolding R
-  many = ap (λ (a : After). a .error-count) p ∙ ap (λ (a : Answer). (left-by d a) .error-count) (read-given d p .1)
+  many = ap (λ (a : After). a .error-count) p ∙ ap (λ (a : Answer). (left-by d a) .error-count) (read-given L d p .1)
 
   pub written-reads : (n : ℕ) → n < k → reads (d .bytes) (recordAt n er) ≡ true
   unfolding R
   written-reads n h =
-      ap (λ (l : List ℕ). reads (d .bytes) (recordAt n l)) (read-errors d p)
+      ap (λ (l : List ℕ). reads (d .bytes) (recordAt n l)) (read-errors L d p)
       ∙ each-reads (d .bytes) _ (R .errors) n all-told (omega (arith, many))
 
   pub never-11 : (n : ℕ) (room : List ℕ) → n < k → messaging (d .bytes) (recordAt n er) room ≡ written (message (d .bytes) (recordAt n er)) room

@@ -8,7 +8,7 @@ use lib.ListN.{length, take}
 use Rattle.definition.specs.Render as W
 use Rattle.definition.specs.Answer.{Desk}
 use Rattle.definition.specs.Merge.{finished}
-use Rattle.notes.specs.Means.{limits}
+use Rattle.definition.specs.Run.{base}
 use Rattle.desk.specs.declared.read.Reading.the-variants.{Answered}
 use Rattle.desk.proofs.Demands.{Promised, read-given, read-list}
 use Rattle.outline.specs.Shape.{width, events}
@@ -24,22 +24,22 @@ abbrev pub Outlines : List ℕ → Type 0
 Outlines l = (at depth : ℕ) (room : List ℕ) → outlining l at depth room ≡ returned room (asked (events l) at (outlined (length room) depth))
 
 -- d is what was lent to the reader, e the count of events in its answer, ev what the buffer of events holds then
-module _ (d : Desk) {o c e k f : ℕ} {ev er sc : List ℕ} (p : Promised d (Answered o c e k f) ev er sc) where
+module _ (d : Desk) {o c e k f : ℕ} {ev er sc : List ℕ} (p : Promised base d (Answered o c e k f) ev er sc) where
   abbrev l : List ℕ
   l = take (width * e) ev
 
   pub read-lists : Lists l
-  read-lists = subst Lists (sym (read-list d p)) (λ room. ap (returned room) (read-never-15 limits (omega arith) d (read-given d p .0) (read-given d p .1) (length room)))
+  read-lists = subst Lists (sym (read-list base d p)) (λ room. ap (returned room) (read-never-15 base (omega arith) d (read-given base d p .0) (read-given base d p .1) (length room)))
 
   pub read-outline : Outlines l
-  read-outline = subst Outlines (sym (read-list d p)) (read-outlines limits (omega arith) d (read-given d p .0) (read-given d p .1))
+  read-outline = subst Outlines (sym (read-list base d p)) (read-outlines base (omega arith) d (read-given base d p .0) (read-given base d p .1))
 
   -- the merged list has the same rules
   abbrev Same : List ℕ → Type 0
   Same l = (room : List ℕ) → ruling (W.flat (finished l)) room ≡ returned room (fitting (length room) (length (rules (events l))) (flat (rules (events l))))
 
   pub merged-lists : Same l
-  merged-lists = subst Same (sym (read-list d p)) (λ room. ap (returned room) (merged-never-15 limits (omega arith) d (read-given d p .0) (read-given d p .1) (length room)))
+  merged-lists = subst Same (sym (read-list base d p)) (λ room. ap (returned room) (merged-never-15 base (omega arith) d (read-given base d p .0) (read-given base d p .1) (length room)))
 
   pub merged-outline : Outlines (W.flat (finished l))
-  merged-outline = subst (λ (l : List ℕ). Outlines (W.flat (finished l))) (sym (read-list d p)) (merged-outlines limits (omega arith) d (read-given d p .0) (read-given d p .1))
+  merged-outline = subst (λ (l : List ℕ). Outlines (W.flat (finished l))) (sym (read-list base d p)) (merged-outlines base (omega arith) d (read-given base d p .0) (read-given base d p .1))

@@ -90,6 +90,7 @@ fn read_rows(name: &[u8], source: &[u8], ids: &[u32], starts: &[u32], ends: &[u3
         starts,
         ends,
         fuel,
+        desk::read::base(),
         &mut scratch,
         &mut events,
         &mut errors,

@@ -13,8 +13,7 @@ use Rattle.kinds.specs.Kinds as kinds
 use Rattle.kinds.specs.Sets.{idOf, kindOf, trivial}
 use Rattle.utf8.specs.Utf8.{utf8}
 use Rattle.shapes.specs.Shapes.{Rec}
-use Rattle.definition.specs.Prog.{Prog}
-use Rattle.definition.specs.Prog.{Production}
+use Rattle.definition.specs.Prog.{Production, IMPORT-STMT, INCLUDE-STMT, node}
 use Rattle.definition.specs.Grammar.{grammar, item-of, rule-decl}
 use Rattle.definition.specs.Run.{State, Reader, Limits, Event, opened, leaf, closed, bad, Choice, wanted, unwanted, stray, Mode, ok, failed, stopped, Next, end, other, hit, next, sought, skip, past, trivia-out, trivia, seek, seek-out, skip-to, turn, put, begin, finish, nodes, has, join, further, furthest, pending, add, decide, choose, errors, run, rule-keywords, item-keywords, read-item, stray-item, item-at, flush, again, item, items, start, read}
 use Rattle.definition.specs.Render.{Source, starts-at, ends-at, id-at, text-at, form-found, form-slash, form-unknown, form-wanted, form-unwanted, form-of, record-of, records, Reading}
@@ -89,9 +88,14 @@ grammar-names : (a : Production) → T (enters nameable (grammar a))
 unfolding below nameable grammar productions idOf
 grammar-names a = each (λ a. enters nameable (grammar a)) tt a
 
-rule-names : T (enters nameable rule-decl)
+item-names : (a : ℕ) → T (enters nameable (item-of a))
 unfolding below nameable idOf
-rule-names = tt
+item-names a = go (eqb a kinds.IMPORT-KW) (eqb a kinds.INCLUDE-KW)
+  where
+    go : (m n : Bool) → T (enters nameable (elim m [ true ↦ node IMPORT-STMT | false ↦ elim n [ true ↦ node INCLUDE-STMT | false ↦ rule-decl ] ]))
+    go true n = tt
+    go false true = tt
+    go false false = tt
 
 fresh-last : (ns : List ℕ) (n x : ℕ) → Fresh ns n → (x ≡ n → ⊥) → Fresh (ns ++ (x ∷ [])) n
 fresh-last [] n x f h = (h, tt)
@@ -227,10 +231,10 @@ keeping = record {
   at-node = λ d o a f F s i. finish-keeps o a (length ((begin d s) .rest)) (f (begin d s)) (F (begin d s) (begin-keeps d s i));
 }
 
-reads-keeps : (L : Limits) (p : Prog) (s : State) → Keeps s (read-item L p s)
+reads-keeps : (L : Limits) (a : ℕ) (s : State) → Keeps s (read-item L (item-of a) s)
 unfolding read-item
-reads-keeps L p s =
-    exec-kept-if (stepped-if Keeps keeping) (L .depth) (run (L .depth)) (run-kept-if (stepped-if Keeps keeping) grammar-names (L .depth)) p rule-names false s
+reads-keeps L a s =
+    exec-kept-if (stepped-if Keeps keeping) (L .depth) (run (L .depth)) (run-kept-if (stepped-if Keeps keeping) grammar-names (L .depth)) (item-of a) (item-names a) false s
 
 stray-keeps : (s : State) → Keeps s (stray-item s)
 stray-keeps s = alike s (stray-item s) refl refl refl (λ h. seek-writes rule-keywords (s .rest) (opened (length (s .rest)) ∷ bad (length (s .rest)) stray ∷ s .out) (tt, h))
@@ -253,7 +257,7 @@ item-keeps L s i = let x : Next = sought item-keywords ((trivia s) .rest) in flu
     at : (x : Next) (t : State) → Keeps t (item-at L x t)
     at end t i = i
     at other t i = stray-keeps t i
-    at (hit a is) t i = reads-keeps L (item-of a) t i
+    at (hit a is) t i = reads-keeps L a t i
 
 items-keep : (L : Limits) (n : ℕ) (s : State) → Keeps s (items L n s)
 items-keep L zero s = λ i. i
