@@ -23,9 +23,9 @@ uint32_t stableglow_cut(const uint8_t *source, size_t source_len, uint32_t *ids,
    and fuel left to answer[0..4], the events (four numbers each) and the error records from the first cell of their lists on,
    and zeros past them and into scratch.
    Or returns a refusal's number and five zeros in answer: 1 too long, 2 lists that differ in length, 3 an unknown id, 4 rows
-   that do not tile the source, 5 an import or include row, 6 too little scratch, (2 x (rows + 1) + 63) / 64 words are enough:
-   each leaves the lists as they were lent. 7 and 8: the events or the records exceeded their room: the lists are all zero.
-   An empty list of errors means that every rule was accepted only where the outcome is 0.
+   that do not tile the source, 6 too little scratch, (2 x (rows + 1) + 63) / 64 words are enough: each leaves the lists as
+   they were lent (5 is not used). 7 and 8: the events or the records exceeded their room: the lists are all zero.
+   An empty list of errors means that every item was accepted only where the outcome is 0.
    The lists must not overlap. */
 uint32_t stableglow_read(const uint8_t *source, size_t source_len, const uint32_t *ids, size_t ids_len,
                          const uint32_t *starts, size_t starts_len, const uint32_t *ends, size_t ends_len, uint32_t fuel,

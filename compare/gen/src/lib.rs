@@ -142,7 +142,11 @@ fn starve(question: &mut Question, rng: &mut Rng) {
 const CONTEXTS: [(&str, &str, &str); 12] = [
     ("", "", "rule global private a { } : x"),
     ("", "rule a { condition : true }", "import include \"s\" rule a @ { condition_:_true_}"),
-    ("rule a { condition : true }", "", "import include \"s\" global rule_a_{_condition_:_true_} } 1 condition"),
+    (
+        "rule a { condition : true }",
+        "",
+        "import include \"s\" global rule_a_{_condition_:_true_} } 1 condition",
+    ),
     ("rule a {", "}", "meta strings condition : a = 1 true $a \"s\" -"),
     ("rule a { strings :", "condition : true }", "$a = \"s\" /r/ { } h00 ( ) | [ ] - 1 xor base64 ascii"),
     ("rule a { condition :", "}", "a 1 ( ) [ ] . - % of any $a in at , true and"),

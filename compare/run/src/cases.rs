@@ -87,7 +87,7 @@ struct Small {
     errors: &'static [(u32, u32, u32, &'static [u32])],
 }
 
-const SMALL: [Small; 8] = [
+const SMALL: [Small; 13] = [
     Small { label: "P1", text: "", fuel: 0, outcome: 0, rows: 0, left: 0, events: Some(2), errors: &[] },
     Small { label: "P2", text: R, fuel: 5, outcome: 0, rows: 8, left: 0, events: Some(18), errors: &[] },
     Small {
@@ -132,13 +132,63 @@ const SMALL: [Small; 8] = [
         events: None,
         errors: &[(22, 26, 1, &[name::OPERATOR, name::R_BRACE])],
     },
+    Small {
+        label: "import, fuel 0",
+        text: "import~ ~\"pe\"",
+        fuel: 0,
+        outcome: 1,
+        rows: 0,
+        left: 0,
+        events: Some(4),
+        errors: &[],
+    },
+    Small {
+        label: "import, fuel 1",
+        text: "import~ ~\"pe\"",
+        fuel: 1,
+        outcome: 0,
+        rows: 3,
+        left: 0,
+        events: Some(7),
+        errors: &[],
+    },
+    Small {
+        label: "import without its string",
+        text: "import~ ~rule~ ~a~{~condition~:~true~}",
+        fuel: 6,
+        outcome: 0,
+        rows: 10,
+        left: 0,
+        events: Some(23),
+        errors: &[(7, 11, 1, &[name::STRING_LIT])],
+    },
+    Small {
+        label: "import swallowed",
+        text: "@~ ~import~ ~\"pe\"~ ~rule~ ~a~{~condition~:~true~}",
+        fuel: 5,
+        outcome: 0,
+        rows: 14,
+        left: 0,
+        events: Some(27),
+        errors: &[(0, 1, 10, &[])],
+    },
+    Small {
+        label: "rule, include, rule",
+        text: "rule~ ~a~{~condition~:~true~}~ ~include~ ~\"pe\"~ ~rule~ ~b~{~condition~:~true~}",
+        fuel: 11,
+        outcome: 0,
+        rows: 21,
+        left: 0,
+        events: Some(41),
+        errors: &[],
+    },
 ];
 
 const P4: &str =
     "L\t1\nB\tSOURCE_FILE\t0\t22\nB\tERROR\t0\t0\nB\tERROR\t0\t0\nE\tERROR\t0\t0\nE\tERROR\t0\t0\n\
     E\tSOURCE_FILE\t0\t22\nR\t1\t0\t0\n";
 
-/// P1 to P9, and the sizes that document 01 asks to be run.
+/// P1 to P9, small files of request (ii), and the sizes that document 01 asks to be run.
 pub fn small(side: &dyn Side) -> Checked {
     for file in &SMALL {
         let reading =

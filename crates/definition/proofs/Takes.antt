@@ -256,12 +256,19 @@ Taken a i = (L : Limits) (s : State) (is : List ℕ) → s .mode ≡ ok → s .r
 
 five : Each Taken item-keywords
 unfolding read-item idOf
-five =
-    (λ L s is. rule-takes L s kinds.GLOBAL-KW is refl (inl past-global),
-    (λ L s is. rule-takes L s kinds.PRIVATE-KW is refl (inl past-private),
-    (λ L s is. rule-takes L s kinds.RULE-KW is refl (inr at-rule),
-    (λ L s is. statement-takes (L .depth) IMPORT-STMT kinds.IMPORT-KW import (λ l. refl) (λ l. refl) s is,
-    (λ L s is. statement-takes (L .depth) INCLUDE-STMT kinds.INCLUDE-KW include (λ l. refl) (λ l. refl) s is, tt)))))
+five = (
+  λ L s is. rule-takes L s kinds.GLOBAL-KW is refl (inl past-global),
+  (
+    λ L s is. rule-takes L s kinds.PRIVATE-KW is refl (inl past-private),
+    (
+      λ L s is. rule-takes L s kinds.RULE-KW is refl (inr at-rule),
+      (
+        λ L s is. statement-takes (L .depth) IMPORT-STMT kinds.IMPORT-KW import (λ l. refl) (λ l. refl) s is,
+        (λ L s is. statement-takes (L .depth) INCLUDE-STMT kinds.INCLUDE-KW include (λ l. refl) (λ l. refl) s is, tt),
+      ),
+    ),
+  ),
+)
   where
     at-rule : {is : List ℕ} → next (kinds.RULE-KW ∷ []) (kinds.RULE-KW ∷ is) ≡ other → ⊥
     at-rule n = never cc

@@ -113,7 +113,6 @@ five-not-given L d z = go (refusal d) (first-not (grounds d) (λ z. omega (arith
     go zero H z = over-not (length (d .events)) (length (d .errors)) (moments L (source-of d) (reading L d)) z
     go (suc n) H z = H z
 
-
 -- a number 0 is an answer
 pub answered : (L : Limits) (d : Desk) → (after L d) .number ≡ 0 → (R : Reading) × (answer L d ≡ given R)
 answered L d e = go (refusal d) refl (sym (number-is L d) ∙ e)
