@@ -11,7 +11,7 @@ use native.Mathlib.Omega.{arith}
 use Rattle.shapes.specs.Shapes.{Entry, entries}
 use Rattle.shapes.proofs.Laws.{entries-flat, flat-length}
 use Rattle.kinds.specs.Kinds as kd
-use Rattle.definition.specs.Render as W
+use Rattle.shapes.specs.Shapes as W
 use Rattle.definition.specs.Merge as M
 use Rattle.definition.specs.Merge.{error-of, Span, Mark, ended, marked, marks, paired, merge, finished}
 use Rattle.outline.specs.Shape.{Event, opens, row, closes, tells, event, events, sorts, width, well-formed}

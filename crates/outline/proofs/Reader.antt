@@ -11,7 +11,7 @@ use Rattle.shapes.specs.Shapes.{Entry}
 use Rattle.kinds.specs.Kinds as kd
 use Rattle.definition.specs.Run as D
 use Rattle.definition.specs.Run.{State, Limits, read}
-use Rattle.definition.specs.Render as W
+use Rattle.shapes.specs.Shapes as W
 use Rattle.definition.specs.Render.{Source, starts-at, ends-at, span-end, bads, render, Reading}
 use Rattle.definition.specs.Answer as A
 use Rattle.definition.specs.Answer.{Desk, answer, source-of}

@@ -5,7 +5,7 @@ use mathlib.Core.Path.{_≡_, sym, ap, subst}
 use mathlib.Core.List.{List}
 use native.Mathlib.Omega.{arith}
 use lib.ListN.{length, take}
-use Rattle.definition.specs.Render as W
+use Rattle.shapes.specs.Shapes as W
 use Rattle.definition.specs.Answer.{Desk}
 use Rattle.definition.specs.Merge.{finished}
 use Rattle.definition.specs.Run.{base}
