@@ -3,6 +3,7 @@ ghost use mathlib.Core.Path.{_≡_};
 ghost use mathlib.Core.List.{[]};
 ghost use lib.ListN.{getD, getElem?};
 ghost use Rattle.kinds.specs.Sets.{isId, trivial, idOf, kindOf, pick, idsOf, setOf};
+ghost use Rattle.kinds.specs.Records.{recordSize};
 ghost use Rattle.kinds.specs.Answers.{matchedOf, nameOf, isSome, inPair, kindIn, order, PartOf};
 
 mod answer;
@@ -159,4 +160,14 @@ pub fn name_at(set: usize, k: usize) -> Name
         return Name::Is(id_of(ordered(from + k)));
     }
     Name::Nothing
+}
+
+// How many numbers an error record of the form has: start, end, form, count, the names, and in form 9 the place.
+pub fn record_size(form: u32, names: u32) -> usize
+    ensures { λ r. ⌜ r ≡ recordSize form names ⌝ }
+{
+    if form == 9 {
+        return names as usize + 5;
+    }
+    names as usize + 4
 }

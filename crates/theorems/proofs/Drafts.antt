@@ -141,6 +141,14 @@ module _ (N : ℕ) where
 pub read-drafts : (L : Limits) (r : List ℕ) (f : ℕ) → DraftsIn (length r) ((read L r f) .drafts)
 read-drafts L r f = items-sure (length r) L (length r) (start r f) .1 (record { rows = omega arith; wants = tt; unwants = tt; chose = tt }, tt, (tt, tt, tt))
 
+-- one number, wherever the text stands
+place-length : (f a b : ℕ) (t : List ℕ) → length (place-of f a t) ≡ length (place-of f b t)
+place-length f a b t = go (eqb f 9)
+  where
+    go : (d : Bool) → _≡_ {A = ℕ} (length (elim d as (λ _. List ℕ) [ true ↦ (a + bad-byte t) ∷ [] | false ↦ [] ])) (length (elim d as (λ _. List ℕ) [ true ↦ (b + bad-byte t) ∷ [] | false ↦ [] ]))
+    go true = refl
+    go false = refl
+
 -- the rooms taken behind what was written before
 module _ (pre a e : List ℕ) (B : Before pre a e) (y : Source) (L : Limits) where
   abbrev N : ℕ
@@ -150,7 +158,10 @@ module _ (pre a e : List ℕ) (B : Before pre a e) (y : Source) (L : Limits) whe
   x = later pre a e y
 
   size-later : (n : ℕ) (c : Choice) → n ≤ N → size-of L x n c ≡ size-of L y n c
-  size-later n c l = ap₂ (λ (i : ℕ) (t : List ℕ). 4 + length (names-of (form-of L i t c) c)) (id-later pre a e B y n l) (text-later pre a e B y n l)
+  size-later n c l =
+      let f = form-of L (id-at y n) (text-at y n) c in
+      ap₂ (λ (i : ℕ) (t : List ℕ). let g = form-of L i t c in 4 + length (names-of g c) + length (place-of g (starts-at x n) t)) (id-later pre a e B y n l) (text-later pre a e B y n l)
+      ∙ ap (λ (i : ℕ). 4 + length (names-of f c) + i) (place-length f (starts-at x n) (starts-at y n) (text-at y n))
 
   said-later : (w : List Event) → Ins N w → said L x w ≡ said L y w
   said-later [] i = refl
