@@ -2,6 +2,7 @@
 use kinds::Name;
 use kinds::id;
 use kinds::name_at;
+use kinds::record_size;
 use notes::names::CODES;
 use notes::names::COUNT;
 use notes::names::ER;
@@ -16,6 +17,7 @@ ghost use Prim.Native.Nat.{ℕ, _+_, _-_, _≤_, _<_};
 ghost use lib.ListN.{length, getD, take, drop};
 ghost use lib.Seq.{paste};
 ghost use Rattle.kinds.specs.Kinds as k;
+ghost use Rattle.utf8.specs.Utf8.{bad-byte};
 ghost use Rattle.definition.specs.Run as P;
 ghost use Rattle.definition.specs.Render.{form-found, form-unknown, form-of, names-of};
 ghost use Rattle.kinds.specs.Sets.{setOf, idsOf};
@@ -126,8 +128,7 @@ pub fn pending(start: u32, end: u32, records: &[u32]) -> bool
                 return true;
             }
         }
-        let names = records[at + 3] as usize;
-        at = at + names + 4;
+        at += record_size(records[at + 2], records[at + 3]);
     }
     false
 }
@@ -258,6 +259,38 @@ pub fn record(
     0
 }
 
+// Writes a record of form 9, with the place of the bad byte; where there is no room, says so by 8.
+fn record_bad(
+    start: u32,
+    end: u32,
+    place: u32,
+    errors: &mut [u32],
+    notes: &mut [usize; 67],
+) -> u8
+    requires { ⌜ (getD (now notes) 4 0 ≤ getD (now notes) 5 0) × (getD (now notes) 5 0 ≤ length (now errors)) × Coded (now notes) ⌝ }
+    ensures { λ r. ⌜ ((s : Whole) → s .full ≡ 0 → Noted (start ∷ end ∷ 9 ∷ 0 ∷ place ∷ []) (beside (now (notes .entry)) s) (withFull r (beside (now (notes .exit)) s)) (now (errors .entry)) (now (errors .exit))) ⌝ }
+{
+    let at = notes[ER];
+    if notes[ERCAP] - at < 5 {
+        return 8;
+    }
+    errors[at] = start;
+    errors[at + 1] = end;
+    errors[at + 2] = 9;
+    errors[at + 3] = 0;
+    errors[at + 4] = place;
+    notes[ER] = at + 5;
+    0
+}
+
+// Where in the source the bad byte is of a text that starts at the given place.
+fn place_of(start: u32, text: &[u8]) -> u32
+    requires { ⌜ start + length (now text) < 4294967296 ⌝ }
+    ensures { λ r. ⌜ r ≡ start + bad-byte (now (text .entry)) ⌝ }
+{
+    start + utf8::bad_byte(text) as u32
+}
+
 // Chooses an error at the row, unless one is pending there.
 fn choose_at(
     at: usize,
@@ -282,6 +315,10 @@ fn choose_at(
     let e = end as usize;
     let row = id_at(at, ids);
     let form = form_of(row, &src[a..e], expected);
+    if form == 9 {
+        let place = place_of(start, &src[a..e]);
+        return record_bad(start, end, place, errors, notes);
+    }
     let l = spelled(notes);
     let count = named(expected, form, l.count);
     let names = l.names;

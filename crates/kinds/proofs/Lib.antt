@@ -4,3 +4,4 @@ pub mod Order
 pub mod Words
 pub mod Named
 pub mod Spelt
+pub mod Records

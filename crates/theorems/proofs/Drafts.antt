@@ -1,14 +1,16 @@
 -- What stands written and chosen at any moment of a reading names rows of the file alone. So the remaining rows, as a file of their own, never
 -- take more room than they take behind what was written before: the rooms of the whole are enough for them.
 use Prim.Native.Nat.{ℕ, zero, suc, _+_, _≤_}
-use mathlib.Core.Path.{_≡_, refl, ap₂, sym, subst}
+use mathlib.Core.Path.{_≡_, refl, ap, ap₂, sym, subst, _∙_}
 use mathlib.Core.List.{List, [], _∷_, _++_, map}
 use mathlib.Core.Bool.{Bool, true, false}
+use lib.Dec.{eqb}
 use lib.ListN.{length, length-append}
 use native.Mathlib.Omega.{arith}
+use Rattle.utf8.specs.Utf8.{bad-byte}
 use Rattle.definition.specs.Grammar.{rule-decl}
 use Rattle.definition.specs.Run.{State, Reader, Limits, Draft, Event, opened, leaf, closed, bad, Choice, stray, Mode, ok, failed, stopped, Next, end, other, hit, sought, trivia, take, turn, put, charge, begin, finish, choose, nodes, rule-keywords, run, read-rule, stray-item, item-at, flush, again, item, items, start, read}
-use Rattle.definition.specs.Render.{Source, form-of, names-of, size-of, said, held, moments, used}
+use Rattle.definition.specs.Render.{Source, starts-at, id-at, text-at, form-of, names-of, place-of, size-of, said, held, moments, used}
 use Rattle.definition.proofs.Induct.{exec-kept, run-kept}
 use Rattle.definition.proofs.Order.{Steps, stepped}
 use Rattle.definition.proofs.Frame.{h, behind}
@@ -145,7 +147,7 @@ read-drafts L r f = items-sure (length r) L (length r) (start r f) .1 (record { 
 place-length : (f a b : ℕ) (t : List ℕ) → length (place-of f a t) ≡ length (place-of f b t)
 place-length f a b t = go (eqb f 9)
   where
-    go : (d : Bool) → _≡_ {A = ℕ} (length (elim d as (λ _. List ℕ) [ true ↦ (a + bad-byte t) ∷ [] | false ↦ [] ])) (length (elim d as (λ _. List ℕ) [ true ↦ (b + bad-byte t) ∷ [] | false ↦ [] ]))
+    go : (d : Bool) → _≡_ {A = ℕ} (length {A = ℕ} (elim d as (λ _. List ℕ) [ true ↦ (a + bad-byte t) ∷ [] | false ↦ [] ])) (length {A = ℕ} (elim d as (λ _. List ℕ) [ true ↦ (b + bad-byte t) ∷ [] | false ↦ [] ]))
     go true = refl
     go false = refl
 

@@ -49,10 +49,13 @@ pub none-bad : (bs : List ℕ) → utf8 bs ≡ eqb (bad-byte bs) (length bs)
 unfolding utf8 bad-byte
 none-bad bs = seek-whole 0 0 [] bs tt ∙ ap (eqb (seek 0 0 [] bs)) (omega arith)
 
+pub bad-most : (bs : List ℕ) → bad-byte bs ≤ length bs
+unfolding bad-byte
+bad-most bs = omega (arith, seek-within 0 0 [] bs tt)
+
 -- elsewhere the place is that of a byte of the text
 pub bad-within : (bs : List ℕ) → utf8 bs ≡ false → bad-byte bs < length bs
-unfolding bad-byte
-bad-within bs e = omega (arith, seek-within 0 0 [] bs tt, eqb-false (bad-byte bs) (length bs) (sym (none-bad bs) ∙ e))
+bad-within bs e = omega (arith, bad-most bs, eqb-false (bad-byte bs) (length bs) (sym (none-bad bs) ∙ e))
 
 -- THE TABLE: the place in every text of two bytes, in the words of the requests
 

@@ -1,14 +1,18 @@
 -- `choice::pending` meets its contract. The loop's invariant: what is left to look through says the same as all. Assumes nothing.
-use Prim.Native.Nat.{_+_, _-_, _≤_, _^_}
-use mathlib.Core.Path.{_≡_, refl, sym, _∙_}
+use Prim.Native.Nat.{ℕ, _+_, _-_, _≤_, _^_}
+use mathlib.Core.Path.{_≡_, refl, sym, ap, _∙_}
 use mathlib.Core.Logic.{⊎-elim}
 use native.Mathlib.Omega.{arith}
-use lib.ListN.{length, drop}
+use lib.ListN.{length, getD, drop}
+use Rattle.kinds.proofs.Records.{size-least, size-most}
 use Rattle.choice.specs.Choice.{scan}
 use Rattle.choice.proofs.Scanning.{scan-hit, scan-start, scan-end, scan-out}
 use borrow.Author.Needs.{needs}
 use Rattle.choice.proofs.pending.Statement.{statement}
 use Rattle.choice.proofs.pending.Tie as tie
+use Rattle.choice.proofs.pending.Reads as reads
+use Rattle.choice.proofs.pending.Lts as lts
+use Rattle.kinds.proofs.record_size.Reads as record-size-reads
 
 abbrev Inv-loop : tie.InvT-loop
 Inv-loop start end records at₀ at = (at ≤ length records + 2 ^ 32) × (scan start end 0 records ≡ scan start end 0 (drop at records))
@@ -20,7 +24,7 @@ loop-holds : tie.Need-loop-holds Inv-loop μ-loop
 loop-holds c = (omega arith, refl)
 
 add-loop : tie.Need-add-loop Inv-loop μ-loop
-add-loop c = omega (arith, c .before .good)
+add-loop c = omega (arith, c .before .before .good)
 
 mul-if1 : tie.Need-mul-if1 Inv-loop μ-loop
 mul-if1 c = search needs
@@ -38,34 +42,40 @@ shared-slice-read-if2 : tie.Need-shared-slice-read-if2 Inv-loop μ-loop
 shared-slice-read-if2 c = search needs
 
 returns : tie.Need-returns Inv-loop μ-loop
-returns c = let o = c .before .before .before .before .before .before in let i = c .before .before .before .before .before .loop in scan-hit (o .args .start) (o .args .end) (o .args .records .now) (i .at) (c .before .before .before .before .loop-test .taken) (c .before .before .if1 .taken) (c .if2 .taken) ∙ sym (i .inv .1)
+returns c = scan-hit (c .before .before .before .before .before .before .before .args .start) (c .before .before .before .before .before .before .before .args .end) (c .before .before .before .before .before .before .before .args .records .now) (c .before .before .before .before .before .loop .at) (c .before .before .before .before .loop-test .taken) (c .before .before .if1 .taken) (c .if2 .taken) ∙ sym (c .before .before .before .before .before .loop .inv .1)
 
-add-names : tie.Need-add-names Inv-loop μ-loop
-add-names c = search needs
+add-record-size : tie.Need-add-record-size Inv-loop μ-loop
+add-record-size c = search needs
 
-mul-names : tie.Need-mul-names Inv-loop μ-loop
-mul-names c = search needs
+mul-record-size : tie.Need-mul-record-size Inv-loop μ-loop
+mul-record-size c = search needs
 
-shared-slice-read-names : tie.Need-shared-slice-read-names Inv-loop μ-loop
-shared-slice-read-names c = search needs
+shared-slice-read-record-size : tie.Need-shared-slice-read-record-size Inv-loop μ-loop
+shared-slice-read-record-size c = search needs
 
-cast-names : tie.Need-cast-names Inv-loop μ-loop
-cast-names c = omega (arith, c .shared-slice-known3 .given (c .before .before .before .before .loop .at + 3))
+add-record-size-2 : tie.Need-add-record-size-2 Inv-loop μ-loop
+add-record-size-2 c = search needs
+
+mul-record-size-2 : tie.Need-mul-record-size-2 Inv-loop μ-loop
+mul-record-size-2 c = search needs
+
+shared-slice-read-record-size-2 : tie.Need-shared-slice-read-record-size-2 Inv-loop μ-loop
+shared-slice-read-record-size-2 c = search needs
+
+record-size-requires : tie.Need-record-size-requires Inv-loop μ-loop
+record-size-requires c κs = search needs
 
 add-at : tie.Need-add-at Inv-loop μ-loop
-add-at c = omega (arith, c .shared-slice-known3 .given (c .before .before .before .before .loop .at + 3), c .before .before .before .before .before .good)
-
-add-at-2 : tie.Need-add-at-2 Inv-loop μ-loop
-add-at-2 c = omega (arith, c .shared-slice-known3 .given (c .before .before .before .before .loop .at + 3), c .before .before .before .before .before .good)
+add-at c = omega (arith, c .record-size .ensures, size-least (getD (c .before .before .before .before .before .before .before .before .args .records .now) (c .before .before .before .before .before .before .loop .at + 2) 0) (getD (c .before .before .before .before .before .before .before .before .args .records .now) (c .before .before .before .before .before .before .loop .at + 3) 0), size-most (getD (c .before .before .before .before .before .before .before .before .args .records .now) (c .before .before .before .before .before .before .loop .at + 2) 0) (getD (c .before .before .before .before .before .before .before .before .args .records .now) (c .before .before .before .before .before .before .loop .at + 3) 0), c .before .before .shared-slice-known4 .given (c .before .before .before .before .before .before .loop .at + 3), c .before .before .before .before .before .before .before .before .good)
 
 loop-less : tie.Need-loop-less Inv-loop μ-loop
-loop-less c = omega arith
+loop-less c = omega (arith, c .record-size .ensures, size-least (getD (c .before .before .before .before .before .before .before .before .args .records .now) (c .before .before .before .before .before .before .loop .at + 2) 0) (getD (c .before .before .before .before .before .before .before .before .args .records .now) (c .before .before .before .before .before .before .loop .at + 3) 0), size-most (getD (c .before .before .before .before .before .before .before .before .args .records .now) (c .before .before .before .before .before .before .loop .at + 2) 0) (getD (c .before .before .before .before .before .before .before .before .args .records .now) (c .before .before .before .before .before .before .loop .at + 3) 0), c .before .before .shared-slice-known4 .given (c .before .before .before .before .before .before .loop .at + 3))
 
 loop-again : tie.Need-loop-again Inv-loop μ-loop
-loop-again c = let o = c .before .before .before .before .before in let i = c .before .before .before .before .loop in let t = c .before .before .before .loop-test .taken in (omega (arith, c .shared-slice-known3 .given (c .before .before .before .before .loop .at + 3)), i .inv .1 ∙ ⊎-elim (λ w. scan-end (o .args .start) (o .args .end) (o .args .records .now) (i .at) t (w .0 .taken) (w .2 .left)) (λ w. scan-start (o .args .start) (o .args .end) (o .args .records .now) (i .at) t (w .left)) (c .before .if1 .came))
+loop-again c = (omega (arith, c .record-size .ensures, size-least (getD (c .before .before .before .before .before .before .before .before .args .records .now) (c .before .before .before .before .before .before .loop .at + 2) 0) (getD (c .before .before .before .before .before .before .before .before .args .records .now) (c .before .before .before .before .before .before .loop .at + 3) 0), size-most (getD (c .before .before .before .before .before .before .before .before .args .records .now) (c .before .before .before .before .before .before .loop .at + 2) 0) (getD (c .before .before .before .before .before .before .before .before .args .records .now) (c .before .before .before .before .before .before .loop .at + 3) 0), c .before .before .shared-slice-known4 .given (c .before .before .before .before .before .before .loop .at + 3)), c .before .before .before .before .before .before .loop .inv .1 ∙ ⊎-elim (λ w. scan-end (c .before .before .before .before .before .before .before .before .args .start) (c .before .before .before .before .before .before .before .before .args .end) (c .before .before .before .before .before .before .before .before .args .records .now) (c .before .before .before .before .before .before .loop .at) (c .before .before .before .before .before .loop-test .taken) (w .0 .taken) (w .2 .left)) (λ w. scan-start (c .before .before .before .before .before .before .before .before .args .start) (c .before .before .before .before .before .before .before .before .args .end) (c .before .before .before .before .before .before .before .before .args .records .now) (c .before .before .before .before .before .before .loop .at) (c .before .before .before .before .before .loop-test .taken) (w .left)) (c .before .before .before .if1 .came) ∙ ap (λ (i : ℕ). scan (c .before .before .before .before .before .before .before .before .args .start) (c .before .before .before .before .before .before .before .before .args .end) 0 (drop (c .before .before .before .before .before .before .loop .at + i) (c .before .before .before .before .before .before .before .before .args .records .now))) (sym (c .record-size .ensures)))
 
 returns-2 : tie.Need-returns-2 Inv-loop μ-loop
-returns-2 c = let o = c .before .before in let i = c .before .loop in sym (i .inv .1 ∙ scan-out (o .args .start) (o .args .end) (o .args .records .now) (i .at) (c .loop-test .left))
+returns-2 c = sym (c .before .loop .inv .1 ∙ scan-out (c .before .before .before .args .start) (c .before .before .before .args .end) (c .before .before .before .args .records .now) (c .before .loop .at) (c .loop-test .left))
 
 pub pending-spec : {M : Type 1} → statement M
 pending-spec =
@@ -81,12 +91,14 @@ pending-spec =
     mul-if2
     shared-slice-read-if2
     returns
-    add-names
-    mul-names
-    shared-slice-read-names
-    cast-names
+    add-record-size
+    mul-record-size
+    shared-slice-read-record-size
+    add-record-size-2
+    mul-record-size-2
+    shared-slice-read-record-size-2
+    record-size-requires
     add-at
-    add-at-2
     loop-less
     loop-again
     returns-2)
