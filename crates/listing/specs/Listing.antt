@@ -4,6 +4,7 @@ use mathlib.Core.List.{List, [], _∷_, _++_, map}
 use mathlib.Core.Bool.{cond}
 use lib.Dec.{eqb}
 use lib.ListN.{getD, take, drop}
+use Rattle.kinds.specs.Records.{recordSize}
 use Rattle.kinds.specs.Spelling.{kindText, nameText}
 use Rattle.listing.specs.Numbers.{decimal}
 
@@ -45,15 +46,19 @@ nodeLine letter kind start end = lineWith letter (kindText kind ∷ map decimal 
 unfoldable pub namesOf : List ℕ → List ℕ
 namesOf l = take 85 (take (getD l 3 0) (drop 4 l))
 
+-- request (vi): "in listings, a field after the names", form 9's alone
+unfoldable pub placeOf : List ℕ → List (List ℕ)
+placeOf l = cond (eqb (getD l 2 0) 9) (decimal (getD l (4 + getD l 3 0) 0) ∷ []) []
+
 -- "An error line is `X`, form, start, end, names joined by commas or `-`."
 unfoldable pub errorLine : List ℕ → List ℕ
 errorLine l =
-    lineWith 88 (map decimal (getD l 2 0 ∷ getD l 0 0 ∷ getD l 1 0 ∷ []) ++ (joined (map nameText (namesOf l)) ∷ []))
+    lineWith 88 (map decimal (getD l 2 0 ∷ getD l 0 0 ∷ getD l 1 0 ∷ []) ++ (joined (map nameText (namesOf l)) ∷ placeOf l))
 
 -- the records from the given one, from 0, on
 abbrev pub recordsFrom : ℕ → List ℕ → List ℕ
 recordsFrom zero l = l
-recordsFrom (suc k) l = recordsFrom k (drop (4 + getD l 3 0) l)
+recordsFrom (suc k) l = recordsFrom k (drop (recordSize (getD l 2 0) (getD l 3 0)) l)
 
 -- "sort (1 begin, 2 token, 3 end, 4 error), kind or error record index (from 0), start, end"
 unfoldable pub eventLine : List ℕ → ℕ → ℕ → ℕ → ℕ → List ℕ

@@ -1,12 +1,13 @@
 // The lines of the listing, each written at the front of a room. A room of 4,096 bytes holds any line:
 // 85 names of at most 32 bytes, each with a comma, and the other fields.
+use kinds::record_size;
 ghost use Prim.Native.Nat.{_+_, _*_, _≤_, _<_, min};
 ghost use mathlib.Core.Path.{_≡_};
 ghost use mathlib.Core.List.{[], _∷_, map};
 ghost use lib.ListN.{length, getD};
 ghost use Rattle.kinds.specs.Spelling.{kindText, nameText, Spelled};
 ghost use Rattle.listing.specs.Numbers.{decimal};
-ghost use Rattle.listing.specs.Listing.{led, joined, lineWith, headLine, refusalLine, unreadLine, resultLine, nodeLine, namesOf, errorLine, eventLine};
+ghost use Rattle.listing.specs.Listing.{led, joined, lineWith, headLine, refusalLine, unreadLine, resultLine, nodeLine, namesOf, placeOf, errorLine, eventLine};
 ghost use Rattle.listing.specs.Written.{Put, Stands};
 
 fn put_byte(b: u8, room: &mut [u8], at: usize) -> usize
@@ -185,6 +186,19 @@ fn names_of(list: &[u32]) -> &[u32]
     &list[from..to]
 }
 
+// The place of the bad byte as a field, where the error record that the list begins with has form 9.
+fn put_place(list: &[u32], room: &mut [u8], at: usize) -> usize
+    requires { ⌜ at + 21 ≤ length (now room) ⌝ }
+    ensures { λ r. ⌜ Put (led 9 (placeOf (now (list .entry)))) at (now (room .entry)) (now (room .exit)) r ⌝ }
+    ensures { λ r. ⌜ r ≤ at + 21 ⌝ }
+{
+    if number_at(list, 2) != 9 {
+        return at;
+    }
+    let names = number_at(list, 3) as usize;
+    put_number(number_at(list, 4 + names) as u64, room, at)
+}
+
 // The line of the error record that the list begins with.
 fn error_line(list: &[u32], room: &mut [u8]) -> usize
     requires { ⌜ 4096 ≤ length (now room) ⌝ }
@@ -197,7 +211,8 @@ fn error_line(list: &[u32], room: &mut [u8]) -> usize
     let numbers_end = put_numbers(&[form, start, end], room, letter_end);
     let tab_end = put_byte(b'\t', room, numbers_end);
     let names_end = put_names(names_of(list), room, tab_end);
-    put_byte(b'\n', room, names_end)
+    let place_end = put_place(list, room, names_end);
+    put_byte(b'\n', room, place_end)
 }
 
 // Where the error record with the given number, from 0, stands in the list.
@@ -208,7 +223,8 @@ fn record_place(list: &[u32], number: u32) -> usize
     let mut i = 0;
     while i < number {
         let rest = &list[at..];
-        at += least(rest.len(), 4 + number_at(rest, 3) as usize);
+        let size = record_size(number_at(rest, 2), number_at(rest, 3));
+        at += least(rest.len(), size);
         i += 1;
     }
     at

@@ -1,10 +1,15 @@
 -- `listing::write::record_place` meets its contract: after `i` turns `i` records are passed.
 use Prim.Native.Nat.{_-_}
 use native.Mathlib.Omega.{arith}
-use borrow.Author.Needs.{needs}
 use Rattle.listing.proofs.Records.{Passing, passing, passing-on, passed}
+use borrow.Author.Needs.{needs}
 use Rattle.listing.proofs.write.record_place.Statement.{statement}
 use Rattle.listing.proofs.write.record_place.Tie as tie
+use Rattle.listing.proofs.write.record_place.Reads as reads
+use Rattle.listing.proofs.write.record_place.Lts as lts
+use Rattle.kinds.proofs.record_size.Reads as record-size-reads
+use Rattle.listing.proofs.write.least.Reads as least-reads
+use Rattle.listing.proofs.write.number_at.Reads as number-at-reads
 
 abbrev Inv-loop : tie.InvT-loop
 Inv-loop list number at₀ i₀ at i = Passing list number at i
@@ -30,11 +35,11 @@ part-rest-end c = search needs
 number-at-requires : tie.Need-number-at-requires Inv-loop μ-loop
 number-at-requires c κs = search needs
 
-cast-least : tie.Need-cast-least Inv-loop μ-loop
-cast-least c = search needs
+number-at-requires-2 : tie.Need-number-at-requires-2 Inv-loop μ-loop
+number-at-requires-2 c κs = search needs
 
-add-least : tie.Need-add-least Inv-loop μ-loop
-add-least c = search needs
+record-size-requires : tie.Need-record-size-requires Inv-loop μ-loop
+record-size-requires c κs = search needs
 
 least-requires : tie.Need-least-requires Inv-loop μ-loop
 least-requires c κs = search needs
@@ -49,11 +54,7 @@ loop-less : tie.Need-loop-less Inv-loop μ-loop
 loop-less c = search needs
 
 loop-again : tie.Need-loop-again Inv-loop μ-loop
-loop-again c =
-    let at-number-at = c .before in
-    let at-loop-test = at-number-at .before .before in
-    let at-loop = at-loop-test .before in
-    passing-on (at-loop .loop .inv) (at-loop-test .loop-test .taken) (at-number-at .number-at .ensures) (c .least .ensures)
+loop-again c = passing-on (c .before .before .before .before .before .before .loop .inv) (c .before .before .before .before .before .loop-test .taken) (c .before .before .before .number-at .ensures) (c .before .before .number-at2 .ensures) (c .before .record-size .ensures) (c .least .ensures)
 
 returns : tie.Need-returns Inv-loop μ-loop
 returns c = passed (c .before .loop .inv) (c .loop-test .left)
@@ -70,8 +71,8 @@ record-place-spec =
     part-rest-start
     part-rest-end
     number-at-requires
-    cast-least
-    add-least
+    number-at-requires-2
+    record-size-requires
     least-requires
     add-at
     add-i
