@@ -11,6 +11,8 @@ use borrow.Author.Tests.{le-ltb, lt-ltb, ltb-true}
 use lib.Dec.{ltb}
 use lib.ListN.{length, getD, take, drop, length-append, length-drop}
 use lib.Seq.{take-take, getD-drop, drop-drop, drop-append-seam}
+use Rattle.kinds.specs.Records.{behind, recordSize}
+use Rattle.kinds.proofs.Records.{size-most}
 use Rattle.definition.specs.Buffer.{four}
 use Rattle.notes.specs.Whole.{Whole}
 use Rattle.notes.specs.Bits.{ifb}
@@ -25,15 +27,15 @@ notes-pass i zero l = refl
 notes-pass i (suc k) [] = refl
 notes-pass i (suc k) (a ∷ l) = notes-pass i k l
 
-notes-head : (i : ℕ) (l : List ℕ) → i < most → 4 ≤ length l → notes i 0 l ≡ four 4 i (getD l 0 0) (getD l 1 0) ++ notes (suc i) 0 (drop (getD l 3 0 + 4) l)
+notes-head : (i : ℕ) (l : List ℕ) → i < most → 4 ≤ length l → notes i 0 l ≡ four 4 i (getD l 0 0) (getD l 1 0) ++ notes (suc i) 0 (drop (recordSize (getD l 2 0) (getD l 3 0)) l)
 unfolding notes
 notes-head i [] g h = absurd (omega arith)
 notes-head i (a ∷ []) g h = absurd (omega arith)
 notes-head i (a ∷ b ∷ []) g h = absurd (omega arith)
 notes-head i (a ∷ b ∷ f ∷ []) g h = absurd (omega arith)
 notes-head i (a ∷ b ∷ f ∷ n ∷ l) g h =
-    ap (λ (c : Bool). elim c [ true ↦ four 4 i a b ++ notes (suc i) n l | false ↦ [] ]) (lt-ltb i most g)
-    ∙ ap (λ (t : List ℕ). four 4 i a b ++ t) (notes-pass (suc i) n l ∙ ap (λ (j : ℕ). notes (suc i) 0 (drop j (a ∷ b ∷ f ∷ n ∷ l))) (sym (add-four n)))
+    ap (λ (c : Bool). elim c [ true ↦ four 4 i a b ++ notes (suc i) (behind f n) l | false ↦ [] ]) (lt-ltb i most g)
+    ∙ ap (λ (t : List ℕ). four 4 i a b ++ t) (notes-pass (suc i) (behind f n) l ∙ ap (λ (j : ℕ). notes (suc i) 0 (drop j (a ∷ b ∷ f ∷ n ∷ l))) (sym (add-four (behind f n))))
 
 notes-few : (i : ℕ) (l : List ℕ) → length l < 4 → notes i 0 l ≡ []
 unfolding notes
@@ -49,14 +51,14 @@ notes-most i [] h = refl
 notes-most i (a ∷ []) h = refl
 notes-most i (a ∷ b ∷ []) h = refl
 notes-most i (a ∷ b ∷ f ∷ []) h = refl
-notes-most i (a ∷ b ∷ f ∷ n ∷ l) h = ap (λ (c : Bool). elim c [ true ↦ four 4 i a b ++ notes (suc i) n l | false ↦ [] ]) (le-ltb i most (omega (arith, h)))
+notes-most i (a ∷ b ∷ f ∷ n ∷ l) h = ap (λ (c : Bool). elim c [ true ↦ four 4 i a b ++ notes (suc i) (behind f n) l | false ↦ [] ]) (le-ltb i most (omega (arith, h)))
 
-notes-at : (i : ℕ) (l : List ℕ) (at : ℕ) → i < most → at + 4 ≤ length l → notes i 0 (drop at l) ≡ four 4 i (getD l at 0) (getD l (at + 1) 0) ++ notes (suc i) 0 (drop (at + getD l (at + 3) 0 + 4) l)
+notes-at : (i : ℕ) (l : List ℕ) (at : ℕ) → i < most → at + 4 ≤ length l → notes i 0 (drop at l) ≡ four 4 i (getD l at 0) (getD l (at + 1) 0) ++ notes (suc i) 0 (drop (at + recordSize (getD l (at + 2) 0) (getD l (at + 3) 0)) l)
 notes-at i l at g h =
-    let n : at + (getD (drop at l) 3 0 + 4) ≡ at + getD l (at + 3) 0 + 4 = omega (arith, getD-drop at l 3 0) in
+    let n = ap₂ (λ (f c : ℕ). at + recordSize f c) (getD-drop at l 2 0) (getD-drop at l 3 0) in
     notes-head i (drop at l) g (omega (arith, length-drop at l))
-    ∙ ap₂ (λ (a b : ℕ). four 4 i a b ++ notes (suc i) 0 (drop (getD (drop at l) 3 0 + 4) (drop at l))) (getD-drop at l 0 0 ∙ ap (λ (j : ℕ). getD l j 0) (add-zero at)) (getD-drop at l 1 0)
-    ∙ ap (λ (t : List ℕ). four 4 i (getD l at 0) (getD l (at + 1) 0) ++ notes (suc i) 0 t) (drop-drop (getD (drop at l) 3 0 + 4) at l ∙ ap (λ (j : ℕ). drop j l) n)
+    ∙ ap₂ (λ (a b : ℕ). four 4 i a b ++ notes (suc i) 0 (drop (recordSize (getD (drop at l) 2 0) (getD (drop at l) 3 0)) (drop at l))) (getD-drop at l 0 0 ∙ ap (λ (j : ℕ). getD l j 0) (add-zero at)) (getD-drop at l 1 0)
+    ∙ ap (λ (t : List ℕ). four 4 i (getD l at 0) (getD l (at + 1) 0) ++ notes (suc i) 0 t) (drop-drop (recordSize (getD (drop at l) 2 0) (getD (drop at l) 3 0)) at l ∙ ap (λ (j : ℕ). drop j l) n)
 
 -- WHAT IS WRITTEN
 pub puts-none : {s : Whole} {ev : List ℕ} → s .ev ≤ s .evcap → Puts [] s s ev ev
@@ -124,19 +126,20 @@ module _ {records : List ℕ} {before : ℕ} {s r : Whole} {ev ev′ : List ℕ}
   pub flush-open : (r .ev ≤ r .evcap) × (r .evcap ≤ length ev′)
   flush-open = (omega (arith, f .puts .fits, ap (λ (y : Whole). y .evcap) (f .puts .is)), f .fits)
 
-  pub flush-on : {t : Whole} {ev₂ : List ℕ} → at + 4 ≤ length records → (index ≡ most → ⊥) → getD records (at + 3) 0 < 4294967296 → Put (four 4 index (getD records at 0) (getD records (at + 1) 0)) r t ev′ ev₂ → Flushing records before s t ev ev₂ (at + getD records (at + 3) 0 + 4) (index + 1)
-  flush-on {t} {ev₂} h n w v =
+  pub flush-on : {t : Whole} {ev₂ : List ℕ} {size : ℕ} → at + 4 ≤ length records → (index ≡ most → ⊥) → getD records (at + 3) 0 < 4294967296 → size ≡ recordSize (getD records (at + 2) 0) (getD records (at + 3) 0) → Put (four 4 index (getD records at 0) (getD records (at + 1) 0)) r t ev′ ev₂ → Flushing records before s t ev ev₂ (at + size) (index + 1)
+  flush-on {t} {ev₂} {size} h n w z v =
       let q = four 4 index (getD records at 0) (getD records (at + 1) 0) in
       record {
         done = f .done ++ q;
         joins =
-            append-assoc (f .done) q (notes (index + 1) 0 (drop (at + getD records (at + 3) 0 + 4) records))
-            ∙ ap (λ (l : List ℕ). f .done ++ l) (ap (λ (i : ℕ). q ++ notes i 0 (drop (at + getD records (at + 3) 0 + 4) records)) (native.Mathlib.Numerals.add-one index) ∙ sym (notes-at index records at (omega (arith, n, f .low)) h))
+            append-assoc (f .done) q (notes (index + 1) 0 (drop (at + size) records))
+            ∙ ap (λ (l : List ℕ). f .done ++ l)
+            (ap₂ (λ (i j : ℕ). q ++ notes i 0 (drop (at + j) records)) (native.Mathlib.Numerals.add-one index) z ∙ sym (notes-at index records at (omega (arith, n, f .low)) h))
             ∙ f .joins;
         puts = puts-more (f .puts) 4 index (getD records at 0) (getD records (at + 1) 0) v;
         counted = omega (arith, f .counted, length-append (f .done) q);
         fits = omega (arith, f .fits, v .long, ap (λ (y : Whole). y .evcap) (v .is));
-        near = omega arith;
+        near = omega (arith, z, size-most (getD records (at + 2) 0) (getD records (at + 3) 0));
         low = omega (arith, n, f .low);
       }
 
@@ -152,12 +155,13 @@ module _ {records : List ℕ} {before : ℕ} {s r : Whole} {ev ev′ : List ℕ}
   pub flush-most : index ≡ most → Flushed records before s (record { state = r; before = index }) ev ev′
   flush-most h = flush-all (notes-most index (drop at records) h)
 
--- records as they stand
-pub notes-one : (i a b f : ℕ) (ns l : List ℕ) → i < most → notes i 0 (a ∷ b ∷ f ∷ length ns ∷ ns ++ l) ≡ four 4 i a b ++ notes (suc i) 0 l
+-- a record as it stands, t behind its count
+pub notes-one : (i a b f n : ℕ) (t l : List ℕ) → behind f n ≡ length t → i < most → notes i 0 (a ∷ b ∷ f ∷ n ∷ t ++ l) ≡ four 4 i a b ++ notes (suc i) 0 l
 unfolding notes
-notes-one i a b f ns l h =
-    ap (λ (c : Bool). elim c [ true ↦ four 4 i a b ++ notes (suc i) (length ns) (ns ++ l) | false ↦ [] ]) (lt-ltb i most h)
-    ∙ ap (λ (t : List ℕ). four 4 i a b ++ t) (notes-pass (suc i) (length ns) (ns ++ l) ∙ ap (notes (suc i) 0) (drop-append-seam ns l))
+notes-one i a b f n t l k h =
+    ap (λ (c : Bool). elim c [ true ↦ four 4 i a b ++ notes (suc i) (behind f n) (t ++ l) | false ↦ [] ]) (lt-ltb i most h)
+    ∙ ap (λ (q : List ℕ). four 4 i a b ++ q)
+    (ap (λ (j : ℕ). notes (suc i) j (t ++ l)) k ∙ notes-pass (suc i) (length t) (t ++ l) ∙ ap (notes (suc i) 0) (drop-append-seam t l))
 
 pub notes-none : (i : ℕ) → notes i 0 [] ≡ []
 unfolding notes

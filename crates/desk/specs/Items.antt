@@ -6,6 +6,7 @@ use mathlib.Core.Bool.{Bool, true, false}
 use lib.Dec.{eqb, leb, ltb}
 use lib.ListN.{length, take, set, replicate}
 use Rattle.kinds.specs.Kinds as k
+use Rattle.kinds.specs.Records.{behind}
 use Rattle.definition.specs.Run as P
 use Rattle.definition.specs.Buffer.{four}
 use Rattle.definition.specs.Render.{Source, Rec, records}
@@ -33,7 +34,7 @@ most = 4294967295
 -- the error events of records, the first with index i, where k numbers are still to be passed over
 unfoldable pub notes : ℕ → ℕ → List ℕ → List ℕ
 notes i (suc k) (a ∷ l) = notes i k l
-notes i zero (a ∷ b ∷ form ∷ n ∷ l) = elim (ltb i most) [ true ↦ four 4 i a b ++ notes (suc i) n l | false ↦ [] ]
+notes i zero (a ∷ b ∷ form ∷ n ∷ l) = elim (ltb i most) [ true ↦ four 4 i a b ++ notes (suc i) (behind form n) l | false ↦ [] ]
 notes i zero (a ∷ b ∷ form ∷ []) = []
 notes i zero (a ∷ b ∷ []) = []
 notes i zero (a ∷ []) = []

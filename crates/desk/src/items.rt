@@ -2,6 +2,7 @@
 use choice::record;
 use grammar::parts::rule_item;
 use kinds::kind;
+use kinds::record_size;
 use kinds::set;
 use kinds::within;
 use notes::cache::forget;
@@ -49,10 +50,10 @@ pub fn flush(mut s: State, before: u32, records: &[u32], events: &mut [u32]) -> 
         }
         let start = records[at];
         let end = records[at + 1];
-        let names = records[at + 3] as usize;
+        let size = record_size(records[at + 2], records[at + 3]);
         s = s.put(4, index, start, end, events);
         index += 1;
-        at = at + names + 4;
+        at += size;
     }
     Desk {
         state: s,

@@ -2,7 +2,8 @@
 use Prim.Native.Nat.{ℕ, _+_, _-_, _≤_}
 use mathlib.Core.List.{List, []}
 use native.Mathlib.Omega.{arith}
-use lib.ListN.{length}
+use lib.ListN.{length, getD}
+use Rattle.kinds.proofs.Records.{size-least, size-most}
 use Rattle.steps.specs.Steps.{whole}
 use Rattle.desk.proofs.Writing.{Flushing, flushing, flush-open, flush-on, flush-out, flush-most}
 use borrow.Author.Needs.{needs}
@@ -10,6 +11,7 @@ use Rattle.desk.proofs.items.flush.Statement.{statement}
 use Rattle.desk.proofs.items.flush.Tie as tie
 use Rattle.desk.proofs.items.flush.Reads as reads
 use Rattle.desk.proofs.items.flush.Lts as lts
+use Rattle.kinds.proofs.record_size.Reads as record-size-reads
 use Rattle.steps.proofs.state.State.put.Reads as put-reads
 
 abbrev Inv-loop : tie.InvT-loop
@@ -45,35 +47,41 @@ mul-end c = search needs
 shared-slice-read-end : tie.Need-shared-slice-read-end Inv-loop μ-loop
 shared-slice-read-end c = search needs
 
-add-names : tie.Need-add-names Inv-loop μ-loop
-add-names c = search needs
+add-record-size : tie.Need-add-record-size Inv-loop μ-loop
+add-record-size c = search needs
 
-mul-names : tie.Need-mul-names Inv-loop μ-loop
-mul-names c = search needs
+mul-record-size : tie.Need-mul-record-size Inv-loop μ-loop
+mul-record-size c = search needs
 
-shared-slice-read-names : tie.Need-shared-slice-read-names Inv-loop μ-loop
-shared-slice-read-names c = search needs
+shared-slice-read-record-size : tie.Need-shared-slice-read-record-size Inv-loop μ-loop
+shared-slice-read-record-size c = search needs
 
-cast-names : tie.Need-cast-names Inv-loop μ-loop
-cast-names c = omega (arith, c .shared-slice-known4 .given (c .before .before .before .before .before .loop .at + 3))
+add-record-size-2 : tie.Need-add-record-size-2 Inv-loop μ-loop
+add-record-size-2 c = search needs
+
+mul-record-size-2 : tie.Need-mul-record-size-2 Inv-loop μ-loop
+mul-record-size-2 c = search needs
+
+shared-slice-read-record-size-2 : tie.Need-shared-slice-read-record-size-2 Inv-loop μ-loop
+shared-slice-read-record-size-2 c = search needs
+
+record-size-requires : tie.Need-record-size-requires Inv-loop μ-loop
+record-size-requires c κs = search needs
 
 put-requires : tie.Need-put-requires Inv-loop μ-loop
-put-requires c κs = flush-open (c .before .before .before .before .before .before .loop .inv [])
+put-requires c κs = flush-open (c .before .before .before .before .before .before .before .before .loop .inv [])
 
 add-index : tie.Need-add-index Inv-loop μ-loop
-add-index c = omega (arith, c .before .before .before .before .before .before .before .if1 .left, (c .before .before .before .before .before .before .before .before .before .loop .inv []) .low)
+add-index c = omega (arith, c .before .before .before .before .before .before .before .before .before .if1 .left, (c .before .before .before .before .before .before .before .before .before .before .before .loop .inv []) .low)
 
 add-at : tie.Need-add-at Inv-loop μ-loop
-add-at c = omega (arith, c .before .before .before .before .shared-slice-known4 .given (c .before .before .before .before .before .before .before .before .before .loop .at + 3), c .before .before .before .before .before .before .before .before .before .before .before .before .good)
-
-add-at-2 : tie.Need-add-at-2 Inv-loop μ-loop
-add-at-2 c = omega (arith, c .before .before .before .before .shared-slice-known4 .given (c .before .before .before .before .before .before .before .before .before .loop .at + 3), c .before .before .before .before .before .before .before .before .before .before .before .before .good)
+add-at c = omega (arith, c .before .before .before .before .record-size .ensures, size-least (getD (c .before .before .before .before .before .before .before .before .before .before .before .before .before .before .args .records .now) (c .before .before .before .before .before .before .before .before .before .before .before .loop .at + 2) 0) (getD (c .before .before .before .before .before .before .before .before .before .before .before .before .before .before .args .records .now) (c .before .before .before .before .before .before .before .before .before .before .before .loop .at + 3) 0), size-most (getD (c .before .before .before .before .before .before .before .before .before .before .before .before .before .before .args .records .now) (c .before .before .before .before .before .before .before .before .before .before .before .loop .at + 2) 0) (getD (c .before .before .before .before .before .before .before .before .before .before .before .before .before .before .args .records .now) (c .before .before .before .before .before .before .before .before .before .before .before .loop .at + 3) 0), c .before .before .before .before .before .shared-slice-known5 .given (c .before .before .before .before .before .before .before .before .before .before .before .loop .at + 3), c .before .before .before .before .before .before .before .before .before .before .before .before .before .before .good)
 
 loop-less : tie.Need-loop-less Inv-loop μ-loop
-loop-less c = omega arith
+loop-less c = omega (arith, c .before .before .before .before .record-size .ensures, size-least (getD (c .before .before .before .before .before .before .before .before .before .before .before .before .before .before .args .records .now) (c .before .before .before .before .before .before .before .before .before .before .before .loop .at + 2) 0) (getD (c .before .before .before .before .before .before .before .before .before .before .before .before .before .before .args .records .now) (c .before .before .before .before .before .before .before .before .before .before .before .loop .at + 3) 0), size-most (getD (c .before .before .before .before .before .before .before .before .before .before .before .before .before .before .args .records .now) (c .before .before .before .before .before .before .before .before .before .before .before .loop .at + 2) 0) (getD (c .before .before .before .before .before .before .before .before .before .before .before .before .before .before .args .records .now) (c .before .before .before .before .before .before .before .before .before .before .before .loop .at + 3) 0))
 
 loop-again : tie.Need-loop-again Inv-loop μ-loop
-loop-again c = λ l. flush-on (c .before .before .before .before .before .before .before .before .before .loop .inv l) (c .before .before .before .before .before .before .before .before .loop-test .taken) (c .before .before .before .before .before .before .before .if1 .left) (omega (arith, c .before .before .before .before .shared-slice-known4 .given (c .before .before .before .before .before .before .before .before .before .loop .at + 3))) (c .before .before .put .ensures l)
+loop-again c = λ l. flush-on (c .before .before .before .before .before .before .before .before .before .before .before .loop .inv l) (c .before .before .before .before .before .before .before .before .before .before .loop-test .taken) (c .before .before .before .before .before .before .before .before .before .if1 .left) (omega (arith, c .before .before .before .before .before .shared-slice-known5 .given (c .before .before .before .before .before .before .before .before .before .before .before .loop .at + 3))) (c .before .before .before .before .record-size .ensures) (c .before .before .put .ensures l)
 
 same-length-2 : tie.Need-same-length-2 Inv-loop μ-loop
 same-length-2 c = (c .before .loop .inv []) .puts .long
@@ -96,14 +104,16 @@ flush-spec =
     add-end
     mul-end
     shared-slice-read-end
-    add-names
-    mul-names
-    shared-slice-read-names
-    cast-names
+    add-record-size
+    mul-record-size
+    shared-slice-read-record-size
+    add-record-size-2
+    mul-record-size-2
+    shared-slice-read-record-size-2
+    record-size-requires
     put-requires
     add-index
     add-at
-    add-at-2
     loop-less
     loop-again
     same-length-2
