@@ -260,13 +260,7 @@ pub fn record(
 }
 
 // Writes a record of form 9, with the place of the bad byte; where there is no room, says so by 8.
-fn record_bad(
-    start: u32,
-    end: u32,
-    place: u32,
-    errors: &mut [u32],
-    notes: &mut [usize; 67],
-) -> u8
+fn record_bad(start: u32, end: u32, place: u32, errors: &mut [u32], notes: &mut [usize; 67]) -> u8
     requires { ⌜ (getD (now notes) 4 0 ≤ getD (now notes) 5 0) × (getD (now notes) 5 0 ≤ length (now errors)) × Coded (now notes) ⌝ }
     ensures { λ r. ⌜ ((s : Whole) → s .full ≡ 0 → Noted (start ∷ end ∷ 9 ∷ 0 ∷ place ∷ []) (beside (now (notes .entry)) s) (withFull r (beside (now (notes .exit)) s)) (now (errors .entry)) (now (errors .exit))) ⌝ }
 {
