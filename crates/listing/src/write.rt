@@ -7,7 +7,8 @@ ghost use mathlib.Core.List.{[], _∷_, map};
 ghost use lib.ListN.{length, getD};
 ghost use Rattle.kinds.specs.Spelling.{kindText, nameText, Spelled};
 ghost use Rattle.listing.specs.Numbers.{decimal};
-ghost use Rattle.listing.specs.Listing.{led, joined, lineWith, headLine, refusalLine, unreadLine, resultLine, nodeLine, namesOf, placeOf, errorLine, eventLine};
+ghost use Rattle.listing.specs.Listing.{led, joined, lineWith, headLine, refusalLine, unreadLine, resultLine, nodeLine};
+ghost use Rattle.listing.specs.Listing.{namesOf, placeOf, errorLine, eventLine};
 ghost use Rattle.listing.specs.Written.{Put, Stands};
 
 fn put_byte(b: u8, room: &mut [u8], at: usize) -> usize
