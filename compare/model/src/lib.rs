@@ -11,7 +11,7 @@ mod reader;
 pub mod utf8;
 
 use common::kinds::IDS;
-use common::{scratch_words, Merged, Question, Reply, Side, LENT, LENT_WORD};
+use common::{scratch_words, Merged, Question, Record, Reply, Side, LENT, LENT_WORD};
 
 pub struct Model;
 
@@ -41,7 +41,7 @@ impl Side for Model {
             reply.answer = [reader.outcome(), reader.at as u32, counts.0, counts.1, reader.fuel];
             let events = reader.events.concat();
             reply.events[..events.len()].copy_from_slice(&events);
-            let errors: Vec<u32> = reader.records.iter().flat_map(numbers).collect();
+            let errors: Vec<u32> = reader.records.iter().flat_map(Record::numbers).collect();
             reply.errors[..errors.len()].copy_from_slice(&errors);
         }
         reply
@@ -50,11 +50,6 @@ impl Side for Model {
     fn merge(&self, events: &[u32], room: usize) -> Merged {
         merger::merge(events, room)
     }
-}
-
-fn numbers(record: &common::Record) -> Vec<u32> {
-    let head = [record.start, record.end, record.form, record.names.len() as u32];
-    [&head[..], &record.names].concat()
 }
 
 /// Refusals 1 to 6, in the desk's order, 5 not among them since request (ii); 7 and 8 are found by reading.
