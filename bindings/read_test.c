@@ -1,4 +1,4 @@
-/* P2, P4 and P6 of the exact rules and two refusals, through the C face. */
+/* P2, P4 and P6 of the exact rules, two refusals, and a record of form 9, through the C face. */
 #include <stdio.h>
 #include <string.h>
 
@@ -37,6 +37,15 @@ static int answered(uint32_t outcome, uint32_t rows, uint32_t count, uint32_t re
     return answer[0] == outcome && answer[1] == rows && answer[2] == count && answer[3] == records && answer[4] == left;
 }
 
+/* ED A0 80 where a rule's name is expected: one record of form 9, the place of A0 behind its count; with so many numbers of room. */
+static uint32_t read_bad(size_t error_room) {
+    static const uint8_t source[] = {'r', 'u', 'l', 'e', ' ', 0xED, 0xA0, 0x80};
+    static const uint32_t ids[] = {37, 0, 3}, starts[] = {0, 4, 5}, ends[] = {4, 5, 8};
+    for (size_t i = 0; i < ERROR_ROOM; i++) errors[i] = LENT;
+    return stableglow_read(source, sizeof source, ids, 3, starts, 3, ends, 3, 9, scratch, 1, events, EVENT_ROOM, errors, error_room,
+                           answer);
+}
+
 int main(void) {
     expect("P2", read_rows(8, 5, EVENT_ROOM) == 0 && answered(0, 8, 18, 0, 0) && scratch[0] == 0 && errors[0] == 0);
     expect("P2 with room exact", read_rows(8, 5, 72) == 0 && answered(0, 8, 18, 0, 0) && events[72] == LENT);
@@ -45,6 +54,9 @@ int main(void) {
     const uint32_t end_of_file[] = {21, 21, 3, 2, 83, 67};
     expect("P6", read_rows(7, 5, EVENT_ROOM) == 0 && answered(0, 7, answer[2], 1, 0) && memcmp(errors, end_of_file, sizeof end_of_file) == 0);
     expect("no room at all", read_rows(8, 5, 0) == 7 && answered(0, 0, 0, 0, 0) && events[0] == LENT && errors[0] == 0 && scratch[0] == 0);
+    const uint32_t bad_byte[] = {5, 8, 9, 0, 6, LENT};
+    expect("form 9 with room exact", read_bad(5) == 0 && answered(0, 3, 10, 1, 6) && memcmp(errors, bad_byte, sizeof bad_byte) == 0);
+    expect("form 9 with one number less", read_bad(4) == 8 && answered(0, 0, 0, 0, 0) && errors[3] == 0 && errors[4] == LENT);
     puts(failed ? "0 passed, 1 failed" : "1 passed, 0 failed");
     return failed;
 }

@@ -21,7 +21,9 @@ uint32_t stableglow_cut(const uint8_t *source, size_t source_len, uint32_t *ids,
 /* Reads rows of tokens (ids, starts and ends, as long as each other) over their source into events and error records.
    Returns 0 and writes outcome (0 done, 1 out of fuel, 2 too deep), rows covered, count of events, count of error records
    and fuel left to answer[0..4], the events (four numbers each) and the error records from the first cell of their lists on,
-   and zeros past them and into scratch.
+   and zeros past them and into scratch. An error record is start, end, form, count of names, then the names; form 9 (text that is
+   not UTF-8) has the count 0 and then one number more, the place in the source of the first byte that cannot begin or continue a
+   character, or of the first byte of a character that is cut short.
    Or returns a refusal's number and five zeros in answer: 1 too long, 2 lists that differ in length, 3 an unknown id, 4 rows
    that do not tile the source, 6 too little scratch, (2 x (rows + 1) + 63) / 64 words are enough: each leaves the lists as
    they were lent (5 is not used). 7 and 8: the events or the records exceeded their room: the lists are all zero.

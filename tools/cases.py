@@ -59,7 +59,7 @@ def case(folder, stem):
         if f[0] == "X":
             names = [] if f[4] == "-" else f[4].split(",")
             events.append(f"4 ∷ {records} ∷ {f[2]} ∷ {f[3]}")
-            errors += [f[2], f[3], f[1], len(names)] + [name(n) for n in names]
+            errors += [f[2], f[3], f[1], len(names)] + [name(n) for n in names] + f[5:]
             records += 1
         else:
             events.append(f"{SORTS[f[0]]} ∷ {name(f[1])} ∷ {f[2]} ∷ {f[3]}")

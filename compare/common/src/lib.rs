@@ -139,13 +139,15 @@ pub struct Record {
     pub end: u32,
     pub form: u32,
     pub names: Vec<u32>,
+    /// Where in the source the bad byte is; form 9 alone has it.
+    pub place: Option<u32>,
 }
 
 impl Record {
-    /// The record as it stands in a list.
+    /// The record as it stands in its list.
     pub fn numbers(&self) -> Vec<u32> {
         let head = [self.start, self.end, self.form, self.names.len() as u32];
-        [&head[..], &self.names].concat()
+        [&head[..], &self.names, self.place.as_slice()].concat()
     }
 }
 
@@ -159,8 +161,15 @@ pub fn records_of(numbers: &[u32], count: usize) -> Vec<Record> {
     let mut records = Vec::new();
     for _ in 0..count {
         let (head, tail) = rest.split_at(4);
-        let (names, after) = tail.split_at(head[3] as usize);
-        records.push(Record { start: head[0], end: head[1], form: head[2], names: names.to_vec() });
+        let (names, behind) = tail.split_at(head[3] as usize);
+        let (place, after) = behind.split_at(usize::from(head[2] == 9));
+        records.push(Record {
+            start: head[0],
+            end: head[1],
+            form: head[2],
+            names: names.to_vec(),
+            place: place.first().copied(),
+        });
         rest = after;
     }
     records

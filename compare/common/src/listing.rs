@@ -28,5 +28,6 @@ fn error_line(out: &mut String, record: &Record, start: u32, end: u32) {
     assert_eq!((record.start, record.end), (start, end), "an error event has its record's span");
     let names: Vec<&str> = record.names.iter().map(|n| NAMES[*n as usize]).collect();
     let names = if names.is_empty() { "-".to_string() } else { names.join(",") };
-    writeln!(out, "X\t{}\t{start}\t{end}\t{names}", record.form).unwrap();
+    let place = record.place.map_or(String::new(), |place| format!("\t{place}"));
+    writeln!(out, "X\t{}\t{start}\t{end}\t{names}{place}", record.form).unwrap();
 }

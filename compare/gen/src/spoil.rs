@@ -32,7 +32,7 @@ pub fn mutate(mut ids: Vec<u32>, faults: usize, rng: &mut Rng) -> Vec<u32> {
 pub fn rooms(mut question: Question, rng: &mut Rng) -> Question {
     let reply = Model.read(&question);
     let records = common::records_of(&reply.errors, reply.answer[3] as usize);
-    let errors = records.iter().map(|r| 4 + r.names.len()).sum();
+    let errors = records.iter().map(|r| r.numbers().len()).sum();
     let events = least_event_room(&question, 4 * reply.answer[2] as usize);
     question.event_room = room(events, 4, rng);
     question.error_room = room(errors, 1, rng);

@@ -8,6 +8,9 @@ pub fn text(source: &[u8], numbers: &[u32]) -> Option<Vec<u8>> {
     let &[start, end, form, count, ref behind @ ..] = numbers else { return None };
     let found = source.get(start as usize..end as usize)?;
     let names = behind.get(..count as usize)?;
+    if form == 9 && behind.len() == names.len() {
+        return None;
+    }
     if (1..=3).contains(&form) == names.is_empty() {
         return None;
     }

@@ -104,7 +104,7 @@ impl<'a> Reader<'a> {
 
     fn junk(&mut self) {
         let (start, end) = self.span_of_row(self.at);
-        self.record(Record { start, end, form: 10, names: vec![] });
+        self.record(Record { start, end, form: 10, names: vec![], place: None });
         self.error_event();
         let begun = self.open_node(kind::ERROR);
         while self.next() < self.question.ids.len() && !self.begins_rule(self.next()) {
@@ -324,7 +324,8 @@ impl<'a> Reader<'a> {
         let pending = &self.records[self.settled..];
         if !pending.iter().any(|r| (r.start, r.end) == (start, end)) {
             let (form, names) = self.form(row, names);
-            self.record(Record { start, end, form, names });
+            let bad = utf8::bad_byte(&self.question.source[start as usize..end as usize]);
+            self.record(Record { start, end, form, names, place: bad.map(|bad| start + bad as u32) });
         }
     }
 
@@ -423,7 +424,7 @@ impl<'a> Reader<'a> {
     }
 
     fn record(&mut self, record: Record) {
-        self.error_numbers += 4 + record.names.len();
+        self.error_numbers += record.numbers().len();
         self.records.push(record);
         if self.full == 0 && self.error_numbers > self.question.error_room {
             self.full = 8;

@@ -1,4 +1,5 @@
-//! The UTF-8 test: the Unicode Standard's table of well-formed byte sequences (request (iii)).
+//! The UTF-8 test: the Unicode Standard's table of well-formed byte sequences (request (iii)), and where the
+//! bad byte is (request (vi)).
 
 use std::ops::RangeInclusive;
 
@@ -16,22 +17,30 @@ fn behind(first: u8) -> Option<(RangeInclusive<u8>, usize)> {
     })
 }
 
-pub fn is_text(mut bytes: &[u8]) -> bool {
-    while let Some((first, rest)) = bytes.split_first() {
-        if first.is_ascii() {
-            bytes = rest;
+/// The place of the first byte that can neither begin nor continue a character; of a character that the end
+/// cuts short, its first byte.
+pub fn bad_byte(bytes: &[u8]) -> Option<usize> {
+    let mut at = 0;
+    while at < bytes.len() {
+        if bytes[at].is_ascii() {
+            at += 1;
             continue;
         }
-        let (Some((range, more)), Some((next, rest))) = (behind(*first), rest.split_first()) else {
-            return false;
-        };
-        if !range.contains(next)
-            || rest.len() < more
-            || !rest[..more].iter().all(|b| matches!(b, 0x80..=0xBF))
-        {
-            return false;
+        let Some((range, more)) = behind(bytes[at]) else { return Some(at) };
+        let ranges = std::iter::once(range).chain(std::iter::repeat_n(0x80..=0xBF, more));
+        let begun = at;
+        at += 1;
+        for range in ranges {
+            match bytes.get(at) {
+                None => return Some(begun),
+                Some(byte) if !range.contains(byte) => return Some(at),
+                Some(_) => at += 1,
+            }
         }
-        bytes = &rest[more..];
     }
-    true
+    None
+}
+
+pub fn is_text(bytes: &[u8]) -> bool {
+    bad_byte(bytes).is_none()
 }

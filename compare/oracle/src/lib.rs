@@ -96,12 +96,24 @@ pub fn merge(events: &[Event]) -> Vec<Event> {
     numbers(ErrorMerger::new(given), |index, _| index.parse().unwrap())
 }
 
+/// The Rust does not tell where the bad byte is. This is what the test that it calls says of it: a character
+/// begins at `valid_up_to`, and the byte behind the `error_len` bytes that are one so far is bad; without a
+/// length it is cut short. A byte that begins none is bad itself.
+pub fn bad_byte(text: &[u8]) -> Option<usize> {
+    let error = std::str::from_utf8(text).err()?;
+    let at = error.valid_up_to();
+    let begins = matches!(text[at], 0xC2..=0xF4);
+    Some(at + error.error_len().filter(|_| begins).unwrap_or(0))
+}
+
 /// Events as numbers, and a record for each message, in the order of their events.
 fn with_records(events: impl Iterator<Item = cst::Event>, source: &[u8]) -> (Vec<Event>, Vec<Record>) {
     let mut records = Vec::new();
     let events = numbers(events, |message, span| {
         let (form, names) = message::apart(message, &source[span.range()]);
-        records.push(Record { start: span.0.start, end: span.0.end, form, names });
+        let place = if form == 9 { bad_byte(&source[span.range()]) } else { None };
+        let place = place.map(|bad| span.0.start + bad as u32);
+        records.push(Record { start: span.0.start, end: span.0.end, form, names, place });
         records.len() as u32 - 1
     });
     (events, records)

@@ -9,7 +9,6 @@ use model::utf8;
 use std::error::Error;
 use std::fs;
 use std::path::{Path, PathBuf};
-use std::str::from_utf8;
 
 type Checked = Result<(), Box<dyn Error>>;
 
@@ -210,8 +209,8 @@ pub fn texts() -> Result<usize, String> {
     let mut count = 0;
     let mut judged = |text: &[u8]| {
         count += 1;
-        let same = utf8::is_text(text) == from_utf8(text).is_ok();
-        same.then_some(()).ok_or_else(|| format!("only one side takes {text:02X?} for UTF-8"))
+        let (ours, rust) = (utf8::bad_byte(text), oracle::bad_byte(text));
+        (ours == rust).then_some(()).ok_or_else(|| format!("the bad byte of {text:02X?}: {ours:?}, {rust:?}"))
     };
     for length in 1..=3 {
         for number in 0..1_u32 << (8 * length) {
@@ -231,6 +230,7 @@ fn small_file(file: &Small, reading: &Reading) -> Checked {
         end: *end,
         form: *form,
         names: names.to_vec(),
+        place: None,
     };
     expect("answer", (reading.outcome, reading.rows, reading.fuel) == (file.outcome, file.rows, file.left))?;
     expect("events", file.events.is_none_or(|n| n == reading.raw.len()))?;

@@ -5,14 +5,13 @@ use common::listing::listing;
 use common::{events_of, reading_of, strip_empty_errors, Question, Reading, Reply, Side};
 use model::{utf8, Model};
 use std::panic::{catch_unwind, AssertUnwindSafe};
-use std::str::from_utf8;
 
 /// What is worth counting about a case on which all sides agree.
 pub struct Seen {
     pub refusal: u32,
     pub outcome: u32,
     pub forms: Vec<u32>,
-    /// Whether a row has a text that only one side takes for UTF-8.
+    /// Whether a row has a text that only one side takes for UTF-8, or another bad byte.
     pub outside_utf8: bool,
     pub accepted: bool,
     pub has_empty_errors: bool,
@@ -65,7 +64,7 @@ fn same_as_rust(question: &Question, ours: &Reading, library: Option<&dyn Side>)
 /// Document 01's domain leaves out rows that the Rust and module 2 judge differently. With the Standard's
 /// table there are none: every case is put to the Rust, and a run that finds such a row fails.
 fn same_utf8(question: &Question) -> bool {
-    let same = |text: &[u8]| utf8::is_text(text) == from_utf8(text).is_ok();
+    let same = |text: &[u8]| utf8::bad_byte(text) == oracle::bad_byte(text);
     question.rows().unwrap().iter().all(|(_, text)| same(text))
 }
 

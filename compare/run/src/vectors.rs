@@ -5,7 +5,7 @@ use crate::judge::{judge, Seen};
 use crate::tally::{report, Tally};
 use crate::{differing, hash, library, round};
 use common::kinds::id;
-use common::{Question, Reading};
+use common::{Question, Reading, Record};
 use generate::{case, Sort, SORTS};
 use std::collections::HashSet;
 use std::path::Path;
@@ -115,7 +115,7 @@ fn is_within(seen: &Seen) -> bool {
 /// Fuel, counts of bytes and rows; outcome, rows covered, fuel left, counts of events and records; then the
 /// source, ids, the bounds of the rows from 0 on, events and records.
 fn line(question: &Question, rust: &Reading) -> String {
-    let records: Vec<u32> = rust.records.iter().flat_map(numbers_of).collect();
+    let records: Vec<u32> = rust.records.iter().flat_map(Record::numbers).collect();
     let count = |n: usize| n as u32;
     let head = [
         question.fuel,
@@ -131,9 +131,4 @@ fn line(question: &Question, rust: &Reading) -> String {
     let parts = [&head[..], &source, &question.ids, &[0], &question.ends, &rust.raw.concat(), &records];
     let words: Vec<String> = parts.concat().iter().map(u32::to_string).collect();
     words.join(" ")
-}
-
-fn numbers_of(record: &common::Record) -> Vec<u32> {
-    let head = [record.start, record.end, record.form, record.names.len() as u32];
-    [&head[..], &record.names].concat()
 }

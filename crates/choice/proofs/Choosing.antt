@@ -6,15 +6,18 @@ use mathlib.Core.List.{List, [], _∷_, _++_, append-assoc, append-nil}
 use mathlib.Core.Bool.{Bool, true, false}
 use native.Mathlib.Nat.{le-refl, le-trans}
 use native.Mathlib.Omega.{arith}
+use native.Mathlib.Numerals.{towards-suc}
 use borrow.Author.Tests.{lt-ltb, le-ltb, ltb-true, ltb-false, lt-leb, leb-true, leb-false, ne-eqb, eqb-false}
 use lib.Dec.{T, ltb, leb, eqb}
-use lib.ListN.{length, getD, take, drop, set, length-append}
-use lib.Seq.{paste, take-paste, length-paste, length-take-le, take-add, drop-at}
+use lib.ListN.{length, getD, take, drop, set, length-set, length-append}
+use lib.Seq.{paste, take-paste, length-paste, length-take-le, take-add, take-at, drop-at, sets-eq}
 use Rattle.kinds.specs.Kinds as k
+use Rattle.utf8.specs.Utf8.{bad-byte}
 use Rattle.shapes.specs.Shapes.{EVENT, event, HEAD, Rec, flat-records}
 use Rattle.definition.specs.Run as P
 use Rattle.definition.specs.Run.{Event, Choice, Limits, wanted, unwanted}
 use Rattle.definition.specs.Render.{Source, starts-at, ends-at, id-at, text-at, record-of, records, form-of, names-of, said, held, used}
+use Rattle.definition.proofs.Text.{form-9-record, other-records}
 use Rattle.notes.specs.Whole.{Whole, beside, resting}
 use Rattle.notes.specs.Bits.{ifb}
 use Rattle.notes.specs.Change.{withEr, withFull, withWants}
@@ -29,6 +32,29 @@ use Rattle.choice.proofs.Records.{starts, ends, starts-is, ends-is, id-
 use Rattle.choice.proofs.Scanning.{scan-recorded}
 
 -- A RECORD
+module _ (q : List ℕ) (s : Whole) (er : List ℕ) where
+  pub noted-full : s .er ≤ s .ercap → s .ercap < s .er + length q → Noted q s (withFull 8 s) er er
+  noted-full h l =
+      record {
+        is = refl;
+        filled = ap (λ (b : Bool). ifb b 8 0) (sym (lt-ltb (s .ercap) (s .er + length q) l));
+        wrote = λ y. absurd (omega arith);
+        fits = h;
+        grows = le-refl _;
+        long = refl;
+      }
+
+  noted-written : (n : ℕ) → n ≡ s .er + length q → n ≤ s .ercap → (er′ : List ℕ) → take n er′ ≡ take (s .er) er ++ q → length er′ ≡ length er → Noted q s (withFull 0 (withEr n s)) er er′
+  noted-written n e f er′ w g =
+      record {
+        is = refl;
+        filled = ap (λ (b : Bool). ifb b 8 0) (sym (le-ltb (s .ercap) (s .er + length q) (omega (arith, e))));
+        wrote = λ y. w;
+        fits = f;
+        grows = omega (arith, e);
+        long = g;
+      }
+
 module _ (s : Whole) (start end form count : ℕ) (names er : List ℕ) (c : count ≤ length names) where
   abbrev numbers : List ℕ
   numbers = start ∷ end ∷ form ∷ count ∷ take count names
@@ -37,36 +63,38 @@ module _ (s : Whole) (start end form count : ℕ) (names er : List ℕ) (c : cou
   size = omega (arith, length-take-le count names c)
 
   pub record-full : s .er ≤ s .ercap → s .ercap - s .er < count + HEAD → Noted numbers s (withFull 8 s) er er
-  record-full h l =
-      record {
-        is = refl;
-        filled = ap (λ (b : Bool). ifb b 8 0) (sym (lt-ltb (s .ercap) (s .er + length numbers) (omega (arith, size))));
-        wrote = λ y. absurd (omega arith);
-        fits = h;
-        grows = le-refl _;
-        long = refl;
-      }
+  record-full h l = noted-full numbers s er h (omega (arith, size))
 
   record-written : s .er ≤ s .ercap → count + HEAD ≤ s .ercap - s .er → s .ercap ≤ length er → (er′ : List ℕ) → er′ ≡ paste (stored er (s .er) start end form count) (s .er + HEAD) names count → Noted numbers s (withFull 0 (withEr (s .er + HEAD + count) s)) er er′
   record-written h f l er′ e =
       let q = length-event er (s .er) start end form count in
-      record {
-        is = refl;
-        filled = ap (λ (b : Bool). ifb b 8 0) (sym (le-ltb (s .ercap) (s .er + length numbers) (omega (arith, size))));
-        wrote = λ y.
-            ap (take (s .er + HEAD + count)) e
-            ∙ take-paste (stored er (s .er) start end form count) (s .er + HEAD) names count (omega (arith, q)) c
-            ∙ ap (λ (t : List ℕ). t ++ take count names) (take-event er (s .er) start end form count (omega arith))
-            ∙ append-assoc (take (s .er) er) (event start end form count) (take count names);
-        fits = omega arith;
-        grows = omega arith;
-        long = ap length e ∙ length-paste (stored er (s .er) start end form count) (s .er + HEAD) names count (omega (arith, q)) c ∙ q;
-      }
+      noted-written numbers s er (s .er + HEAD + count) (omega (arith, size)) (omega arith) er′
+      (ap (take (s .er + HEAD + count)) e
+      ∙ take-paste (stored er (s .er) start end form count) (s .er + HEAD) names count (omega (arith, q)) c
+      ∙ ap (λ (t : List ℕ). t ++ take count names) (take-event er (s .er) start end form count (omega arith))
+      ∙ append-assoc (take (s .er) er) (event start end form count) (take count names))
+      (ap length e ∙ length-paste (stored er (s .er) start end form count) (s .er + HEAD) names count (omega (arith, q)) c ∙ q)
+
+-- with a place behind the count
+abbrev pub placed : List ℕ → ℕ → ℕ → ℕ → ℕ → List ℕ
+placed er i start end place = set (stored er i start end 9 0) (i + HEAD) place
+
+placed-written : (s : Whole) (start end place : ℕ) (er : List ℕ) → s .er ≤ s .ercap → HEAD + 1 ≤ s .ercap - s .er → s .ercap ≤ length er → Noted (start ∷ end ∷ 9 ∷ 0 ∷ place ∷ []) s (withFull 0 (withEr (s .er + HEAD + 1) s)) er (placed er (s .er) start end place)
+placed-written s start end place er h f l =
+    let q = start ∷ end ∷ 9 ∷ 0 ∷ place ∷ [] in
+    let e : placed er (s .er) start end place ≡ take (s .er) er ++ q ++ drop (s .er + 5) er = simp towards-suc (sets-eq q er (s .er) (omega arith) ∙ simp towards-suc) in
+    noted-written q s er (s .er + HEAD + 1) (omega arith) (omega arith) (placed er (s .er) start end place)
+    (ap (take (s .er + HEAD + 1)) e ∙ take-at (take (s .er) er ++ q) (drop (s .er + 5) er) (s .er + HEAD + 1) (length-append (take (s .er) er) q ∙ omega (arith, length-take-le (s .er) er (omega arith))))
+    (simp length-set)
 
 -- the same where the number of the records' numbers is noted
 pub record-noted : (l : List ℕ) (s : Whole) → Coded l → (start end form count : ℕ) (names er : List ℕ) → count ≤ length names → getD l 4 0 ≤ getD l 5 0 → count + HEAD ≤ getD l 5 0 - getD l 4 0 → getD l 5 0 ≤ length er → (er′ : List ℕ) → er′ ≡ paste (stored er (getD l 4 0) start end form count) (getD l 4 0 + HEAD) names count → Noted (start ∷ end ∷ form ∷ count ∷ take count names) (beside l s) (withFull 0 (beside (set l 4 (getD l 4 0 + HEAD + count)) s)) er er′
 record-noted l s w start end form count names er c h f g er′ e =
     subst (λ (v : Whole). Noted (start ∷ end ∷ form ∷ count ∷ take count names) (beside l s) (withFull 0 v) er er′) (sym (new-er l s (long l (w .long)) (getD l 4 0 + HEAD + count))) (record-written (beside l s) start end form count names er c h f g er′ e)
+
+pub placed-noted : (l : List ℕ) (s : Whole) → Coded l → (start end place : ℕ) (er : List ℕ) → getD l 4 0 ≤ getD l 5 0 → HEAD + 1 ≤ getD l 5 0 - getD l 4 0 → getD l 5 0 ≤ length er → Noted (start ∷ end ∷ 9 ∷ 0 ∷ place ∷ []) (beside l s) (withFull 0 (beside (set l 4 (getD l 4 0 + HEAD + 1)) s)) er (placed er (getD l 4 0) start end place)
+placed-noted l s w start end place er h f g =
+    subst (λ (v : Whole). Noted (start ∷ end ∷ 9 ∷ 0 ∷ place ∷ []) (beside l s) (withFull 0 v) er (placed er (getD l 4 0) start end place)) (sym (new-er l s (long l (w .long)) (getD l 4 0 + HEAD + 1))) (placed-written (beside l s) start end place er h f g)
 
 -- PENDING ERRORS
 neither : (b c : Bool) → (elim b [ true ↦ true | false ↦ c ]) ≡ false → (b ≡ false) × (c ≡ false)
@@ -105,8 +133,8 @@ module _ {x : Source} {p : Past} {first er ercap item quote : ℕ} {errors : Lis
       ∙ drop-at (flat-records (p .records)) (flat-records (recorded (p .limits) x es)) item (sym (k .since))
 
 -- AN ERROR AT A ROW
-flat-one : (q : Rec) {a b f c : ℕ} {ms : List ℕ} → a ≡ q .0 → b ≡ q .1 → f ≡ q .2 → ms ≡ q .3 → c ≡ length ms → a ∷ b ∷ f ∷ c ∷ ms ≡ flat-records (q ∷ [])
-flat-one q h i j k l = cc (append-nil (q .3))
+same-numbers : {a b f c a′ b′ f′ : ℕ} {ms ns : List ℕ} → a ≡ a′ → b ≡ b′ → f ≡ f′ → ms ≡ ns → c ≡ length ms → a ∷ b ∷ f ∷ c ∷ ms ≡ a′ ∷ b′ ∷ f′ ∷ length ns ∷ ns ++ []
+same-numbers {ns = ns} h i j k l = cc (append-nil ns)
 
 form-any : (L : Limits) (i : ℕ) (t : List ℕ) (e : Bool) (ns : List ℕ) → form-of L i t (choiceOf e []) ≡ form-of L i t (choiceOf e ns)
 form-any L i t true ns = refl
@@ -149,17 +177,27 @@ module _ {x : Source} (w : Rows x) (at : ℕ) (h : at ≤ length (x .ids)) (s : 
         long = refl;
       }
 
-  -- none is, and a record is written
-  module _ (y : Bool) (ns : List ℕ) {i form count : ℕ} {ms : List ℕ} (o : i ≡ getD (x .ids) at k.UNKNOWN) (f : (L : Limits) → L .quote ≡ s .quote → form ≡ form-of L i (take (end - start) (drop start (x .bytes))) (choiceOf y [])) (v : ms ≡ names-of form (choiceOf y ns)) (u : count ≡ length ms) where
-    abbrev numbers-at : List ℕ
-    numbers-at = start ∷ end ∷ form ∷ count ∷ ms
+  -- what the record of the row is, by its form, where texts are quoted as the notes say
+  module _ (y : Bool) (ns : List ℕ) {i form : ℕ} (o : i ≡ getD (x .ids) at k.UNKNOWN) (f : (L : Limits) → L .quote ≡ s .quote → form ≡ form-of L i (take (end - start) (drop start (x .bytes))) (choiceOf y [])) where
+    text-is : take (end - start) (drop start (x .bytes)) ≡ text-at x (row x at)
+    text-is = ap₂ (λ (j k : ℕ). take (k - j) (drop j (x .bytes))) begins stops
 
     formed : (L : Limits) → L .quote ≡ s .quote → form ≡ form-of L (id-at x (row x at)) (text-at x (row x at)) (choiceOf y ns)
-    formed L q = f L q ∙ form-any L i _ y ns ∙ ap₂ (λ (j : ℕ) (t : List ℕ). form-of L j t (choiceOf y ns)) (o ∙ sym (id-is w at h)) (ap₂ (λ (j k : ℕ). take (k - j) (drop j (x .bytes))) begins stops)
+    formed L q = f L q ∙ form-any L i _ y ns ∙ ap₂ (λ (j : ℕ) (t : List ℕ). form-of L j t (choiceOf y ns)) (o ∙ sym (id-is w at h)) text-is
 
-    record-is : (L : Limits) → L .quote ≡ s .quote → numbers-at ≡ flat-records (record-of L x (row x at) (choiceOf y ns) ∷ [])
-    record-is L q = flat-one (record-of L x (row x at) (choiceOf y ns)) begins stops (formed L q) (v ∙ ap (λ (j : ℕ). names-of j (choiceOf y ns)) (formed L q)) u
+    pub record-named : {count : ℕ} {ms : List ℕ} → (form ≡ 9 → ⊥) → ms ≡ names-of form (choiceOf y ns) → count ≡ length ms → (L : Limits) → L .quote ≡ s .quote → start ∷ end ∷ form ∷ count ∷ ms ≡ flat-records (record-of L x (row x at) (choiceOf y ns) ∷ [])
+    record-named n v u L q =
+        same-numbers begins stops (formed L q) (v ∙ ap (λ (j : ℕ). names-of j (choiceOf y ns)) (formed L q)) u
+        ∙ sym (other-records L x (row x at) (choiceOf y ns) (λ e. n (formed L q ∙ e)) [])
 
+    pub record-placed : {place : ℕ} → form ≡ 9 → place ≡ start + bad-byte (take (end - start) (drop start (x .bytes))) → (L : Limits) → L .quote ≡ s .quote → start ∷ end ∷ 9 ∷ 0 ∷ place ∷ [] ≡ flat-records (record-of L x (row x at) (choiceOf y ns) ∷ [])
+    record-placed {place} e v L q =
+        ap₂ (λ (j k : ℕ). j ∷ k ∷ 9 ∷ 0 ∷ place ∷ []) begins stops
+        ∙ ap (λ (j : ℕ). starts-at x (row x at) ∷ ends-at x (row x at) ∷ 9 ∷ 0 ∷ j ∷ []) (v ∙ ap₂ (λ (j : ℕ) (t : List ℕ). j + bad-byte t) begins text-is)
+        ∙ sym (form-9-record L x (row x at) (choiceOf y ns) (sym (formed L q) ∙ e) [])
+
+  -- none is, and a record is written
+  module _ (y : Bool) (ns : List ℕ) {numbers-at : List ℕ} (record-is : (L : Limits) → L .quote ≡ s .quote → numbers-at ≡ flat-records (record-of L x (row x at) (choiceOf y ns) ∷ [])) where
     records-are : {p : Past} {es : List (ℕ × Choice)} (k : Pends x p s er es) → false ≡ scan start end 0 (part s er) → take (s .er) er ++ numbers-at ≡ flat-records (p .records ++ recorded (p .limits) x (P.add (row x at) (choiceOf y ns) es))
     records-are {p} {es} k t =
         ap₂ (λ (i j : List ℕ). i ++ j) (k .is) (record-is (p .limits) (k .quoted))

@@ -5,7 +5,7 @@ use mathlib.Core.List.{List, [], _∷_, _++_}
 use mathlib.Core.Bool.{Bool, true, false, _&&_}
 use lib.Dec.{eqb, ltb}
 use lib.ListN.{length, take}
-use Rattle.shapes.specs.Shapes.{flat-records}
+use Rattle.shapes.specs.Shapes.{behind, flat-records}
 use Rattle.definition.specs.Run.{Choice, wanted, unwanted}
 use Rattle.definition.specs.Render.{Source}
 use Rattle.notes.specs.Whole.{Whole}
@@ -34,7 +34,7 @@ pub record Spells (l : List ℕ) (r : Names) : Type 0 where
 -- whether one of the records has the span, where k numbers are still to be passed over
 unfoldable pub scan : ℕ → ℕ → ℕ → List ℕ → Bool
 scan s e (suc k) (a ∷ l) = scan s e k l
-scan s e zero (a ∷ b ∷ form ∷ n ∷ l) = elim (eqb a s && eqb b e) [ true ↦ true | false ↦ scan s e n l ]
+scan s e zero (a ∷ b ∷ form ∷ n ∷ l) = elim (eqb a s && eqb b e) [ true ↦ true | false ↦ scan s e (behind form n) l ]
 scan s e zero (a ∷ b ∷ form ∷ []) = false
 scan s e zero (a ∷ b ∷ []) = false
 scan s e zero (a ∷ []) = false

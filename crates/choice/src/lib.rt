@@ -22,6 +22,7 @@ ghost use Prim.Native.Nat.{ℕ, _+_, _-_, _≤_, _<_};
 ghost use lib.ListN.{length, getD, take};
 ghost use lib.Seq.{paste};
 ghost use Rattle.kinds.specs.Kinds as k;
+ghost use Rattle.utf8.specs.Utf8.{bad-byte};
 ghost use Rattle.definition.specs.Run as P;
 ghost use Rattle.definition.specs.Run.{Limits};
 ghost use Rattle.definition.specs.Render.{form-found, form-unknown, form-of, names-of};
@@ -272,6 +273,38 @@ pub fn record(
     0
 }
 
+// Writes a record of form 9, with the place of the bad byte; where there is no room, says so by 8.
+fn record_bad(start: u32, end: u32, place: u32, errors: &mut [u32], notes: &mut [usize; 68]) -> u8
+    requires { ⌜
+        (erOf (now notes) ≤ ercapOf (now notes))
+        × (ercapOf (now notes) ≤ length (now errors))
+        × Coded (now notes) ⌝ }
+    ensures { λ r. ⌜
+        ((s : Whole) → s .full ≡ 0
+        → Noted (start ∷ end ∷ 9 ∷ 0 ∷ place ∷ []) (beside (now (notes .entry)) s) (withFull r (beside (now (notes .exit)) s))
+        (now (errors .entry)) (now (errors .exit))) ⌝ }
+{
+    let at = notes[ER];
+    if notes[ERCAP] - at < HEAD + 1 {
+        return full::ERRORS;
+    }
+    errors[at] = start;
+    errors[at + END] = end;
+    errors[at + FORM] = 9;
+    errors[at + shapes::record::COUNT] = 0;
+    errors[at + HEAD] = place;
+    notes[ER] = at + HEAD + 1;
+    0
+}
+
+// Where in the source the bad byte is of a text that starts at the given place.
+fn place_of(start: u32, text: &[u8]) -> u32
+    requires { ⌜ start + length (now text) < 4294967296 ⌝ }
+    ensures { λ r. ⌜ r ≡ start + bad-byte (now (text .entry)) ⌝ }
+{
+    start + utf8::bad_byte(text) as u32
+}
+
 // Chooses an error at the row, unless one is pending there.
 fn choose_at(
     at: usize,
@@ -306,6 +339,10 @@ fn choose_at(
     let row = id_at(at, ids);
     let quote = notes[QUOTE];
     let form = form_of(row, &src[a..e], expected, quote);
+    if form == 9 {
+        let place = place_of(start, &src[a..e]);
+        return record_bad(start, end, place, errors, notes);
+    }
     let l = spelled(notes);
     let count = named(expected, form, l.count);
     let names = l.names;

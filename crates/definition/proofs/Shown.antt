@@ -2,17 +2,18 @@
 -- records are before.
 use Prim.Native.Nat.{ℕ, zero, suc, _+_, _-_, _≤_}
 use mathlib.Core.Path.{_≡_, refl, ap, ap₂, sym, _∙_}
-use mathlib.Core.List.{List, [], _∷_, _++_}
+use mathlib.Core.List.{List, [], _∷_, _++_, map}
 use mathlib.Core.Bool.{Bool, true, false}
 use lib.Dec.{eqb}
 use lib.ListN.{length, getD, take, drop, length-append}
 use native.Mathlib.Nat.{suc-add, zero-add, add-zero, add-suc}
 use native.Mathlib.Omega.{arith}
 use Rattle.kinds.specs.Kinds as k
+use Rattle.utf8.specs.Utf8.{bad-byte}
 use Rattle.shapes.specs.Sort as Sort
 use Rattle.shapes.specs.Shapes.{Entry, Rec}
 use Rattle.definition.specs.Run.{State, Limits, Event, opened, leaf, closed, bad, Choice, items, start, read}
-use Rattle.definition.specs.Render.{Source, ends-at, starts-at, id-at, text-at, span-end, bads, render, form-of, names-of, record-of, records, inside}
+use Rattle.definition.specs.Render.{Source, ends-at, starts-at, id-at, text-at, span-end, bads, render, form-of, names-of, place-of, record-of, records, inside}
 use Rattle.definition.specs.Remaining.{shifts, shift-records}
 use Rattle.definition.specs.Open.{Nest}
 use Rattle.definition.proofs.Every.{never}
@@ -151,10 +152,20 @@ module _ (pre a e : List ℕ) (B : Before pre a e) (y : Source) where
           less : (n ≡ m → ⊥) → suc m ≤ N
           less z = omega (arith, z, l, q)
 
-  record-later : (L : Limits) (n : ℕ) (c : Choice) → n ≤ N → let r : Rec = record-of L y n c in record-of L x n c ≡ (P + r .0, P + r .1, r .2, r .3)
+  -- form 9's place is a place, and is shifted as one
+  place-later : (f a : ℕ) (t : List ℕ) → place-of f (P + a) t ≡ map (λ i. P + i) (place-of f a t)
+  place-later f a t = go (eqb f 9)
+    where
+      go : (b : Bool) → _≡_ {A = List ℕ} (elim b as (λ _. List ℕ) [ true ↦ (P + a + bad-byte t) ∷ [] | false ↦ [] ]) (map (λ i. P + i) (elim b as (λ _. List ℕ) [ true ↦ (a + bad-byte t) ∷ [] | false ↦ [] ]))
+      go true = ap (λ (i : ℕ). i ∷ []) (omega arith)
+      go false = refl
+
+  record-later : (L : Limits) (n : ℕ) (c : Choice) → n ≤ N → let r : Rec = record-of L y n c in record-of L x n c ≡ (P + r .0, P + r .1, r .2, r .3, map (λ i. P + i) (r .4))
   record-later L n c l =
-      ap₂ (λ (i : ℕ) (t : List ℕ). let f = form-of L i t c in let z : Rec = (starts-at x n, ends-at x n, f, names-of f c) in z) (id-later n l) (text-later n l)
-      ∙ ap₂ (λ (i j : ℕ). let f = form-of L (id-at y n) (text-at y n) c in let z : Rec = (i, j, f, names-of f c) in z) (starts-later n l) (ends-later n l)
+      let f = form-of L (id-at y n) (text-at y n) c in
+      ap₂ (λ (i : ℕ) (t : List ℕ). let g = form-of L i t c in let z : Rec = (starts-at x n, ends-at x n, g, names-of g c, place-of g (starts-at x n) t) in z) (id-later n l) (text-later n l)
+      ∙ ap₂ (λ (i j : ℕ). let z : Rec = (i, j, f, names-of f c, place-of f i (text-at y n)) in z) (starts-later n l) (ends-later n l)
+      ∙ ap (λ (q : List ℕ). let z : Rec = (P + starts-at y n, P + ends-at y n, f, names-of f c, q) in z) (place-later f (starts-at y n) (text-at y n))
 
   -- events of the rows left, behind the events q
   shown : (w q : List Event) (st : List (ℕ × ℕ)) (l : List Entry) → Ins N w → Nest (length st) w 0 → render x (ups P st) (w ++ q) (shifts P (bads q) l) ≡ render x [] q (shifts P (bads q) (render y st w l))

@@ -67,7 +67,7 @@ shifts p c (q ∷ l) = shift p c q ∷ shifts p c l
 
 abbrev pub shift-records : ℕ → List Rec → List Rec
 shift-records p [] = []
-shift-records p (q ∷ l) = (p + q .0, p + q .1, q .2, q .3) ∷ shift-records p l
+shift-records p (q ∷ l) = (p + q .0, p + q .1, q .2, q .3, map (λ i. p + i) (q .4)) ∷ shift-records p l
 
 -- a list "inside SOURCE_FILE", z the source's length
 abbrev pub in-file : ℕ → List Entry → List Entry
@@ -106,7 +106,7 @@ tokens x (i ∷ j) r = let n = suc (length (j ++ r)) in (Sort.TOKEN, kindOf i, s
 
 -- "one error, one ERROR node": the run j before the rows r, c records before it
 abbrev pub junk-error : Source → List ℕ → List ℕ → Rec
-junk-error x j r = let n = length (j ++ r) in (starts-at x n, ends-at x n, 10, [])
+junk-error x j r = let n = length (j ++ r) in (starts-at x n, ends-at x n, 10, [], [])
 
 abbrev pub junk-events : Source → ℕ → List ℕ → List ℕ → List Entry
 junk-events x c j r =

@@ -5,7 +5,7 @@ use mathlib.Core.Bool.{true, false}
 use lib.Dec.{eqb, ltb}
 use lib.ListN.{length, getD, take, drop}
 use Rattle.kinds.specs.Kinds as k
-use Rattle.utf8.specs.Utf8.{utf8}
+use Rattle.utf8.specs.Utf8.{utf8, bad-byte}
 use Rattle.shapes.specs.Sort as Sort
 use Rattle.shapes.specs.Refusal as Refusal
 use Rattle.shapes.specs.Outcome as Outcome
@@ -73,6 +73,10 @@ names-of f (wanted ns) = elim (ltb f 4) [ true ↦ ns | false ↦ [] ]
 names-of f unwanted = []
 names-of f stray = []
 
+-- request (vi): "Form 9 records carry that place in the source as one added number after their count of 0": of a text t that starts at a
+abbrev pub place-of : ℕ → ℕ → List ℕ → List ℕ
+place-of f a t = elim (eqb f 9) [ true ↦ (a + bad-byte t) ∷ [] | false ↦ [] ]
+
 -- EVENTS AND RECORDS
 
 -- the errors that stand written, the last first, and how many they are
@@ -97,7 +101,9 @@ render x st (closed a n m ∷ es) l = render x ((a, span-end x n m) ∷ st) es (
 render x st (bad n c ∷ es) l = render x st es ((Sort.ERROR, bads es, starts-at x n, ends-at x n) ∷ l)
 
 abbrev pub record-of : Limits → Source → ℕ → Choice → Rec
-record-of L x n c = let f = form-of L (id-at x n) (text-at x n) c in (starts-at x n, ends-at x n, f, names-of f c)
+record-of L x n c =
+    let f = form-of L (id-at x n) (text-at x n) c in
+    (starts-at x n, ends-at x n, f, names-of f c, place-of f (starts-at x n) (text-at x n))
 
 abbrev pub records : Limits → Source → List Event → List Rec → List Rec
 records L x es l = foldl (λ l e. record-of L x (e .0) (e .1) ∷ l) l (faults es)
@@ -135,7 +141,9 @@ rendered L x s =
 -- ROOMS: what a draft takes, the SOURCE_FILE begin event with it. "A record takes its room when it is chosen"
 
 abbrev pub size-of : Limits → Source → ℕ → Choice → ℕ
-size-of L x n c = HEAD + length (names-of (form-of L (id-at x n) (text-at x n) c) c)
+size-of L x n c =
+    let f = form-of L (id-at x n) (text-at x n) c in
+    HEAD + length (names-of f c) + length (place-of f (starts-at x n) (text-at x n))
 
 -- the records of errors, and of those that stand written
 abbrev pub held : Limits → Source → List (ℕ × Choice) → ℕ

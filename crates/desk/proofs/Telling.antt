@@ -16,6 +16,7 @@ use Rattle.definition.specs.Run as P
 use Rattle.definition.specs.Run.{Event, opened, leaf, closed, bad, Choice, Limits}
 use Rattle.definition.specs.Buffer.{buffer}
 use Rattle.definition.specs.Render.{Source, record-of, records, bads, said, used, starts-at, ends-at}
+use Rattle.definition.proofs.Text.{behind-is}
 use Rattle.definition.proofs.Buffer.{buffer-bad, buffer-length}
 use Rattle.notes.specs.Whole.{Whole}
 use Rattle.notes.specs.Bits.{ifb}
@@ -69,7 +70,9 @@ module _ (L : Limits) (x : Source) where
       errors-buffer es (bad (e .0) (e .1) ∷ o) (omega arith)
       ∙ ap (λ (k : List ℕ). k ++ l) (buffer-bad x (e .0) (e .1) o)
       ∙ append-assoc (buffer x o) q l
-      ∙ ap (λ (k : List ℕ). buffer x o ++ k) (sym (notes-one (bads o) (starts-at x (e .0)) (ends-at x (e .0)) (r .2) (r .3) (flat-records (recorded L x es)) (omega arith)))
+      ∙ ap (λ (k : List ℕ). buffer x o ++ k)
+      (sym (notes-one (bads o) (starts-at x (e .0)) (ends-at x (e .0)) (r .2) (length (r .3)) (r .3 ++ r .4) (flat-records (recorded L x es)) (behind-is L x (e .0) (e .1)) (omega arith))
+      ∙ ap (λ (t : List ℕ). notes (bads o) 0 (r .0 ∷ r .1 ∷ r .2 ∷ length (r .3) ∷ t)) (append-assoc (r .3) (r .4) (flat-records (recorded L x es))))
 
   errors-length : (es : List (ℕ × Choice)) (o : List Event) → length (P.errors es o) ≡ length es + length o
   errors-length [] o = omega arith

@@ -13,7 +13,7 @@ use lib.ListN.{length, getD, take, drop, length-append, length-drop}
 use lib.Seq.{take-take, getD-drop, drop-append-seam}
 use Rattle.shapes.specs.Sort as Sort
 use Rattle.shapes.proofs.Laws.{next-within, next-rest}
-use Rattle.shapes.specs.Shapes.{EVENT, event, HEAD, COUNT, next-record}
+use Rattle.shapes.specs.Shapes.{EVENT, event, HEAD, FORM, COUNT, behind, recordSize, next-record}
 use Rattle.notes.specs.Whole.{Whole}
 use Rattle.notes.specs.Bits.{ifb}
 use Rattle.notes.specs.Change.{withEv, withFull}
@@ -27,15 +27,15 @@ notes-pass i zero l = refl
 notes-pass i (suc k) [] = refl
 notes-pass i (suc k) (a ∷ l) = notes-pass i k l
 
-notes-head : (i : ℕ) (l : List ℕ) → i < most → HEAD ≤ length l → notes i 0 l ≡ event Sort.ERROR i (getD l 0 0) (getD l 1 0) ++ notes (suc i) 0 (drop (getD l 3 0 + HEAD) l)
+notes-head : (i : ℕ) (l : List ℕ) → i < most → HEAD ≤ length l → notes i 0 l ≡ event Sort.ERROR i (getD l 0 0) (getD l 1 0) ++ notes (suc i) 0 (drop (recordSize (getD l FORM 0) (getD l COUNT 0)) l)
 unfolding notes
 notes-head i [] g h = absurd (omega arith)
 notes-head i (a ∷ []) g h = absurd (omega arith)
 notes-head i (a ∷ b ∷ []) g h = absurd (omega arith)
 notes-head i (a ∷ b ∷ f ∷ []) g h = absurd (omega arith)
 notes-head i (a ∷ b ∷ f ∷ n ∷ l) g h =
-    ap (λ (c : Bool). elim c [ true ↦ event Sort.ERROR i a b ++ notes (suc i) n l | false ↦ [] ]) (lt-ltb i most g)
-    ∙ ap (λ (t : List ℕ). event Sort.ERROR i a b ++ t) (notes-pass (suc i) n l ∙ ap (λ (j : ℕ). notes (suc i) 0 (drop j (a ∷ b ∷ f ∷ n ∷ l))) (sym (add-four n)))
+    ap (λ (c : Bool). elim c [ true ↦ event Sort.ERROR i a b ++ notes (suc i) (behind f n) l | false ↦ [] ]) (lt-ltb i most g)
+    ∙ ap (λ (t : List ℕ). event Sort.ERROR i a b ++ t) (notes-pass (suc i) (behind f n) l ∙ ap (λ (j : ℕ). notes (suc i) 0 (drop j (a ∷ b ∷ f ∷ n ∷ l))) (sym (add-four (behind f n))))
 
 notes-few : (i : ℕ) (l : List ℕ) → length l < HEAD → notes i 0 l ≡ []
 unfolding notes
@@ -51,14 +51,13 @@ notes-most i [] h = refl
 notes-most i (a ∷ []) h = refl
 notes-most i (a ∷ b ∷ []) h = refl
 notes-most i (a ∷ b ∷ f ∷ []) h = refl
-notes-most i (a ∷ b ∷ f ∷ n ∷ l) h = ap (λ (c : Bool). elim c [ true ↦ event Sort.ERROR i a b ++ notes (suc i) n l | false ↦ [] ]) (le-ltb i most (omega (arith, h)))
+notes-most i (a ∷ b ∷ f ∷ n ∷ l) h = ap (λ (c : Bool). elim c [ true ↦ event Sort.ERROR i a b ++ notes (suc i) (behind f n) l | false ↦ [] ]) (le-ltb i most (omega (arith, h)))
 
 notes-at : (i : ℕ) (l : List ℕ) (at : ℕ) → i < most → at + HEAD ≤ length l → notes i 0 (drop at l) ≡ event Sort.ERROR i (getD l at 0) (getD l (at + 1) 0) ++ notes (suc i) 0 (drop (next-record l at) l)
 notes-at i l at g h =
-    let n : getD (drop at l) 3 0 + HEAD ≡ HEAD + getD (drop at l) COUNT 0 = omega arith in
     notes-head i (drop at l) g (omega (arith, length-drop at l))
-    ∙ ap₂ (λ (a b : ℕ). event Sort.ERROR i a b ++ notes (suc i) 0 (drop (getD (drop at l) 3 0 + HEAD) (drop at l))) (getD-drop at l 0 0 ∙ ap (λ (j : ℕ). getD l j 0) (add-zero at)) (getD-drop at l 1 0)
-    ∙ ap (λ (t : List ℕ). event Sort.ERROR i (getD l at 0) (getD l (at + 1) 0) ++ notes (suc i) 0 t) (ap (λ (j : ℕ). drop j (drop at l)) n ∙ sym (next-rest l at))
+    ∙ ap₂ (λ (a b : ℕ). event Sort.ERROR i a b ++ notes (suc i) 0 (drop (recordSize (getD (drop at l) FORM 0) (getD (drop at l) COUNT 0)) (drop at l))) (getD-drop at l 0 0 ∙ ap (λ (j : ℕ). getD l j 0) (add-zero at)) (getD-drop at l 1 0)
+    ∙ ap (λ (t : List ℕ). event Sort.ERROR i (getD l at 0) (getD l (at + 1) 0) ++ notes (suc i) 0 t) (sym (next-rest l at))
 
 -- WHAT IS WRITTEN
 pub puts-none : {s : Whole} {ev : List ℕ} → s .ev ≤ s .evcap → Puts [] s s ev ev
@@ -155,12 +154,13 @@ module _ {records : List ℕ} {before : ℕ} {s r : Whole} {ev ev′ : List ℕ}
   pub flush-most : index ≡ most → Flushed records before s (record { state = r; before = index }) ev ev′
   flush-most h = flush-all (notes-most index (drop at records) h)
 
--- records as they stand
-pub notes-one : (i a b f : ℕ) (ns l : List ℕ) → i < most → notes i 0 (a ∷ b ∷ f ∷ length ns ∷ ns ++ l) ≡ event Sort.ERROR i a b ++ notes (suc i) 0 l
+-- a record as it stands, t behind its count
+pub notes-one : (i a b f n : ℕ) (t l : List ℕ) → behind f n ≡ length t → i < most → notes i 0 (a ∷ b ∷ f ∷ n ∷ t ++ l) ≡ event Sort.ERROR i a b ++ notes (suc i) 0 l
 unfolding notes
-notes-one i a b f ns l h =
-    ap (λ (c : Bool). elim c [ true ↦ event Sort.ERROR i a b ++ notes (suc i) (length ns) (ns ++ l) | false ↦ [] ]) (lt-ltb i most h)
-    ∙ ap (λ (t : List ℕ). event Sort.ERROR i a b ++ t) (notes-pass (suc i) (length ns) (ns ++ l) ∙ ap (notes (suc i) 0) (drop-append-seam ns l))
+notes-one i a b f n t l k h =
+    ap (λ (c : Bool). elim c [ true ↦ event Sort.ERROR i a b ++ notes (suc i) (behind f n) (t ++ l) | false ↦ [] ]) (lt-ltb i most h)
+    ∙ ap (λ (q : List ℕ). event Sort.ERROR i a b ++ q)
+    (ap (λ (j : ℕ). notes (suc i) j (t ++ l)) k ∙ notes-pass (suc i) (length t) (t ++ l) ∙ ap (notes (suc i) 0) (drop-append-seam t l))
 
 pub notes-none : (i : ℕ) → notes i 0 [] ≡ []
 unfolding notes

@@ -7,7 +7,7 @@ use lib.Dec.{eqb, leb, ltb}
 use lib.ListN.{length, take, set, replicate}
 use Rattle.kinds.specs.Kinds as k
 use Rattle.shapes.specs.Sort as Sort
-use Rattle.shapes.specs.Shapes.{EVENT, event, Rec}
+use Rattle.shapes.specs.Shapes.{EVENT, event, Rec, behind}
 use Rattle.definition.specs.Run as P
 use Rattle.definition.specs.Run.{Limits}
 use Rattle.definition.specs.Render.{Source, records}
@@ -35,7 +35,7 @@ most = 4294967295
 -- the error events of records, the first with index i, where k numbers are still to be passed over
 unfoldable pub notes : ℕ → ℕ → List ℕ → List ℕ
 notes i (suc k) (a ∷ l) = notes i k l
-notes i zero (a ∷ b ∷ form ∷ n ∷ l) = elim (ltb i most) [ true ↦ event Sort.ERROR i a b ++ notes (suc i) n l | false ↦ [] ]
+notes i zero (a ∷ b ∷ form ∷ n ∷ l) = elim (ltb i most) [ true ↦ event Sort.ERROR i a b ++ notes (suc i) (behind form n) l | false ↦ [] ]
 notes i zero (a ∷ b ∷ form ∷ []) = []
 notes i zero (a ∷ b ∷ []) = []
 notes i zero (a ∷ []) = []

@@ -620,6 +620,43 @@ fn limited(name: &[u8], src: &[u8], end: u32, depth: usize, quote: usize) {
     tell(name, r, &scratch, &events, &errors, false);
 }
 
+// Bytes that are no text stand where a rule's name is expected.
+fn not_text(name: &[u8], src: &[u8], end: u32, room: usize) {
+    let ids = [37, 0, 3];
+    let starts = [0, 4, 5];
+    let ends = [4, 5, end];
+    in_rooms(name, src, &ids, &starts, &ends, 9, 1, 128, room, false);
+}
+
+// Two such in one rule.
+fn not_text_twice() {
+    let ids = [37, 0, 74, 66, 39, 58, 3, 12, 58, 3, 67];
+    let starts = [0, 4, 5, 6, 7, 14, 15, 17, 26, 27, 28];
+    let ends = [4, 5, 6, 7, 14, 15, 17, 26, 27, 28, 29];
+    case(
+        b"not text, twice",
+        b"rule a{strings:\xE1\x41condition:\xC0}",
+        &ids,
+        &starts,
+        &ends,
+        99,
+    );
+}
+
+// Form 9's record has the place of the bad byte behind its count.
+fn places() {
+    not_text(b"ED A0 80", b"rule \xED\xA0\x80", 8, 32);
+    not_text(b"ED A0 80, room 5", b"rule \xED\xA0\x80", 8, 5);
+    not_text(b"ED A0 80, room 4", b"rule \xED\xA0\x80", 8, 4);
+    not_text(b"F4 90 80 80", b"rule \xF4\x90\x80\x80", 9, 32);
+    not_text(b"E2 82", b"rule \xE2\x82", 7, 32);
+    not_text(b"E1 41", b"rule \xE1\x41", 7, 32);
+    not_text(b"C0", b"rule \xC0", 6, 32);
+    not_text(b"BF", b"rule \xBF", 6, 32);
+    not_text(b"E2 82 AC C3", b"rule \xE2\x82\xAC\xC3", 9, 32);
+    not_text_twice();
+}
+
 fn copy(from: &[u8], to: &mut [u8]) {
     let mut i = 0;
     while i < to.len() {
@@ -726,6 +763,7 @@ fn main() {
         16,
     );
     limited(b"no node may be open", b"rule 123456789012345", 20, 0, 16);
+    places();
     signs(b"1016 signs", 1016);
     signs(b"1017 signs", 1017);
 }

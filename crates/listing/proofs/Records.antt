@@ -2,10 +2,12 @@
 use Prim.Native.Nat.{ℕ, suc, _+_, _-_, _≤_, _<_, min}
 use mathlib.Core.Path.{_≡_, sym, ap, _∙_}
 use mathlib.Core.Logic.{⊎-elim}
-use mathlib.Core.List.{List, [], _∷_, _++_, map}
+use mathlib.Core.List.{List, [], _∷_, _++_, map, append-nil}
+use mathlib.Core.Bool.{Bool, cond}
 use native.Mathlib.Nat.{sub-zero, min-le-left, min-eq-left, min-eq-right, le-of-lt}
 use native.Mathlib.Omega.{arith}
-use borrow.Author.Tests.{ne-eqb}
+use borrow.Author.Tests.{eq-eqb, ne-eqb}
+use lib.Dec.{eqb}
 use lib.ListN.{length, getD, take, drop, length-drop, length-take, drop-of-length-le}
 use lib.Seq.{drop-length, take-all, take-length, take-take}
 use Rattle.kinds.specs.Spelling.{nameText}
@@ -14,9 +16,9 @@ use Rattle.shapes.proofs.Laws.{next-within, next-rest}
 use Rattle.shapes.specs.Shapes.{HEAD, FORM, COUNT, next-record}
 use Rattle.listing.proofs.Either.{either}
 use Rattle.listing.proofs.Rest.{rest, rest-is}
-use Rattle.listing.proofs.Written.{led-more}
+use Rattle.listing.proofs.Written.{led-append}
 use Rattle.listing.specs.Numbers.{decimal}
-use Rattle.listing.specs.Listing.{led, joined, namesOf, errorLine, recordsFrom, eventLine}
+use Rattle.listing.specs.Listing.{led, joined, namesOf, placeOf, errorLine, recordsFrom, eventLine}
 use Rattle.listing.specs.Written.{Stands}
 
 -- taking or dropping more than there is takes or drops all
@@ -85,12 +87,26 @@ module _ {l : List ℕ} {k at i : ℕ} (g : Passing l k at i) where
       let none : 0 ≡ k - i = omega arith in
       record { within = g .within; is = ap (λ (n : ℕ). recordsFrom n (drop at l)) none ∙ g .is }
 
+-- the place, in form 9 alone
+place-by : (l : List ℕ) {b : Bool} → eqb (getD l FORM 0) 9 ≡ b → led 9 (placeOf l) ≡ led 9 (cond b (decimal (getD l (HEAD + getD l COUNT 0) 0) ∷ []) [])
+unfolding placeOf
+place-by l e = ap (λ (b : Bool). led 9 (cond b (decimal (getD l (HEAD + getD l COUNT 0) 0) ∷ []) [])) e
+
+pub no-place : (l : List ℕ) {f : ℕ} → f ≡ getD l FORM 0 → (f ≡ 9 → ⊥) → [] ≡ led 9 (placeOf l)
+no-place l e h = sym (place-by l (ne-eqb (getD l FORM 0) 9 (λ q. h (e ∙ q))))
+
+pub a-place : (l : List ℕ) {f c n : ℕ} → f ≡ getD l FORM 0 → f ≡ 9 → c ≡ getD l COUNT 0 → n ≡ getD l (HEAD + c) 0 → 9 ∷ decimal n ≡ led 9 (placeOf l)
+a-place l {f} {c} {n} e h p q =
+    ap (λ (i : ℕ). 9 ∷ decimal i) (q ∙ ap (λ (i : ℕ). getD l (HEAD + i) 0) p)
+    ∙ ap (λ (t : List ℕ). 9 ∷ t) (sym (append-nil (decimal (getD l (HEAD + getD l COUNT 0) 0))))
+    ∙ sym (place-by l (eq-eqb (getD l FORM 0) 9 (sym e ∙ h)))
+
 -- the pieces of an error line are those of the record
 pub error-text : (l : List ℕ) {form start end : ℕ} {ns : List ℕ} → form ≡ getD l FORM 0 → start ≡ getD l 0 0 → end ≡ getD l 1 0 → ns ≡ namesOf l
-    → 88 ∷ ((led 9 (map decimal (form ∷ start ∷ end ∷ [])) ++ (9 ∷ joined (map nameText ns))) ++ (10 ∷ [])) ≡ errorLine l
+    → 88 ∷ ((led 9 (map decimal (form ∷ start ∷ end ∷ [])) ++ (9 ∷ (joined (map nameText ns) ++ led 9 (placeOf l)))) ++ (10 ∷ [])) ≡ errorLine l
 unfolding errorLine
 error-text l {form} {start} {end} {ns} f s e n =
-    ap (λ (t : List ℕ). 88 ∷ (t ++ (10 ∷ []))) (sym (led-more 9 (map decimal (form ∷ start ∷ end ∷ [])) (joined (map nameText ns))))
+    ap (λ (t : List ℕ). 88 ∷ (t ++ (10 ∷ []))) (sym (led-append 9 (map decimal (form ∷ start ∷ end ∷ [])) (joined (map nameText ns) ∷ placeOf l)))
     ∙ rw (f, s, e, n)
 
 -- the line of an event by its sort

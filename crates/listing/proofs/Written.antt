@@ -91,11 +91,12 @@ spelled {text} {before} {after} {r} p =
 
 -- LISTS OF TEXTS
 
-pub led-more : (m : ℕ) (ts : List (List ℕ)) (t : List ℕ) → led m (ts ++ (t ∷ [])) ≡ led m ts ++ (m ∷ t)
-led-more m [] t = ap (λ (l : List ℕ). m ∷ l) (append-nil t)
-led-more m (u ∷ ts) t =
-    ap (λ (l : List ℕ). m ∷ (u ++ l)) (led-more m ts t)
-    ∙ ap (λ (l : List ℕ). m ∷ l) (sym (append-assoc u (led m ts) (m ∷ t)))
+pub led-append : (m : ℕ) (ts us : List (List ℕ)) → led m (ts ++ us) ≡ led m ts ++ led m us
+led-append m [] us = refl
+led-append m (t ∷ ts) us = ap (λ (l : List ℕ). m ∷ (t ++ l)) (led-append m ts us) ∙ ap (λ (l : List ℕ). m ∷ l) (sym (append-assoc t (led m ts) (led m us)))
+
+led-more : (m : ℕ) (ts : List (List ℕ)) (t : List ℕ) → led m (ts ++ (t ∷ [])) ≡ led m ts ++ (m ∷ t)
+led-more m ts t = led-append m ts (t ∷ []) ∙ ap (λ (l : List ℕ). led m ts ++ (m ∷ l)) (append-nil t)
 
 -- the texts of the first elements, and of one more
 map-more : (f : ℕ → List ℕ) (l : List ℕ) (a : ℕ) → map f (l ++ (a ∷ [])) ≡ map f l ++ (f a ∷ [])

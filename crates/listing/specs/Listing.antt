@@ -6,7 +6,7 @@ use lib.Dec.{eqb}
 use lib.ListN.{getD, take, drop}
 use Rattle.kinds.specs.Spelling.{kindText, nameText}
 use Rattle.shapes.specs.Sort as Sort
-use Rattle.shapes.specs.Shapes.{HEAD, FORM, COUNT}
+use Rattle.shapes.specs.Shapes.{HEAD, FORM, COUNT, recordSize}
 use Rattle.listing.specs.Numbers.{decimal}
 
 -- texts, a mark in front of each
@@ -47,15 +47,19 @@ nodeLine letter kind start end = lineWith letter (kindText kind ∷ map decimal 
 unfoldable pub namesOf : List ℕ → List ℕ
 namesOf l = take 85 (take (getD l COUNT 0) (drop HEAD l))
 
+-- request (vi): "in listings, a field after the names", form 9's alone
+unfoldable pub placeOf : List ℕ → List (List ℕ)
+placeOf l = cond (eqb (getD l FORM 0) 9) (decimal (getD l (HEAD + getD l COUNT 0) 0) ∷ []) []
+
 -- "An error line is `X`, form, start, end, names joined by commas or `-`."
 unfoldable pub errorLine : List ℕ → List ℕ
 errorLine l =
-    lineWith 88 (map decimal (getD l FORM 0 ∷ getD l 0 0 ∷ getD l 1 0 ∷ []) ++ (joined (map nameText (namesOf l)) ∷ []))
+    lineWith 88 (map decimal (getD l FORM 0 ∷ getD l 0 0 ∷ getD l 1 0 ∷ []) ++ (joined (map nameText (namesOf l)) ∷ placeOf l))
 
 -- the records from the given one, from 0, on
 abbrev pub recordsFrom : ℕ → List ℕ → List ℕ
 recordsFrom zero l = l
-recordsFrom (suc k) l = recordsFrom k (drop (HEAD + getD l COUNT 0) l)
+recordsFrom (suc k) l = recordsFrom k (drop (recordSize (getD l FORM 0) (getD l COUNT 0)) l)
 
 -- "sort (1 begin, 2 token, 3 end, 4 error), kind or error record index (from 0), start, end"
 unfoldable pub eventLine : List ℕ → ℕ → ℕ → ℕ → ℕ → List ℕ

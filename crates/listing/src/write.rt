@@ -13,7 +13,8 @@ ghost use mathlib.Core.List.{[], _∷_, map};
 ghost use lib.ListN.{length, getD};
 ghost use Rattle.kinds.specs.Spelling.{kindText, nameText, Spelled};
 ghost use Rattle.listing.specs.Numbers.{decimal};
-ghost use Rattle.listing.specs.Listing.{led, joined, lineWith, headLine, refusalLine, unreadLine, resultLine, nodeLine, namesOf, errorLine, eventLine};
+ghost use Rattle.listing.specs.Listing.{led, joined, lineWith, headLine, refusalLine, unreadLine, resultLine, nodeLine};
+ghost use Rattle.listing.specs.Listing.{namesOf, placeOf, errorLine, eventLine};
 ghost use Rattle.listing.specs.Written.{Put, Stands};
 
 fn put_byte(b: u8, room: &mut [u8], at: usize) -> usize
@@ -192,6 +193,19 @@ fn names_of(list: &[u32]) -> &[u32]
     &list[from..to]
 }
 
+// The place of the bad byte as a field, where the error record that the list begins with has form 9.
+fn put_place(list: &[u32], room: &mut [u8], at: usize) -> usize
+    requires { ⌜ at + 21 ≤ length (now room) ⌝ }
+    ensures { λ r. ⌜ Put (led 9 (placeOf (now (list .entry)))) at (now (room .entry)) (now (room .exit)) r ⌝ }
+    ensures { λ r. ⌜ r ≤ at + 21 ⌝ }
+{
+    if number_at(list, FORM) != 9 {
+        return at;
+    }
+    let names = number_at(list, COUNT) as usize;
+    put_number(number_at(list, HEAD + names) as u64, room, at)
+}
+
 // The line of the error record that the list begins with.
 fn error_line(list: &[u32], room: &mut [u8]) -> usize
     requires { ⌜ 4096 ≤ length (now room) ⌝ }
@@ -204,7 +218,8 @@ fn error_line(list: &[u32], room: &mut [u8]) -> usize
     let numbers_end = put_numbers(&[form, start, end], room, letter_end);
     let tab_end = put_byte(b'\t', room, numbers_end);
     let names_end = put_names(names_of(list), room, tab_end);
-    put_byte(b'\n', room, names_end)
+    let place_end = put_place(list, room, names_end);
+    put_byte(b'\n', room, place_end)
 }
 
 // Where the error record with the given number, from 0, stands in the list.

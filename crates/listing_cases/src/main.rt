@@ -177,6 +177,11 @@ fn write_error(number: u32) {
         41,
         10,
         0,
+        4,
+        7,
+        9,
+        0,
+        5,
         21,
         21,
         3,
@@ -195,13 +200,14 @@ fn write_error(number: u32) {
     write_event(4, number, 0, 0, &errors);
 }
 
-// Records with names and without, with a name that is none, and a record that is not there.
+// Records with names and without, with a place, with a name that is none, and a record that is not there.
 fn write_errors() {
     write_error(0);
     write_error(1);
     write_error(2);
     write_error(3);
     write_error(4);
+    write_error(5);
 }
 
 fn main() {

@@ -1,6 +1,6 @@
 -- An error record as numbers, and which records read (refusal 11).
--- "An error record is start, end, form, count of names, then the names." Where its numbers stand is said here and in src/record.rt alone: with
--- request (vi) `places` is 1, with request (x) `head` is 5 and `count-at` 4, and nothing else here moves.
+-- "An error record is start, end, form, count of names, then the names."; in form 9 the place stands behind them (request (vi)). Where its numbers stand
+-- is said here and in src/record.rt alone: with request (x) `head` is 5 and `count-at` 4, and nothing else here moves.
 use Prim.Native.Nat.{ℕ, zero, suc, _+_, _-_}
 use mathlib.Core.List.{List, [], _∷_}
 use mathlib.Core.Bool.{Bool, true, false, cond, not, _&&_, _||_}
@@ -32,7 +32,7 @@ names r = take (count r) (drop head r)
 
 -- how many numbers stand behind the names of form 9, and of any form
 abbrev pub places : ℕ
-places = 0
+places = 1
 
 abbrev pub behind : ℕ → ℕ
 behind f = cond (eqb f 9) places 0

@@ -16,7 +16,7 @@ pub const COUNT: usize = 3;
 pub const HEAD: usize = 4;
 
 // How many numbers stand behind the names of a record of form 9.
-const PLACES: usize = 0;
+const PLACES: usize = 1;
 
 // The number at a place of the list, or 0 past its end.
 pub fn number_at(list: &[u32], at: usize) -> u32

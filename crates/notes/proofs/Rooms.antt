@@ -22,10 +22,14 @@ use Rattle.notes.specs.Did.{Wf}
 -- records as numbers
 pub flat-append : (a b : List Rec) → flat-records (a ++ b) ≡ flat-records a ++ flat-records b
 flat-append [] b = refl
-flat-append (e ∷ a) b = ap (λ (l : List ℕ). e .0 ∷ e .1 ∷ e .2 ∷ length (e .3) ∷ l) (ap (λ (l : List ℕ). e .3 ++ l) (flat-append a b) ∙ sym (append-assoc (e .3) (flat-records a) (flat-records b)))
+flat-append (e ∷ a) b =
+    ap (λ (l : List ℕ). e .0 ∷ e .1 ∷ e .2 ∷ length (e .3) ∷ l)
+    (ap (λ (l : List ℕ). e .3 ++ (e .4 ++ l)) (flat-append a b)
+    ∙ ap (λ (l : List ℕ). e .3 ++ l) (sym (append-assoc (e .4) (flat-records a) (flat-records b)))
+    ∙ sym (append-assoc (e .3) (e .4 ++ flat-records a) (flat-records b)))
 
-flat-length : (e : Rec) (l : List Rec) → length (flat-records (e ∷ l)) ≡ HEAD + length (e .3) + length (flat-records l)
-flat-length e l = omega (arith, length-append (e .3) (flat-records l))
+flat-length : (e : Rec) (l : List Rec) → length (flat-records (e ∷ l)) ≡ HEAD + length (e .3) + length (e .4) + length (flat-records l)
+flat-length e l = omega (arith, length-append (e .3) (e .4 ++ flat-records l), length-append (e .4) (flat-records l))
 
 pub said-is : (L : Limits) (x : Source) (o : List Event) (l : List Rec) → said L x o + length (flat-records l) ≡ length (flat-records (records L x o l))
 said-is L x [] l = omega arith

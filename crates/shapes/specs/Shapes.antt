@@ -1,6 +1,8 @@
 -- The shapes of what the reader writes: an event and an error record as numbers, in lists of numbers.
-use Prim.Native.Nat.{ℕ, _+_, min}
+use Prim.Native.Nat.{ℕ, suc, _+_, min}
 use mathlib.Core.List.{List, [], _∷_, _++_}
+use mathlib.Core.Bool.{true, false}
+use lib.Dec.{eqb}
 use lib.ListN.{length, getD}
 
 -- EVENTS
@@ -46,13 +48,22 @@ FORM = 2
 abbrev pub COUNT : ℕ
 COUNT = 3
 
+-- behind the names, in form 9 alone, the place (request (vi))
 abbrev pub Rec : Type 0
-Rec = ℕ × ℕ × ℕ × List ℕ
+Rec = ℕ × ℕ × ℕ × List ℕ × List ℕ
 
 abbrev pub flat-records : List Rec → List ℕ
 flat-records [] = []
-flat-records (e ∷ es) = e .0 ∷ e .1 ∷ e .2 ∷ length (e .3) ∷ e .3 ++ flat-records es
+flat-records (e ∷ es) = e .0 ∷ e .1 ∷ e .2 ∷ length (e .3) ∷ e .3 ++ (e .4 ++ flat-records es)
+
+-- how many numbers stand behind a record's count
+abbrev pub behind : ℕ → ℕ → ℕ
+behind form names = elim (eqb form 9) [ true ↦ suc names | false ↦ names ]
+
+-- and how many it has in all
+abbrev pub recordSize : ℕ → ℕ → ℕ
+recordSize form names = behind form names + HEAD
 
 -- where the record behind the one at a place begins; the list's end where none can
 abbrev pub next-record : List ℕ → ℕ → ℕ
-next-record l at = min (length l) (at + HEAD + getD l (at + COUNT) 0)
+next-record l at = min (length l) (at + recordSize (getD l (at + FORM) 0) (getD l (at + COUNT) 0))

@@ -1,6 +1,6 @@
-// An error record: "start, end, form, count of names, then the names".
+// An error record: "start, end, form, count of names, then the names"; behind them, in form 9 alone, the place.
 ghost use mathlib.Core.Path.{_≡_};
-ghost use Rattle.shapes.specs.Shapes.{next-record};
+ghost use Rattle.shapes.specs.Shapes.{recordSize, next-record};
 
 // How many numbers stand before the names.
 pub const HEAD: usize = 4;
@@ -14,6 +14,17 @@ pub const FORM: usize = 2;
 
 pub const COUNT: usize = 3;
 
+// How many numbers a record of the form has.
+fn record_size(form: u32, names: u32) -> usize
+    ensures { λ r. ⌜ r ≡ recordSize form names ⌝ }
+{
+    let size = names as usize + HEAD;
+    if form == 9 {
+        return size + 1;
+    }
+    size
+}
+
 // Where the record behind the one at a place begins; the list's end where none can.
 pub fn next_record(records: &[u32], at: usize) -> usize
     ensures { λ r. ⌜ r ≡ next-record (now (records .entry)) at ⌝ }
@@ -25,7 +36,7 @@ pub fn next_record(records: &[u32], at: usize) -> usize
     if end - HEAD < at {
         return end;
     }
-    let next = at + HEAD + records[at + COUNT] as usize;
+    let next = at + record_size(records[at + FORM], records[at + COUNT]);
     if end < next {
         return end;
     }

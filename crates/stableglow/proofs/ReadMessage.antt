@@ -5,14 +5,14 @@ use mathlib.Core.List.{List, [], _∷_, _++_, append-assoc}
 use mathlib.Core.Bool.{Bool, true, false, cond, not, _&&_}
 use native.Mathlib.Omega.{arith}
 use lib.Dec.{eqb, ltb, leb}
-use lib.ListN.{length, getD, drop, List·getD-eq-default}
+use lib.ListN.{length, length-append, getD, drop, List·getD-eq-default}
 use lib.Seq.{drop-at}
 use borrow.Author.Tests.{ltb-true, ltb-false, le-leb, lt-ltb, ne-eqb}
 use Rattle.shapes.specs.Shapes.{Rec, flat-records}
 use Rattle.kinds.specs.Kinds as kinds
-use Rattle.utf8.specs.Utf8.{utf8}
+use Rattle.utf8.specs.Utf8.{utf8, bad-byte}
 use Rattle.definition.specs.Run.{State, Limits, Event, opened, leaf, closed, bad, Choice, wanted, unwanted, stray, read}
-use Rattle.definition.specs.Render.{Source, starts-at, ends-at, id-at, text-at, form-found, form-slash, form-unknown, form-wanted, form-unwanted, form-of, names-of, record-of, records, Reading}
+use Rattle.definition.specs.Render.{Source, starts-at, ends-at, id-at, text-at, form-found, form-slash, form-unknown, form-wanted, form-unwanted, form-of, names-of, place-of, record-of, records, Reading}
 use Rattle.definition.specs.Answer.{Desk, After, Answer, given, source-of, left-by}
 use Rattle.definition.proofs.Cut.{Rows, rows-of}
 use Rattle.theorems.proofs.Answered.{given-is}
@@ -113,6 +113,15 @@ record Tells (bytes : List ℕ) (r : Rec) : Type 0 where
   pub shown : Shown (r .2) (part bytes (r .0) (r .1))
   pub count : counts (r .2) (length (r .3)) ≡ true
   pub names : named [] (r .3) ≡ true
+  pub placed : length (r .4) ≡ behind (r .2)
+
+-- form 9 has one number behind its count, the others none
+place-length : (f a : ℕ) (t : List ℕ) → length (place-of f a t) ≡ behind f
+place-length f a t = go (eqb f 9)
+  where
+    go : (b : Bool) → length (elim b [ true ↦ (a + bad-byte t) ∷ [] | false ↦ [] ]) ≡ cond b 1 0
+    go true = refl
+    go false = refl
 
 -- "1 to 3: at least one; else 0"
 record-counts : (L : Limits) (i n : ℕ) (t : List ℕ) (c : Choice) → Row n c → let f = form-of L i t c in counts f (length (names-of f c)) ≡ true
@@ -170,6 +179,7 @@ module _ (d : Desk) (r : Rows d) where
         shown = form-shown L (id-at x n) (text-at x n) c;
         count = record-counts L (id-at x n) n (text-at x n) c w;
         names = record-names (form-of L (id-at x n) (text-at x n) c) n c w;
+        placed = place-length (form-of L (id-at x n) (text-at x n) c) (starts-at x n) (text-at x n);
       }
 
 abbrev Told : List ℕ → List Rec → Type 0
@@ -185,32 +195,27 @@ records-told L d r (bad n c ∷ o) l w h = records-told L d r o (record-of L (so
 
 -- ITS NUMBERS
 
-nothing-behind : (f : ℕ) → behind f ≡ 0
-nothing-behind f = go (eqb f 9)
-  where
-    go : (b : Bool) → _≡_ {A = ℕ} (cond b 0 0) 0
-    go true = refl
-    go false = refl
-
 first-reads : (bytes after : List ℕ) (r : Rec) (rs : List Rec) → Tells bytes r → reads bytes (flat-records (r ∷ rs) ++ after) ≡ true
 first-reads bytes after r rs t =
-    ap (λ (l : List ℕ). reads bytes (r .0 ∷ r .1 ∷ r .2 ∷ length (r .3) ∷ l)) (append-assoc (r .3) (flat-records rs) after)
-    ∙ reads-when bytes (r .0) (r .1) (r .2) (r .3) (flat-records rs ++ after) (t .forward) (t .within) (t .shown .least) (t .shown .most) (t .count)
-    (omega (arith, nothing-behind (r .2))) (t .names) (t .shown .is)
+    ap (λ (l : List ℕ). reads bytes (r .0 ∷ r .1 ∷ r .2 ∷ length (r .3) ∷ l)) (append-assoc (r .3) (r .4 ++ flat-records rs) after)
+    ∙ reads-when bytes (r .0) (r .1) (r .2) (r .3) ((r .4 ++ flat-records rs) ++ after) (t .forward) (t .within) (t .shown .least) (t .shown .most) (t .count)
+    (omega (arith, t .placed, length-append (r .4 ++ flat-records rs) after, length-append (r .4) (flat-records rs))) (t .names) (t .shown .is)
 
-behind-first : (after : List ℕ) (r : Rec) (rs : List Rec) → let l = flat-records (r ∷ rs) ++ after in drop (size l) l ≡ flat-records rs ++ after
-behind-first after r rs =
+behind-first : (after : List ℕ) (r : Rec) (rs : List Rec) → length (r .4) ≡ behind (r .2) → let l = flat-records (r ∷ rs) ++ after in drop (size l) l ≡ flat-records rs ++ after
+behind-first after r rs p =
     let l : List ℕ = flat-records (r ∷ rs) ++ after in
-    let n : size l ≡ suc (suc (suc (suc (length (r .3))))) = omega (arith, nothing-behind (r .2)) in
+    let n : size l ≡ suc (suc (suc (suc (length (r .3) + length (r .4))))) = omega (arith, p) in
+    let w : (r .3 ++ (r .4 ++ flat-records rs)) ++ after ≡ (r .3 ++ r .4) ++ (flat-records rs ++ after) =
+        ap (λ (m : List ℕ). m ++ after) (sym (append-assoc (r .3) (r .4) (flat-records rs))) ∙ append-assoc (r .3 ++ r .4) (flat-records rs) after in
     ap (λ (k : ℕ). drop k l) n
-    ∙ ap (drop (length (r .3))) (append-assoc (r .3) (flat-records rs) after)
-    ∙ drop-at (r .3) (flat-records rs ++ after) (length (r .3)) refl
+    ∙ ap (drop (length (r .3) + length (r .4))) w
+    ∙ drop-at (r .3 ++ r .4) (flat-records rs ++ after) (length (r .3) + length (r .4)) (length-append (r .3) (r .4))
 
 each-reads : (bytes after : List ℕ) (rs : List Rec) (n : ℕ) → Told bytes rs → n < length rs → reads bytes (recordAt n (flat-records rs ++ after)) ≡ true
 each-reads bytes after [] n t h = absurd (omega arith)
 each-reads bytes after (r ∷ rs) zero t h = first-reads bytes after r rs (t .0)
 each-reads bytes after (r ∷ rs) (suc n) t h =
-    ap (λ (l : List ℕ). reads bytes (recordAt n l)) (behind-first after r rs) ∙ each-reads bytes after rs n (t .1) (omega arith)
+    ap (λ (l : List ℕ). reads bytes (recordAt n l)) (behind-first after r rs (t .0 .placed)) ∙ each-reads bytes after rs n (t .1) (omega arith)
 
 -- THE THEOREM: k records stand in the buffer er that the reader left, and each of them reads, so it is told or there is no room for it
 module _ (L : Limits) (d : Desk) {o c e k f : ℕ} {ev er sc : List ℕ} (p : Promised L d (Answered o c e k f) ev er sc) where

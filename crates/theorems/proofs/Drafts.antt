@@ -1,16 +1,18 @@
 -- What stands written and chosen at any moment of a reading names rows of the file alone. So the remaining rows, as a file of their own, never
 -- take more room than they take behind what was written before: the rooms of the whole are enough for them.
 use Prim.Native.Nat.{ℕ, zero, suc, _+_, _≤_}
-use mathlib.Core.Path.{_≡_, refl, ap₂, sym, subst}
+use mathlib.Core.Path.{_≡_, refl, ap, ap₂, sym, subst, _∙_}
 use mathlib.Core.List.{List, [], _∷_, _++_, map}
 use mathlib.Core.Bool.{Bool, true, false}
+use lib.Dec.{eqb}
 use lib.ListN.{length, length-append}
 use native.Mathlib.Omega.{arith}
+use Rattle.utf8.specs.Utf8.{bad-byte}
 use Rattle.shapes.specs.Shapes.{HEAD}
 use Rattle.definition.specs.Prog.{Prog}
 use Rattle.definition.specs.Grammar.{item-of}
 use Rattle.definition.specs.Run.{State, Reader, Limits, Draft, Event, opened, leaf, closed, bad, Choice, stray, Mode, ok, failed, stopped, Next, end, other, hit, sought, trivia, take, turn, put, charge, begin, finish, choose, nodes, item-keywords, run, read-item, stray-item, item-at, flush, again, item, items, start, read}
-use Rattle.definition.specs.Render.{Source, form-of, names-of, size-of, said, held, moments, used}
+use Rattle.definition.specs.Render.{Source, starts-at, id-at, text-at, form-of, names-of, place-of, size-of, said, held, moments, used}
 use Rattle.definition.proofs.Induct.{exec-kept, run-kept}
 use Rattle.definition.proofs.Order.{Steps, stepped}
 use Rattle.definition.proofs.Frame.{h, behind}
@@ -143,6 +145,14 @@ module _ (N : ℕ) where
 pub read-drafts : (L : Limits) (r : List ℕ) (f : ℕ) → DraftsIn (length r) ((read L r f) .drafts)
 read-drafts L r f = items-sure (length r) L (length r) (start r f) .1 (record { rows = omega arith; wants = tt; unwants = tt; chose = tt }, tt, (tt, tt, tt))
 
+-- one number, wherever the text stands
+place-length : (f a b : ℕ) (t : List ℕ) → length (place-of f a t) ≡ length (place-of f b t)
+place-length f a b t = go (eqb f 9)
+  where
+    go : (d : Bool) → _≡_ {A = ℕ} (length {A = ℕ} (elim d as (λ _. List ℕ) [ true ↦ (a + bad-byte t) ∷ [] | false ↦ [] ])) (length {A = ℕ} (elim d as (λ _. List ℕ) [ true ↦ (b + bad-byte t) ∷ [] | false ↦ [] ]))
+    go true = refl
+    go false = refl
+
 -- the rooms taken behind what was written before
 module _ (pre a e : List ℕ) (B : Before pre a e) (y : Source) (L : Limits) where
   abbrev N : ℕ
@@ -152,7 +162,10 @@ module _ (pre a e : List ℕ) (B : Before pre a e) (y : Source) (L : Limits) whe
   x = later pre a e y
 
   size-later : (n : ℕ) (c : Choice) → n ≤ N → size-of L x n c ≡ size-of L y n c
-  size-later n c l = ap₂ (λ (i : ℕ) (t : List ℕ). HEAD + length (names-of (form-of L i t c) c)) (id-later pre a e B y n l) (text-later pre a e B y n l)
+  size-later n c l =
+      let f = form-of L (id-at y n) (text-at y n) c in
+      ap₂ (λ (i : ℕ) (t : List ℕ). let g = form-of L i t c in HEAD + length (names-of g c) + length (place-of g (starts-at x n) t)) (id-later pre a e B y n l) (text-later pre a e B y n l)
+      ∙ ap (λ (i : ℕ). HEAD + length (names-of f c) + i) (place-length f (starts-at x n) (starts-at y n) (text-at y n))
 
   said-later : (w : List Event) → Ins N w → said L x w ≡ said L y w
   said-later [] i = refl

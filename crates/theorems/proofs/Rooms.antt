@@ -117,7 +117,7 @@ records-size L x [] l = omega arith
 records-size L x (opened n ∷ o) l = records-size L x o l
 records-size L x (leaf a n ∷ o) l = records-size L x o l
 records-size L x (closed a n m ∷ o) l = records-size L x o l
-records-size L x (bad n c ∷ o) l = let q : Rec = record-of L x n c in omega (arith, records-size L x o (q ∷ l), length-append (q .3) (flat-records l))
+records-size L x (bad n c ∷ o) l = let q : Rec = record-of L x n c in omega (arith, records-size L x o (q ∷ l), length-append (q .3) (q .4 ++ flat-records l), length-append (q .4) (flat-records l))
 
 blank-length : (l : List ℕ) → length (blank l) ≡ length l
 blank-length l = length-replicate (length l) 0

@@ -2,16 +2,16 @@
 use Prim.Native.Nat.{ℕ, zero, suc, _+_, _-_, _≤_, _<_}
 use native.Mathlib.Numerals.{add-one, sub-one}
 use native.Mathlib.Omega.{arith}
-use mathlib.Core.Path.{_≡_, refl, sym, _∙_}
+use mathlib.Core.Path.{_≡_, refl, sym, ap, _∙_}
 use mathlib.Core.Logic.{_⊎_, inl, inr, ⊎-elim}
 use mathlib.Core.List.{List, [], _∷_}
 use mathlib.Core.Bool.{Bool, true, false, cond, _&&_, _||_}
 use mathlib.Core.Option.{Option, none, some}
-use lib.Dec.{T, leb, leb→le, eqb, eqb·suc-zero}
+use lib.Dec.{T, leb, leb→le}
 use lib.ListN.{length, getD, drop, drop-of-length-le}
 use lib.Seq.{drop-cons}
 use borrow.Author.Tests.{le-leb, lt-leb, leb-true}
-use Rattle.utf8.specs.Utf8.{Range, within, follower, followers, begun, next, nothing, walk}
+use Rattle.utf8.specs.Utf8.{Range, within, follower, followers, begun, next, since, seek}
 use Rattle.utf8.specs.Due.{led, ranges}
 use Rattle.utf8.specs.declared.Due.{Due}
 
@@ -72,20 +72,24 @@ follows d b = go (d .count)
     go zero h = absurd (h refl)
     go (suc n) h = rw sub-one
 
--- one turn: what is due after the byte at i decides on the bytes from i + 1 on
-abbrev pub onward : Option (List Range) → List ℕ → Bool
-onward none bs = false
-onward (some due) bs = walk due bs
+-- one turn: what is due after the byte at i decides on the bytes from i + 1 on; first is where the character at hand begins, as the code has it
+abbrev pub onward : Option (List Range) → ℕ → ℕ → List ℕ → ℕ
+onward none i f bs = i
+onward (some due) i f bs = seek (i + 1) f due bs
 
-pub turn : (s : List ℕ) (i : ℕ) (due : List Range) (a : Option (List Range)) → i < length s → a ≡ next due (getD s i 0)
-    → onward a (drop (i + 1) s) ≡ walk due (drop i s)
-turn s i due none h e = rw (drop-cons s i 0, walk, ← e)
-turn s i due (some due') h e = rw (add-one, drop-cons s i 0, walk, ← e)
+pub turn : (s : List ℕ) (i f : ℕ) (due : List Range) (a : Option (List Range)) → i < length s → a ≡ next due (getD s i 0)
+    → onward a i (since due i f) (drop (i + 1) s) ≡ seek i f due (drop i s)
+turn s i f due none h e = rw (drop-cons s i 0, seek, ← e)
+turn s i f due (some due') h e = rw (add-one, drop-cons s i 0, seek, ← e)
 
--- the end: the last character is whole where no follower is due
-pub ended : (s : List ℕ) (i : ℕ) (r : Range) (n : ℕ) → length s ≤ i → eqb n 0 ≡ walk (led r n) (drop i s)
-ended s i r n h = rw (drop-of-length-le s h) (none-due n)
-  where
-    none-due : (k : ℕ) → eqb k 0 ≡ nothing (led r k)
-    none-due zero = refl
-    none-due (suc k) = eqb·suc-zero k
+-- where the character at hand begins, by the count of what is due
+pub since-none : (r : Range) (n i f : ℕ) → n ≡ 0 → since (led r n) i f ≡ i
+since-none r n i f e = ap (λ (k : ℕ). since (led r k) i f) e
+
+pub since-some : (r : Range) (n i f : ℕ) → (n ≡ 0 → ⊥) → since (led r n) i f ≡ f
+since-some r zero i f h = absurd (h refl)
+since-some r (suc n) i f h = refl
+
+-- the end
+pub ended : (s : List ℕ) (i f : ℕ) (due : List Range) → length s ≤ i → seek i f due (drop i s) ≡ since due i f
+ended s i f due h = rw (drop-of-length-le s h)

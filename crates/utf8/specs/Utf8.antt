@@ -1,6 +1,6 @@
 -- UTF-8: the Unicode Standard's table of well-formed byte sequences, as request (iii) takes it: document 01's rule (module 2) with "after E0 the next byte is
 -- A0..BF, after ED 80..9F, after F0 90..BF, after F4 80..8F".
-use Prim.Native.Nat.{ℕ}
+use Prim.Native.Nat.{ℕ, suc}
 use mathlib.Core.List.{List, [], _∷_}
 use mathlib.Core.Bool.{Bool, true, false, cond, _&&_}
 use mathlib.Core.Option.{Option, none, some}
@@ -55,3 +55,19 @@ walk due (b ∷ bs) = elim (next due b) [ none ↦ false | some due' ↦ walk du
 
 unfoldable pub utf8 : List ℕ → Bool
 utf8 bs = walk [] bs
+
+-- Request (vi): "the place of the first byte that cannot begin or continue a character", by the same table
+
+-- where the character begins that stands at place i: there, if nothing is due, else at place f, where the one at hand began
+abbrev pub since : List Range → ℕ → ℕ → ℕ
+since [] i f = i
+since (r ∷ due) i f = f
+
+-- the place, from place i on, in a character that began at place f. "Where a character is cut short by the token's end, the place is that character's
+-- first byte."; where no byte is bad it is the end
+abbrev pub seek : ℕ → ℕ → List Range → List ℕ → ℕ
+seek i f due [] = since due i f
+seek i f due (b ∷ bs) = elim (next due b) [ none ↦ i | some due' ↦ seek (suc i) (since due i f) due' bs ]
+
+unfoldable pub bad-byte : List ℕ → ℕ
+bad-byte bs = seek 0 0 [] bs

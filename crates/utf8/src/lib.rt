@@ -1,6 +1,6 @@
-// The UTF-8 test of document 01, module 2, by the Unicode Standard's table (request (iii)).
+// The UTF-8 test of document 01, module 2, by the Unicode Standard's table (request (iii)), and where the bad byte is (request (vi)).
 ghost use mathlib.Core.Path.{_≡_};
-ghost use Rattle.utf8.specs.Utf8.{followers, characters, begun, next, utf8};
+ghost use Rattle.utf8.specs.Utf8.{followers, characters, begun, next, utf8, bad-byte};
 ghost use Rattle.utf8.specs.Due.{led, ranges, owed};
 
 // The followers that are due: how many, and the range of the first of them. The others are 80..BF.
@@ -66,18 +66,33 @@ fn next(due: Due, b: u8) -> Step
     Step::Owed(followers(due.count - 1))
 }
 
-// The bytes are whole characters.
-pub fn valid(s: &[u8]) -> bool
-    ensures { λ r. ⌜ r ≡ utf8 (now (s .entry)) ⌝ }
+// The place of the first byte that can neither begin nor continue a character; of a character that is cut short by the end, its first byte. Where
+// there is none it is the length.
+pub fn bad_byte(s: &[u8]) -> usize
+    ensures { λ r. ⌜ r ≡ bad-byte (now (s .entry)) ⌝ }
 {
     let mut due = followers(0);
+    let mut first = 0;
     let mut i = 0;
     while i < s.len() {
+        if due.count == 0 {
+            first = i;
+        }
         let Step::Owed(rest) = next(due, s[i]) else {
-            return false;
+            return i;
         };
         due = rest;
         i += 1;
     }
-    due.count == 0
+    if 0 < due.count {
+        return first;
+    }
+    i
+}
+
+// The bytes are whole characters.
+pub fn valid(s: &[u8]) -> bool
+    ensures { λ r. ⌜ r ≡ utf8 (now (s .entry)) ⌝ }
+{
+    bad_byte(s) == s.len()
 }

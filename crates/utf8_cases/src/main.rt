@@ -1,5 +1,6 @@
 // Runs the UTF-8 test; `stdout` has the answers that follow from the Unicode Standard's table: yes or
-// no for each vector, then how many of the 256 bytes may stand at a place of a character.
+// no for each vector, and after a no the place of the bad byte; then how many of the 256 bytes may
+// stand at a place of a character.
 ghost use Prim.Native.Nat.{_<_};
 ghost use lib.ListN.{length};
 use libc::STDOUT_FILENO;
@@ -22,10 +23,13 @@ fn write_bytes(s: &[u8]) {
 fn tell(s: &[u8]) {
     if utf8::valid(s) {
         write(b"yes");
+        write_bytes(s);
     } else {
         write(b"no");
+        write_bytes(s);
+        write(b" at ");
+        io::print_decimal(STDOUT_FILENO, utf8::bad_byte(s) as u64);
     }
-    write_bytes(s);
     write(b"\n");
 }
 
@@ -126,6 +130,10 @@ fn texts() {
     tell(b"a\xED\xA0\x80\xED\xB0\x80");
     tell(b"a\x80");
     tell(b"\xF4\x8F\xBF\xBF\xE2\x82");
+    tell_each(b"\xE1\x41\xE1\x80\xF0\x90", 2);
+    tell_each(b"\xE1\x80\x41\xF0\x90\x41\xF0\x90\xE1", 3);
+    tell_each(b"\xC2\x80\x41\xE1\xE1\x80\x80\xC2\xF0\x90\x80\xF0", 4);
+    tell(b"\xE2\x82\xAC\xE2\x82");
 }
 
 fn counts() {

@@ -1,9 +1,18 @@
+-- Written from tools/answers/listing/error_line.py, digest e91ad87c2840.
 -- `listing::write::error_line` meets its contract: the pieces of the line are joined.
-use borrow.Author.Needs.{needs}
 use Rattle.listing.proofs.Written.{spelled, put-as, joins}
 use Rattle.listing.proofs.Records.{error-text}
+use borrow.Author.Needs.{needs}
 use Rattle.listing.proofs.write.error_line.Statement.{statement}
 use Rattle.listing.proofs.write.error_line.Tie as tie
+use Rattle.listing.proofs.write.error_line.Reads as reads
+use Rattle.listing.proofs.write.error_line.Lts as lts
+use Rattle.listing.proofs.write.names_of.Reads as names-of-reads
+use Rattle.listing.proofs.write.number_at.Reads as number-at-reads
+use Rattle.listing.proofs.write.put_byte.Reads as put-byte-reads
+use Rattle.listing.proofs.write.put_names.Reads as put-names-reads
+use Rattle.listing.proofs.write.put_numbers.Reads as put-numbers-reads
+use Rattle.listing.proofs.write.put_place.Reads as put-place-reads
 
 number-at-requires : tie.Need-number-at-requires
 number-at-requires c κs = search needs
@@ -41,6 +50,9 @@ names-of-requires c κs = search needs
 put-names-requires : tie.Need-put-names-requires
 put-names-requires c κs = search needs
 
+put-place-requires : tie.Need-put-place-requires
+put-place-requires c κs = search needs
+
 put-byte-requires-3 : tie.Need-put-byte-requires-3
 put-byte-requires-3 c κs = search needs
 
@@ -48,21 +60,7 @@ same-length : tie.Need-same-length
 same-length c = search needs
 
 returns : tie.Need-returns
-returns c =
-    let at-put-byte3 = c .before .before in
-    let at-put-names = at-put-byte3 .before .before .before .before in
-    let at-names-of = at-put-names .before .before in
-    let at-put-byte2 = at-names-of .before .before .before in
-    let at-put-numbers = at-put-byte2 .before .before .before .before in
-    let at-put-byte = at-put-numbers .before .before .before .before .before in
-    let at-number-at3 = at-put-byte .before .before in
-    let at-number-at2 = at-number-at3 .before in
-    let at-number-at = at-number-at2 .before in
-    let entry = at-number-at .before .before .before in
-    spelled
-    (put-as (error-text (entry .args .list .now) (at-number-at3 .number-at3 .ensures) (at-number-at .number-at .ensures) (at-number-at2 .number-at2 .ensures) (at-names-of .names-of .ensures .0))
-    (joins (at-put-byte .put-byte .ensures)
-    (joins (joins (at-put-numbers .put-numbers .ensures .0) (joins (at-put-byte2 .put-byte2 .ensures) (at-put-names .put-names .ensures .0))) (at-put-byte3 .put-byte3 .ensures))))
+returns c = spelled (put-as (error-text (c .before .before .before .before .before .before .before .before .before .before .before .before .before .before .before .before .before .before .before .before .before .before .before .before .before .before .before .before .before .before .before .args .list .now) (c .before .before .before .before .before .before .before .before .before .before .before .before .before .before .before .before .before .before .before .before .before .before .before .before .before .before .number-at3 .ensures) (c .before .before .before .before .before .before .before .before .before .before .before .before .before .before .before .before .before .before .before .before .before .before .before .before .before .before .before .before .number-at .ensures) (c .before .before .before .before .before .before .before .before .before .before .before .before .before .before .before .before .before .before .before .before .before .before .before .before .before .before .before .number-at2 .ensures) (c .before .before .before .before .before .before .before .before .before .before .before .before .names-of .ensures .0)) (joins (c .before .before .before .before .before .before .before .before .before .before .before .before .before .before .before .before .before .before .before .before .before .before .before .before .put-byte .ensures) (joins (joins (c .before .before .before .before .before .before .before .before .before .before .before .before .before .before .before .before .before .before .before .put-numbers .ensures .0) (joins (c .before .before .before .before .before .before .before .before .before .before .before .before .before .before .before .put-byte2 .ensures) (joins (c .before .before .before .before .before .before .before .before .before .before .put-names .ensures .0) (c .before .before .before .before .before .before .put-place .ensures .0)))) (c .before .before .put-byte3 .ensures))))
 
 pub error-line-spec : {M : Type 1} → statement M
 error-line-spec =
@@ -80,6 +78,7 @@ error-line-spec =
     put-byte-requires-2
     names-of-requires
     put-names-requires
+    put-place-requires
     put-byte-requires-3
     same-length
     returns)

@@ -1,7 +1,10 @@
 -- `shapes::record::next_record` meets its contract: no sum is past what a place can be, since a count has 32 bits.
 use Prim.Native.Nat.{_+_}
 use native.Mathlib.Omega.{arith}
+use lib.ListN.{getD}
 use borrow.Author.Needs.{needs}
+use Rattle.shapes.specs.Shapes.{FORM, COUNT}
+use Rattle.shapes.proofs.Laws.{size-most}
 use Rattle.shapes.proofs.record.next_record.Statement.{statement}
 use Rattle.shapes.proofs.record.next_record.Tie as tie
 
@@ -11,23 +14,34 @@ returns c = search needs
 returns-2 : tie.Need-returns-2
 returns-2 c = search needs
 
+add-record-size : tie.Need-add-record-size
+add-record-size c = search needs
+
+mul-record-size : tie.Need-mul-record-size
+mul-record-size c = search needs
+
+shared-slice-read-record-size : tie.Need-shared-slice-read-record-size
+shared-slice-read-record-size c = search needs
+
+add-record-size-2 : tie.Need-add-record-size-2
+add-record-size-2 c = search needs
+
+mul-record-size-2 : tie.Need-mul-record-size-2
+mul-record-size-2 c = search needs
+
+shared-slice-read-record-size-2 : tie.Need-shared-slice-read-record-size-2
+shared-slice-read-record-size-2 c = search needs
+
+record-size-requires : tie.Need-record-size-requires
+record-size-requires c κs = search needs
+
 add-next : tie.Need-add-next
-add-next c = search needs
-
-add-next-2 : tie.Need-add-next-2
-add-next-2 c = search needs
-
-mul-next : tie.Need-mul-next
-mul-next c = search needs
-
-shared-slice-read-next : tie.Need-shared-slice-read-next
-shared-slice-read-next c = search needs
-
-cast-next : tie.Need-cast-next
-cast-next c = omega (arith, c .shared-slice-known .given (c .before .before .before .args .at + 3))
-
-add-next-3 : tie.Need-add-next-3
-add-next-3 c = omega (arith, c .shared-slice-known .given (c .before .before .before .args .at + 3), c .before .before .before .good)
+add-next c =
+    let b = c .before in
+    let e = b .before .before .before .before .before in
+    let l = e .args .records .now in
+    let at = e .args .at in
+    omega (arith, c .record-size .ensures, size-most (getD l (at + FORM) 0) (getD l (at + COUNT) 0), b .shared-slice-known3 .given (at + COUNT), e .good)
 
 returns-3 : tie.Need-returns-3
 returns-3 c = search needs
@@ -41,11 +55,13 @@ next-record-spec =
     (tie.spec
     returns
     returns-2
+    add-record-size
+    mul-record-size
+    shared-slice-read-record-size
+    add-record-size-2
+    mul-record-size-2
+    shared-slice-read-record-size-2
+    record-size-requires
     add-next
-    add-next-2
-    mul-next
-    shared-slice-read-next
-    cast-next
-    add-next-3
     returns-3
     returns-4)
