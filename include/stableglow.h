@@ -42,7 +42,8 @@ uint32_t stableglow_read(const uint8_t *source, size_t source_len, const uint32_
 uint32_t stableglow_merge(const uint32_t *events, size_t events_len, uint32_t *room, size_t room_len, uint32_t *count);
 
 /* Writes the message of the error record that the numbers begin with, as text for people (UTF-8), into the room. The record is one that
-   stableglow_read wrote for this source: start, end, form, count of names, names. Numbers behind the record are not looked at.
+   stableglow_read wrote for this source: start, end, form, count of names, names, and in form 9 the place. Numbers behind the record are
+   not looked at.
    Returns 0 and writes the count of bytes to *length, the text to the front of the room and zeros behind it; or returns 11 (a record
    that does not read: cut short; a span that is none in the source; a form outside 1..10; a count that its form does not have; a number
    that is no name, or one twice; quoted text that is empty or not UTF-8; form 3 with a span that is not empty) or 12 (the text has no

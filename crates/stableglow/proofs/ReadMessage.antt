@@ -206,7 +206,7 @@ behind-first after r rs p =
     let l : List ℕ = flat-records (r ∷ rs) ++ after in
     let n : size l ≡ suc (suc (suc (suc (length (r .3) + length (r .4))))) = omega (arith, p) in
     let w : (r .3 ++ (r .4 ++ flat-records rs)) ++ after ≡ (r .3 ++ r .4) ++ (flat-records rs ++ after) =
-        ap (λ (m : List ℕ). m ++ after) (sym (append-assoc (r .3) (r .4) (flat-records rs))) ∙ append-assoc (r .3 ++ r .4) (flat-records rs) after in
+    ap (λ (m : List ℕ). m ++ after) (sym (append-assoc (r .3) (r .4) (flat-records rs))) ∙ append-assoc (r .3 ++ r .4) (flat-records rs) after in
     ap (λ (k : ℕ). drop k l) n
     ∙ ap (drop (length (r .3) + length (r .4))) w
     ∙ drop-at (r .3 ++ r .4) (flat-records rs ++ after) (length (r .3) + length (r .4)) (length-append (r .3) (r .4))

@@ -1,3 +1,4 @@
+-- Written from tools/answers/choice/choose.py, digest 32e160c1a925.
 use Prim.Native.Nat.{ℕ}
 use mathlib.Core.Path.{_≡_, sym, ap, _∙_}
 use mathlib.Core.Bool.{Bool}

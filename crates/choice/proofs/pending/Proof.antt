@@ -1,3 +1,4 @@
+-- Written from tools/answers/choice/pending.py, digest 430ac5b138dd.
 -- `choice::pending` meets its contract. The loop's invariant: what is left to look through says the same as all. Assumes nothing.
 use Prim.Native.Nat.{ℕ, _-_, _≤_}
 use mathlib.Core.Path.{_≡_, refl, sym, ap, _∙_}

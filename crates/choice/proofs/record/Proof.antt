@@ -1,3 +1,4 @@
+-- Written from tools/answers/choice/record.py, digest d9770d4ebf9d.
 use mathlib.Core.Path.{_∙_}
 use native.Mathlib.Omega.{arith}
 use lib.ListN.{length-set}

@@ -1,3 +1,4 @@
+-- Written from tools/answers/choice/spelled.py, digest 4f77da8b6b52.
 use Prim.Native.Nat.{_-_}
 use mathlib.Core.Path.{refl}
 use native.Mathlib.Omega.{arith}

@@ -1,3 +1,4 @@
+-- Written from tools/answers/cutter/cut.py, digest 6bedcb35f1b8.
 -- `cut` meets its contract.
 use mathlib.Core.Path.{_≡_, refl, sym, ap, _∙_}
 use native.Mathlib.Omega.{arith}

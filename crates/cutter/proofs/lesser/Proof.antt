@@ -1,3 +1,4 @@
+-- Written from tools/answers/cutter/lesser.py, digest 8ce2b9c16ea4.
 -- `lesser` meets its contract.
 use native.Mathlib.Omega.{arith}
 use Rattle.cutter.proofs.Answers.{lesser-first, lesser-second}

@@ -1,3 +1,4 @@
+-- Written from tools/answers/cutter_cases/lone_bytes.py, digest 134764e526f0.
 -- `lone_bytes` is safe and ends.
 use Prim.Native.Nat.{_≤_, _-_}
 use borrow.Author.Needs.{needs}

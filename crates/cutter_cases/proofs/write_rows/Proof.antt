@@ -1,3 +1,4 @@
+-- Written from tools/answers/cutter_cases/write_rows.py, digest c621f87ddbd4.
 -- `write_rows` is safe and ends.
 use Prim.Native.Nat.{_≤_, _-_}
 use borrow.Author.Needs.{needs}

@@ -1,3 +1,4 @@
+-- Written from tools/answers/messages/count_of.py, digest 6d21a00add25.
 -- `messages::count_of` meets its contract.
 use Prim.Native.Nat.{ℕ, _-_, min}
 use mathlib.Core.Path.{sym, ap, _∙_}

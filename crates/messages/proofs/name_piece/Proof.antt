@@ -1,3 +1,4 @@
+-- Written from tools/answers/messages/name_piece.py, digest 0499f3810746.
 -- `messages::name_piece` meets its contract.
 use mathlib.Core.Path.{ap, _∙_}
 use native.Mathlib.Omega.{arith}

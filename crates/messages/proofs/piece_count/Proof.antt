@@ -1,3 +1,4 @@
+-- Written from tools/answers/messages/piece_count.py, digest c4c6f4d19c9e.
 -- `messages::piece_count` meets its contract.
 use Prim.Native.Nat.{ℕ}
 use mathlib.Core.Path.{ap}

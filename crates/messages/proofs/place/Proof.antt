@@ -1,3 +1,4 @@
+-- Written from tools/answers/messages/place.py, digest aa542c79d220.
 -- `messages::place` meets its contract.
 use Prim.Native.Nat.{ℕ}
 use mathlib.Core.Path.{sym, ap, _∙_}

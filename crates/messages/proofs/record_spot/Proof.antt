@@ -1,3 +1,4 @@
+-- Written from tools/answers/messages/record_spot.py, digest 28535ffa4c98.
 -- `messages::record_spot` meets its contract.
 use mathlib.Core.Path.{ap, _∙_}
 use Rattle.messages.specs.Spot.{spotOf}

@@ -1,3 +1,4 @@
+-- Written from tools/answers/names/cut_within.py, digest 0371b2569b48.
 -- `cut_within` is safe: the size is not above the room.
 use native.Mathlib.Omega.{arith}
 use lib.ListN.{length-take}

@@ -1,3 +1,4 @@
+-- Written from tools/answers/names/place_of.py, digest 2038e57538ea.
 -- `place_of` is safe and ends.
 use Prim.Native.Nat.{_-_}
 use borrow.Author.Needs.{needs}

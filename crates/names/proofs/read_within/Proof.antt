@@ -1,3 +1,4 @@
+-- Written from tools/answers/names/read_within.py, digest a45b3f434277.
 -- `read_within` is safe: the count is not above the room.
 use native.Mathlib.Omega.{arith}
 use lib.ListN.{length-take}

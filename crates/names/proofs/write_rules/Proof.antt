@@ -1,3 +1,4 @@
+-- Written from tools/answers/names/write_rules.py, digest dfc9f32fd036.
 -- `write_rules` is safe and ends.
 use Prim.Native.Nat.{_≤_, _-_}
 use borrow.Author.Needs.{needs}

@@ -1,3 +1,4 @@
+-- Written from tools/answers/outline_cases/add.py, digest 1572c1942a76.
 -- `add` is safe and ends.
 use Prim.Native.Nat.{_≤_, _-_}
 use lib.ListN.{length}

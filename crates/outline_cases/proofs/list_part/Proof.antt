@@ -1,3 +1,4 @@
+-- Written from tools/answers/outline_cases/list_part.py, digest c69cf9362dfe.
 -- `list_part` is safe: neither count is above its list.
 use native.Mathlib.Omega.{arith}
 use lib.ListN.{length-take}

@@ -1,3 +1,4 @@
+-- Written from tools/answers/outline_cases/nested.py, digest b7ae1e1e3225.
 -- `nested` is safe and ends.
 use Prim.Native.Nat.{_≤_, _-_}
 use borrow.Author.Needs.{needs}

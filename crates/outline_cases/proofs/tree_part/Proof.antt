@@ -1,3 +1,4 @@
+-- Written from tools/answers/outline_cases/tree_part.py, digest a55d43c05a9f.
 -- `tree_part` is safe: neither count is above its list.
 use native.Mathlib.Omega.{arith}
 use lib.ListN.{length-take}

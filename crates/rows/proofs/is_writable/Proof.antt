@@ -1,3 +1,4 @@
+-- Written from tools/answers/rows/is_writable.py, digest 034fb21ac7dd.
 -- `is_writable` is safe and ends.
 use Prim.Native.Nat.{_≤_, _-_}
 use lib.ListN.{length}

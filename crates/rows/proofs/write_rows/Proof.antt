@@ -1,3 +1,4 @@
+-- Written from tools/answers/rows/write_rows.py, digest 980d6917f45c.
 -- `write_rows` is safe and ends.
 use Prim.Native.Nat.{_≤_, _-_}
 use borrow.Author.Needs.{needs}

@@ -1,3 +1,4 @@
+-- Written from tools/answers/stableglow/stableglow_cut.py, digest 2e8166f7152c.
 use mathlib.Core.Path.{sym, ap, _∙_}
 use Rattle.cutter.specs.declared.answer.Cut.{Cut}
 use Rattle.cutter.specs.Rows.{returning}

@@ -1,3 +1,4 @@
+-- Written from tools/answers/stableglow/stableglow_merge.py, digest 0f9731f97575.
 use mathlib.Core.Path.{sym, ap, _∙_}
 use Rattle.merger.specs.declared.Merged.{Merged}
 use Rattle.merger.specs.Answer.{returning}

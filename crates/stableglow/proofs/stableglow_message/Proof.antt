@@ -1,3 +1,4 @@
+-- Written from tools/answers/stableglow/stableglow_message.py, digest f3e49dd0d784.
 -- `stableglow_message` meets its contract: each case of the answer has its number.
 use mathlib.Core.Path.{sym, ap, _∙_}
 use Rattle.messages.specs.declared.answer.Written.{Written}

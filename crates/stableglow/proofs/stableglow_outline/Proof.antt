@@ -1,3 +1,4 @@
+-- Written from tools/answers/stableglow/stableglow_outline.py, digest 5c9e796d89ff.
 use mathlib.Core.Path.{ap, _∙_}
 use Rattle.stableglow.specs.Face.{listFace}
 use borrow.Author.Needs.{needs}

@@ -1,3 +1,4 @@
+-- Written from tools/answers/stableglow/stableglow_rules.py, digest afda1c8c3600.
 use mathlib.Core.Path.{ap, _∙_}
 use Rattle.stableglow.specs.Face.{listFace}
 use borrow.Author.Needs.{needs}

@@ -1,3 +1,4 @@
+-- Written from tools/answers/stableglow/told.py, digest cc71a9aa2059.
 use mathlib.Core.Path.{sym, ap}
 use mathlib.Core.List.{List}
 use Prim.Native.Nat.{ℕ}

@@ -1,3 +1,4 @@
+-- Written from tools/answers/tell/cut_source.py, digest b2d9153d2c7a.
 -- `cut_source` is safe: there are no more rows than the lists have room for.
 use native.Mathlib.Omega.{arith}
 use lib.ListN.{length-take}

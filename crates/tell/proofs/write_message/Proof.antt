@@ -1,3 +1,4 @@
+-- Written from tools/answers/tell/write_message.py, digest 096aa5320e09.
 -- `write_message` is safe: the message is not longer than its room.
 use native.Mathlib.Omega.{arith}
 use lib.ListN.{length-take}

@@ -1,3 +1,4 @@
+-- Written from tools/answers/tell/write_messages.py, digest 6f937f3fef9c.
 -- `write_messages` is safe and ends.
 use Prim.Native.Nat.{_≤_, _-_}
 use native.Mathlib.Omega.{arith}

@@ -1,3 +1,4 @@
+-- Written from tools/answers/choice/enter.py, digest 8f14adfa9da1.
 use mathlib.Core.Path.{sym, _∙_}
 use Rattle.choice.proofs.Spelling.{enters-none, enters-one}
 use borrow.Author.Needs.{needs}

@@ -1,3 +1,4 @@
+-- Written from tools/answers/choice/enter_code.py, digest 2c3d33344b22.
 use mathlib.Core.Path.{ap}
 use lib.ListN.{take}
 use Rattle.definition.specs.Run as P

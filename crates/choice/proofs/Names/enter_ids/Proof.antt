@@ -1,3 +1,4 @@
+-- Written from tools/answers/choice/enter_ids.py, digest 57a4beb5fb22.
 use Prim.Native.Nat.{_-_, _<_}
 use mathlib.Core.Path.{sym, _∙_}
 use native.Mathlib.Omega.{arith}

@@ -1,3 +1,4 @@
+-- Written from tools/answers/cutter/id_of.py, digest b654590a9fb7.
 -- `id_of` meets its contract.
 use mathlib.Core.Path.{_≡_, refl, sym, ap, subst, _∙_}
 use Prim.Native.Nat.{_+_, _<_}

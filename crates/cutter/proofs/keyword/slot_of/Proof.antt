@@ -1,3 +1,4 @@
+-- Written from tools/answers/cutter/slot_of.py, digest e1d65371328c.
 -- `slot_of` meets its contract.
 use Prim.Native.Nat.{ℕ, _+_, _-_, _*_, _%_, _<_}
 use mathlib.Core.Path.{_≡_, refl, sym, ap, ap₂, subst, _∙_}

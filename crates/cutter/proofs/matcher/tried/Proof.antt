@@ -1,3 +1,4 @@
+-- Written from tools/answers/cutter/tried.py, digest 522b3dc8572e.
 -- `tried` meets its contract.
 use mathlib.Core.Path.{sym}
 use borrow.Author.Needs.{needs}

@@ -1,3 +1,4 @@
+-- Written from tools/answers/cutter/asked.py, digest 4002b152fff5.
 -- `asked` meets its contract.
 use mathlib.Core.Path.{_≡_, refl, sym, ap, _∙_}
 use native.Mathlib.Omega.{arith}

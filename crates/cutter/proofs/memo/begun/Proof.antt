@@ -1,3 +1,4 @@
+-- Written from tools/answers/cutter/begun.py, digest 48baf7a8302b.
 -- `begun` meets its contract.
 use mathlib.Core.Path.{_≡_, refl, ap, _∙_}
 use native.Mathlib.Omega.{arith}

@@ -1,3 +1,4 @@
+-- Written from tools/answers/cutter/gone_on.py, digest 3b50ebfa88b5.
 -- `gone_on` meets its contract.
 use mathlib.Core.Path.{refl}
 use native.Mathlib.Omega.{arith}

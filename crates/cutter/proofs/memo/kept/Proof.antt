@@ -1,3 +1,4 @@
+-- Written from tools/answers/cutter/kept.py, digest 51a8494bdcb0.
 -- `kept` meets its contract.
 use mathlib.Core.Path.{_≡_, _∙_, subst}
 use native.Mathlib.Omega.{arith}

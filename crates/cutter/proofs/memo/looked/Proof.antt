@@ -1,3 +1,4 @@
+-- Written from tools/answers/cutter/looked.py, digest c20824e428c9.
 -- `looked` meets its contract.
 use mathlib.Core.Path.{_≡_, sym, ap, _∙_, subst}
 use native.Mathlib.Omega.{arith}

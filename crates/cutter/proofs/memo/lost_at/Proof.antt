@@ -1,3 +1,4 @@
+-- Written from tools/answers/cutter/lost_at.py, digest c0724f9cfd6e.
 -- `lost_at` meets its contract.
 use mathlib.Core.Path.{_≡_, sym, ap, _∙_}
 use native.Mathlib.Omega.{arith}

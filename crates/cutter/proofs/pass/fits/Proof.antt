@@ -1,3 +1,4 @@
+-- Written from tools/answers/cutter/fits.py, digest d01395e125c2.
 -- `fits` meets its contract: there is at most one row a byte.
 use mathlib.Core.Path.{sym, ap}
 use native.Mathlib.Omega.{arith}

@@ -1,3 +1,4 @@
+-- Written from tools/answers/cutter/onward.py, digest af74229bc82e.
 -- `onward` meets its contract.
 use mathlib.Core.Path.{_≡_, refl, sym, _∙_}
 use borrow.Author.Tests.{eq-eqb, ne-eqb}

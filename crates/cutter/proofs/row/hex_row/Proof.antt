@@ -1,3 +1,4 @@
+-- Written from tools/answers/cutter/hex_row.py, digest 0e228c99c5d9.
 -- `hex_row` meets its contract.
 use mathlib.Core.Path.{_≡_, refl, sym, ap, _∙_}
 use native.Mathlib.Omega.{arith}

@@ -1,3 +1,4 @@
+-- Written from tools/answers/cutter/jump_row.py, digest e4212df5040b.
 -- `jump_row` meets its contract.
 use Rattle.cutter.specs.Tokens as t
 use Rattle.cutter.proofs.Tests.{starts-jump}

@@ -1,3 +1,4 @@
+-- Written from tools/answers/cutter/normal_row.py, digest c33db96b5ed1.
 -- `normal_row` meets its contract.
 use Prim.Native.Nat.{_<_}
 use mathlib.Core.Path.{_≡_, sym, ap, ap₂, subst, _∙_}

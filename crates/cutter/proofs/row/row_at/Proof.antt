@@ -1,3 +1,4 @@
+-- Written from tools/answers/cutter/row_at.py, digest e15fee740ea6.
 -- `row_at` meets its contract.
 use Rattle.cutter.proofs.Cuts.{renamed, at-hex, at-jump, at-normal}
 use borrow.Author.Needs.{needs}

@@ -1,3 +1,4 @@
+-- Written from tools/answers/cutter/strange_row.py, digest 84c46641c633.
 -- `strange_row` meets its contract.
 use mathlib.Core.Path.{_≡_, sym, ap, _∙_}
 use native.Mathlib.Omega.{arith}

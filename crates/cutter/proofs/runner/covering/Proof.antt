@@ -1,3 +1,4 @@
+-- Written from tools/answers/cutter/covering.py, digest b1454c0a3b00.
 -- `covering` meets its contract.
 use Prim.Native.Nat.{ℕ, _-_, _≤_}
 use mathlib.Core.Path.{_≡_, refl, sym, _∙_}

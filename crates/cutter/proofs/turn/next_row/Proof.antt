@@ -1,3 +1,4 @@
+-- Written from tools/answers/cutter/next_row.py, digest 21f32a9a4761.
 -- `next_row` meets its contract.
 use mathlib.Core.Path.{_≡_}
 use native.Mathlib.Omega.{arith}

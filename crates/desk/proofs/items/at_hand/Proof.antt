@@ -1,3 +1,4 @@
+-- Written from tools/answers/desk/at_hand.py, digest fa1106ecd74b.
 -- `desk::items::at_hand` meets its contract. Assumes nothing.
 use mathlib.Core.Path.{sym, _∙_}
 use native.Mathlib.Omega.{arith}

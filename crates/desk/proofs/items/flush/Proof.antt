@@ -1,3 +1,4 @@
+-- Written from tools/answers/desk/flush.py, digest 58001e5dfdb7.
 -- `desk::items::flush` meets its contract. The loop's invariant: what was written and what is left to read is all. Assumes nothing.
 use Prim.Native.Nat.{ℕ, _+_, _-_, _≤_}
 use mathlib.Core.List.{List, []}

@@ -1,3 +1,4 @@
+-- Written from tools/answers/desk/item.py, digest 9056aa97ffd2.
 -- `desk::items::item` meets its contract. Assumes nothing.
 use mathlib.Core.Path.{sym, _∙_}
 use native.Mathlib.Omega.{arith}

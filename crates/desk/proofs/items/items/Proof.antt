@@ -1,3 +1,4 @@
+-- Written from tools/answers/desk/items.py, digest d97366b8e3ab.
 -- `desk::items::items` meets its contract. The loop's invariant: as many items were read as were counted. Assumes nothing.
 use Prim.Native.Nat.{_+_, _-_, _≤_}
 use mathlib.Core.Path.{_≡_, refl, sym, _∙_}

@@ -1,3 +1,4 @@
+-- Written from tools/answers/desk/junk.py, digest 4d1cb2250fef.
 -- `desk::items::junk` meets its contract. Assumes nothing.
 use native.Mathlib.Omega.{arith}
 use mathlib.Core.List.{[]}

@@ -1,3 +1,4 @@
+-- Written from tools/answers/desk/over.py, digest e19163d77946.
 -- `desk::items::over` meets its contract. Assumes nothing.
 use mathlib.Core.List.{[]}
 use lib.ListN.{length}

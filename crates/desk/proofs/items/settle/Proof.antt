@@ -1,3 +1,4 @@
+-- Written from tools/answers/desk/settle.py, digest c890b3532206.
 -- `desk::items::settle` meets its contract. Assumes nothing.
 use mathlib.Core.Path.{refl, _∙_}
 use Rattle.notes.specs.Change.{withMode}

@@ -1,3 +1,4 @@
+-- Written from tools/answers/desk/stray.py, digest 6d335f00acde.
 -- `desk::items::stray` meets its contract. Assumes nothing.
 use native.Mathlib.Omega.{arith}
 use mathlib.Core.List.{[]}

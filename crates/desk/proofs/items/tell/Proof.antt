@@ -1,3 +1,4 @@
+-- Written from tools/answers/desk/tell.py, digest 54be34779ffb.
 -- `desk::items::tell` meets its contract. Assumes nothing.
 use native.Mathlib.Omega.{arith}
 use mathlib.Core.Path.{sym, subst}

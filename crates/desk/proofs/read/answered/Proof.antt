@@ -1,3 +1,4 @@
+-- Written from tools/answers/desk/answered.py, digest eeda0e256596.
 -- The finished lists, with zeros behind them.
 use Prim.Native.Nat.{_+_, _/_}
 use Rattle.shapes.specs.Shapes.{EVENT}

@@ -1,3 +1,4 @@
+-- Written from tools/answers/desk/outcome.py, digest 0feb2291f140.
 -- "Outcome 0 is done, 1 out of fuel, 2 too deep."
 use Prim.Native.Nat.{ℕ, zero, suc, _<_, _≤_}
 use mathlib.Core.Path.{_≡_, refl}

@@ -1,3 +1,4 @@
+-- Written from tools/answers/desk/read.py, digest fe10e560b893.
 -- The reader's promise: one equation with the public definition.
 use Prim.Native.Nat.{ℕ}
 use native.Mathlib.Omega.{arith}

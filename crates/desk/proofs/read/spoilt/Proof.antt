@@ -1,3 +1,4 @@
+-- Written from tools/answers/desk/spoilt.py, digest 5ab010991a44.
 -- A room was exceeded: everything is zero.
 use mathlib.Core.Path.{ap}
 use Rattle.definition.specs.Answer.{refusing}

@@ -1,3 +1,4 @@
+-- Written from tools/answers/desk/whole.py, digest 9e7f65e2a331.
 -- SOURCE_FILE around all items.
 use Prim.Native.Nat.{_-_}
 use native.Mathlib.Omega.{arith}

@@ -1,3 +1,4 @@
+-- Written from tools/answers/grammar/parts.py, digest 57ee640db166.
 -- What reads by the table: each combinator by its law, each row by what it stands for; the remaining depth falls, and within a line the row.
 use borrow.Author.Needs.{needs}
 use native.Mathlib.Omega.{arith}

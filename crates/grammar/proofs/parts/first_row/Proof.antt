@@ -1,3 +1,4 @@
+-- Written from tools/answers/grammar/first_row.py, digest 107abf647706.
 -- What is known of a part by its first row.
 use native.Mathlib.Omega.{arith}
 use mathlib.Core.Path.{sym, _∙_}

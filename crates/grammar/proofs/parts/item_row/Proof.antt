@@ -1,3 +1,4 @@
+-- Written from tools/answers/grammar/item_row.py, digest 15fd60981aed.
 -- By the first row's kind: an import, an include, or a rule.
 use Rattle.grammar.proofs.Lines.{starts-import, starts-include, starts-rule}
 use borrow.Author.Needs.{needs}

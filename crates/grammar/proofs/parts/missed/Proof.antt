@@ -1,3 +1,4 @@
+-- Written from tools/answers/grammar/missed.py, digest 10e2fb836083.
 -- The last alternative fails all of them.
 use mathlib.Core.Path.{sym, ap}
 use mathlib.Core.Bool.{Bool}

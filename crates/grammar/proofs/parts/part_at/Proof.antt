@@ -1,3 +1,4 @@
+-- Written from tools/answers/grammar/part_at.py, digest 8485fa304b53.
 -- A row by its combinator and operands.
 use native.Mathlib.Omega.{arith}
 use Rattle.grammar.proofs.Lines.{row-of, row-else, past}

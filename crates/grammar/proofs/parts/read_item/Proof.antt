@@ -1,3 +1,4 @@
+-- Written from tools/answers/grammar/read_item.py, digest c9c5eb98d5c7.
 -- An item is the table's row for its first row.
 use Rattle.grammar.proofs.Lines.{is-item}
 use borrow.Author.Needs.{needs}

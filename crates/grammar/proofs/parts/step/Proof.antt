@@ -1,3 +1,4 @@
+-- Written from tools/answers/grammar/step.py, digest 7e38f148213d.
 -- What takes no other part, by which it is.
 use Rattle.steps.proofs.Ends.{both-of}
 use Rattle.grammar.proofs.Lines.{is-unless, is-recover}

@@ -1,3 +1,4 @@
+-- Written from tools/answers/messages/reads.py, digest d1ce9f0196e5.
 -- `messages::reading::reads` meets its contract: the tests stand in the order of the definition.
 use mathlib.Core.Path.{sym, _∙_}
 use native.Mathlib.Omega.{arith}

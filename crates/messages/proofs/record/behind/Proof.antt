@@ -1,3 +1,4 @@
+-- Written from tools/answers/messages/behind.py, digest ba61d35f17b9.
 -- `messages::record::behind` meets its contract.
 use native.Mathlib.Omega.{arith}
 use borrow.Author.Tests.{eq-eqb, ne-eqb}

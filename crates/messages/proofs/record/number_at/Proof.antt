@@ -1,3 +1,4 @@
+-- Written from tools/answers/messages/number_at.py, digest c08948235788.
 -- `messages::record::number_at` meets its contract: past the end there is no number.
 use mathlib.Core.Path.{sym}
 use lib.ListN.{List·getD-eq-default}

@@ -1,3 +1,4 @@
+-- Written from tools/answers/messages/size.py, digest 7294c8716f06.
 -- `messages::record::size` meets its contract.
 use Prim.Native.Nat.{ℕ}
 use mathlib.Core.Path.{ap, _∙_}

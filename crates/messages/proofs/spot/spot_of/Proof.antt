@@ -1,3 +1,4 @@
+-- Written from tools/answers/messages/spot_of.py, digest 516d566d03b5.
 -- `messages::spot::spot_of` meets its contract: after `i` bytes line and column are those of that place.
 use Prim.Native.Nat.{_≤_, _-_}
 use mathlib.Core.Path.{_∙_}

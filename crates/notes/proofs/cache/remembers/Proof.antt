@@ -1,3 +1,4 @@
+-- Written from tools/answers/notes/remembers.py, digest ede7004738b3.
 use Prim.Native.Nat.{ℕ}
 use mathlib.Core.Path.{ap, _∙_}
 use native.Mathlib.Omega.{arith}

@@ -1,3 +1,4 @@
+-- Written from tools/answers/notes/enter.py, digest 8dcd35ab8ebc.
 use native.Mathlib.Omega.{arith}
 use mathlib.Core.Path.{subst, sym, _∙_}
 use mathlib.Core.List.{[]}

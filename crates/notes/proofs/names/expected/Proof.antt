@@ -1,3 +1,4 @@
+-- Written from tools/answers/notes/expected.py, digest 912d12ff65d4.
 use native.Mathlib.Omega.{arith}
 use mathlib.Core.Path.{subst}
 use Rattle.definition.specs.Run as P

@@ -1,3 +1,4 @@
+-- Written from tools/answers/notes/unexpected.py, digest 118b8f5f6072.
 use native.Mathlib.Omega.{arith}
 use mathlib.Core.Path.{subst, sym}
 use Rattle.definition.specs.Run as P

@@ -1,3 +1,4 @@
+-- Written from tools/answers/notes/peek.py, digest 68e0f741f549.
 use Prim.Native.Nat.{_-_}
 use lib.ListN.{length}
 use native.Mathlib.Omega.{arith}

@@ -1,3 +1,4 @@
+-- Written from tools/answers/notes/start_of.py, digest 594fab07ac15.
 use mathlib.Core.List.{_∷_}
 use lib.ListN.{getD}
 use mathlib.Core.Path.{_≡_, refl, sym, ap}

@@ -1,3 +1,4 @@
+-- Written from tools/answers/steps/first_names.py, digest 6520ef95fdc1.
 use native.Mathlib.Omega.{arith}
 use mathlib.Core.List.{List}
 use mathlib.Core.Path.{subst}

@@ -1,3 +1,4 @@
+-- Written from tools/answers/steps/shown.py, digest 916f1573f57f.
 use mathlib.Core.Bool.{Bool}
 use mathlib.Core.Path.{sym, ap}
 use borrow.Author.Tests.{eq-eqb, ne-eqb}

@@ -1,3 +1,4 @@
+-- Written from tools/answers/steps/begin.py, digest 0e00c1fc0e96.
 use native.Mathlib.Omega.{arith}
 use mathlib.Core.List.{[]}
 use lib.ListN.{length}

@@ -1,3 +1,4 @@
+-- Written from tools/answers/steps/charge.py, digest 1d3f1ff24f97.
 use Rattle.steps.specs.Steps.{whole}
 use Rattle.steps.proofs.Nodes.{charges-none, charges-none-still, charges-deep, charges-deep-still, charges-some}
 use borrow.Author.Needs.{needs}

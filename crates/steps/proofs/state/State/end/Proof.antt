@@ -1,3 +1,4 @@
+-- Written from tools/answers/steps/end.py, digest f81e6380958a.
 use native.Mathlib.Omega.{arith}
 use mathlib.Core.Bool.{Bool}
 use mathlib.Core.Path.{ap, _∙_}

@@ -1,3 +1,4 @@
+-- Written from tools/answers/steps/expect.py, digest 756f9bf46198.
 use native.Mathlib.Omega.{arith}
 use mathlib.Core.Option.{some}
 use mathlib.Core.Path.{refl, sym, ap, _∙_}

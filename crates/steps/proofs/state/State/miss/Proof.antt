@@ -1,3 +1,4 @@
+-- Written from tools/answers/steps/miss.py, digest 3431d5bba13d.
 use Rattle.steps.specs.Steps.{whole}
 use Rattle.steps.proofs.Eating.{fails-after}
 use borrow.Author.Needs.{needs}

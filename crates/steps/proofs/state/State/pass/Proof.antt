@@ -1,3 +1,4 @@
+-- Written from tools/answers/steps/pass.py, digest f6fae5d606e4.
 use native.Mathlib.Omega.{arith}
 use mathlib.Core.List.{List}
 use mathlib.Core.Path.{refl, subst}

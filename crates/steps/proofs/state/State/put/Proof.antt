@@ -1,3 +1,4 @@
+-- Written from tools/answers/steps/put.py, digest 8bf50b2e9d99.
 use native.Mathlib.Omega.{arith}
 use lib.ListN.{length-set}
 use Rattle.notes.proofs.Core.{pen-not, pen-full, pen-event, put-of}

@@ -1,3 +1,4 @@
+-- Written from tools/answers/steps/recover.py, digest dd1ba5333ed3.
 use native.Mathlib.Omega.{arith}
 use mathlib.Core.Path.{_∙_, sym, refl}
 use Rattle.kinds.specs.Sets.{setOf}

@@ -1,3 +1,4 @@
+-- Written from tools/answers/steps/sees.py, digest 825958762c0a.
 use mathlib.Core.Path.{sym, _∙_, refl}
 use mathlib.Core.List.{[]}
 use Rattle.kinds.specs.Sets.{setOf}

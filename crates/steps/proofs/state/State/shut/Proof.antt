@@ -1,3 +1,4 @@
+-- Written from tools/answers/steps/shut.py, digest 023b65c55dd8.
 use native.Mathlib.Omega.{arith}
 use lib.ListN.{length, length-set}
 use Prim.Native.Nat.{_-_, _<_}

@@ -1,3 +1,4 @@
+-- Written from tools/answers/steps/skip_to.py, digest abae3d17cf00.
 use native.Mathlib.Omega.{arith}
 use mathlib.Core.Path.{sym, _∙_, refl}
 use Prim.Native.Nat.{_-_}

@@ -1,3 +1,4 @@
+-- Written from tools/answers/steps/swallow.py, digest 58a6f401be7b.
 use native.Mathlib.Omega.{arith}
 use Rattle.kinds.specs.Sets.{setOf}
 use Rattle.steps.proofs.Ends.{swallows, both-of, ready}

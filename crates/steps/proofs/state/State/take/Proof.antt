@@ -1,3 +1,4 @@
+-- Written from tools/answers/steps/take.py, digest 6d53ab94c9d9.
 use native.Mathlib.Omega.{arith}
 use mathlib.Core.List.{[]}
 use lib.ListN.{length}

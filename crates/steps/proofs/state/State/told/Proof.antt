@@ -1,3 +1,4 @@
+-- Written from tools/answers/steps/told.py, digest 43d22bf6f183.
 use mathlib.Core.Path.{refl}
 use Rattle.notes.proofs.Core.{sound}
 use Rattle.steps.specs.Steps.{whole}

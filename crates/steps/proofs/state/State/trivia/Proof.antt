@@ -1,3 +1,4 @@
+-- Written from tools/answers/steps/trivia.py, digest 1c9dd28d8a88.
 use native.Mathlib.Omega.{arith}
 use Prim.Native.Nat.{_-_}
 use mathlib.Core.Path.{refl, sym, _∙_}

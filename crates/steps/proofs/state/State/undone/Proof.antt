@@ -1,3 +1,4 @@
+-- Written from tools/answers/steps/undone.py, digest eae6d59db792.
 use mathlib.Core.Path.{sym, ap}
 use mathlib.Core.Bool.{Bool}
 use borrow.Author.Tests.{eq-eqb, ne-eqb}

@@ -1,3 +1,4 @@
+-- Written from tools/answers/steps/unless.py, digest 737ea63300d4.
 use native.Mathlib.Omega.{arith}
 use mathlib.Core.Option.{some}
 use mathlib.Core.Path.{sym, ap, _∙_}
