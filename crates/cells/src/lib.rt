@@ -21,3 +21,13 @@ pub fn wipe(words: &mut [u64])
         i += 1;
     }
 }
+
+pub fn blank(bytes: &mut [u8])
+    ensures { λ r. ⌜ now (bytes .exit) ≡ replicate (length (now (bytes .entry))) 0 ⌝ }
+{
+    let mut i = 0;
+    while i < bytes.len() {
+        bytes[i] = 0;
+        i += 1;
+    }
+}

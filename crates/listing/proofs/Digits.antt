@@ -170,12 +170,12 @@ digits-more (c ∷ bs) b d e = go (isDigit c) d (λ f. digits-more bs b f e)
     go false d f = d
 
 -- what is written reads back
-record Reads (n : ℕ) : Type 0 where
-  some-digit : 0 < length (decimal n)
-  digits : allDigits (decimal n) ≡ true
-  value-of : value (decimal n) ≡ n
+pub record Reads (n : ℕ) : Type 0 where
+  pub some-digit : 0 < length (decimal n)
+  pub digits : allDigits (decimal n) ≡ true
+  pub value-of : value (decimal n) ≡ n
 
-reads : (n : ℕ) → Reads n
+pub reads : (n : ℕ) → Reads n
 reads =
     by-tenths Reads
     (λ n h.

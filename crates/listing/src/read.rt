@@ -32,7 +32,7 @@ pub enum Number {
 pub const LONGEST: usize = 8192;
 
 // Where the piece ends that begins at the given place: at the first mark, or with the text.
-fn piece_end(text: &[u8], from: usize, mark: u8) -> usize
+pub fn piece_end(text: &[u8], from: usize, mark: u8) -> usize
     requires { ⌜ from ≤ length (now text) ⌝ }
     ensures { λ r. ⌜ Piece mark (now (text .entry)) from r ⌝ }
 {

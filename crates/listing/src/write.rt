@@ -17,7 +17,7 @@ ghost use Rattle.listing.specs.Listing.{led, joined, lineWith, headLine,
 ghost use Rattle.listing.specs.Listing.{namesOf, placeOf, errorLine, eventLine};
 ghost use Rattle.listing.specs.Written.{Put, Stands};
 
-fn put_byte(b: u8, room: &mut [u8], at: usize) -> usize
+pub fn put_byte(b: u8, room: &mut [u8], at: usize) -> usize
     requires { ⌜ at < length (now room) ⌝ }
     ensures { λ r. ⌜ Put (b ∷ []) at (now (room .entry)) (now (room .exit)) r ⌝ }
 {
@@ -25,7 +25,7 @@ fn put_byte(b: u8, room: &mut [u8], at: usize) -> usize
     at + 1
 }
 
-fn put(text: &[u8], room: &mut [u8], at: usize) -> usize
+pub fn put(text: &[u8], room: &mut [u8], at: usize) -> usize
     requires { ⌜ at + length (now text) ≤ length (now room) ⌝ }
     ensures { λ r. ⌜ Put (now (text .entry)) at (now (room .entry)) (now (room .exit)) r ⌝ }
 {
@@ -38,7 +38,7 @@ fn put(text: &[u8], room: &mut [u8], at: usize) -> usize
     end
 }
 
-fn put_decimal(n: u64, room: &mut [u8], at: usize) -> usize
+pub fn put_decimal(n: u64, room: &mut [u8], at: usize) -> usize
     requires { ⌜ at + length (decimal n) ≤ length (now room) ⌝ }
     ensures { λ r. ⌜ Put (decimal n) at (now (room .entry)) (now (room .exit)) r ⌝ }
 {
@@ -58,7 +58,7 @@ fn put_number(n: u64, room: &mut [u8], at: usize) -> usize
     put_decimal(n, room, end)
 }
 
-fn put_numbers(numbers: &[u64], room: &mut [u8], at: usize) -> usize
+pub fn put_numbers(numbers: &[u64], room: &mut [u8], at: usize) -> usize
     requires { ⌜ at + 21 * length (now numbers) ≤ length (now room) ⌝ }
     ensures { λ r. ⌜ Put (led 9 (map decimal (now (numbers .entry)))) at (now (room .entry)) (now (room .exit)) r ⌝ }
     ensures { λ r. ⌜ r ≤ at + 21 * length (now (numbers .entry)) ⌝ }

@@ -1,0 +1,72 @@
+-- The fields of a line one after another, by the places where they end; what they read to. Assumes nothing.
+use Prim.Native.Nat.{ℕ, _+_, _^_, _≤_, _<_}
+use mathlib.Core.Path.{_≡_, refl, sym, ap, _∙_}
+use mathlib.Core.List.{List, [], _∷_, _++_, append-assoc}
+use mathlib.Core.Bool.{Bool, true, false, cond, _&&_}
+use mathlib.Core.Option.{Option, none, some}
+use native.Mathlib.Omega.{arith}
+use borrow.Author.Tests.{lt-ltb, le-leb, lt-leb}
+use lib.Dec.{leb}
+use lib.ListN.{length, drop}
+use Rattle.listing.specs.Lines.{parted, Piece}
+use Rattle.listing.proofs.Pieces.{part, marked, unmarked, one-piece}
+use Rattle.settings.specs.Settings.{inRange, ranged, lineOf}
+use Rattle.settings.specs.Answer.{lineFrom}
+use Rattle.settings.specs.declared.lines.Values.{Values}
+use Rattle.settings.specs.declared.lines.Line.{Line}
+use Rattle.settings.specs.declared.lines.Line.the-variants as line
+
+-- the fields fs stand before the place
+pub record Passed (s : List ℕ) (fs : List (List ℕ)) (at : ℕ) : Type 0 where
+  pub is : parted 9 s ≡ fs ++ parted 9 (drop at s)
+
+pub passed : (s : List ℕ) → Passed s [] 0
+passed s = record { is = refl }
+
+module _ {s : List ℕ} {fs : List (List ℕ)} {at to : ℕ} (g : Passed s fs at) (p : Piece 9 s at to) where
+  pub pass : to < length s → Passed s (fs ++ (part at to s ∷ [])) (to + 1)
+  pass h =
+      record {
+        is =
+            g .is
+            ∙ ap (λ (ps : List (List ℕ)). fs ++ ps) (marked p h)
+            ∙ sym (append-assoc fs (part at to s ∷ []) (parted 9 (drop (to + 1) s)));
+      }
+
+  -- the line that has no other field
+  pub finish : length s ≤ to → lineFrom (lineOf (fs ++ (part at to s ∷ []))) ≡ lineFrom (lineOf (parted 9 s))
+  finish h = sym (ap (λ (ps : List (List ℕ)). lineFrom (lineOf ps)) (g .is ∙ ap (λ (ps : List (List ℕ)). fs ++ ps) (unmarked p h)))
+
+pub too-many : {s e f d q : List ℕ} {at : ℕ} → Passed s (e ∷ f ∷ d ∷ q ∷ []) at → line.Unread ≡ lineFrom (lineOf (parted 9 s))
+too-many {s} {e} {f} {d} {q} {at} g =
+    sym (ap (λ (ps : List (List ℕ)). lineFrom (lineOf ps)) (g .is)
+    ∙ one-piece (λ (ps : List (List ℕ)). lineFrom (lineOf (e ∷ f ∷ d ∷ q ∷ ps)) ≡ line.Unread) (λ p ps. refl) 9 (drop at s))
+
+pub out-of-range : (e : ℕ) (v : Values) → inRange v ≡ false → line.Unread ≡ lineFrom (ranged e v)
+out-of-range e v h = sym (ap (λ (t : Bool). lineFrom (cond t (some (e, v)) none)) h)
+
+pub in-range : (e : ℕ) (v : Values) → inRange v ≡ true → line.Edition e v ≡ lineFrom (ranged e v)
+in-range e v h = sym (ap (λ (t : Bool). lineFrom (cond t (some (e, v)) none)) h)
+
+-- what the code's answer to a line stands for
+pub unread : (o : Option (ℕ × Values)) {r : Line} → r ≡ lineFrom o → r ≡ line.Unread → o ≡ none
+unread none e f = refl
+unread (some l) e f = absurd (let z : _≡_ {A = ℕ} 0 1 = cc in omega arith)
+
+pub reads : (o : Option (ℕ × Values)) {r : Line} {n : ℕ} {v : Values} → r ≡ lineFrom o → r ≡ line.Edition n v → o ≡ some (n, v)
+reads none e f = absurd (let z : _≡_ {A = ℕ} 0 1 = cc in omega arith)
+reads (some (m, w)) e f = cc
+
+-- the tests of a value one after another; its fuel is a 32-bit number
+module _ (v : Values) (f : v .fuel < 2 ^ 32) where
+  tested : (t u : Bool) → leb 1 (v .depth) ≡ t → leb (v .depth) 1024 ≡ u → (true && t && u && leb (v .quote) 255) ≡ inRange v
+  tested t u a b = sym (rw (lt-ltb (v .fuel) (2 ^ 32) f, a, b))
+
+  pub too-shallow : v .depth < 1 → false ≡ inRange v
+  too-shallow h = tested false (leb (v .depth) 1024) (lt-leb 1 (v .depth) h) refl
+
+  pub too-deep : 1 ≤ v .depth → 1024 < v .depth → false ≡ inRange v
+  too-deep h k = tested true false (le-leb 1 (v .depth) h) (lt-leb (v .depth) 1024 k)
+
+  pub quoted : 1 ≤ v .depth → v .depth ≤ 1024 → leb (v .quote) 255 ≡ inRange v
+  quoted h k = tested true true (le-leb 1 (v .depth) h) (le-leb (v .depth) 1024 k)

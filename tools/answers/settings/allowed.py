@@ -1,0 +1,10 @@
+WHERE = "lines/allowed"
+USES = """-- `settings::lines::allowed` meets its contract.
+use native.Mathlib.Omega.{arith}
+use Rattle.settings.proofs.Fields.{too-shallow, too-deep, quoted}
+"""
+ANS = {
+    "returns": "too-shallow ({args} .values) (search needs) ({if1} .taken)",
+    "returns-2": "too-deep ({args} .values) (search needs) ({if1} .left) ({if2} .taken)",
+    "returns-3": "quoted ({args} .values) (search needs) ({if1} .left) ({if2} .left)",
+}
