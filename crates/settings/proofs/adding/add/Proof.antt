@@ -1,3 +1,4 @@
+-- Written from tools/answers/settings/add.py, digest cd68c7ee3df9.
 -- `settings::adding::add` meets its contract, by what all lines of the old text read to.
 use mathlib.Core.Path.{_∙_}
 use Rattle.settings.proofs.Growing.{added-bad, added-line}

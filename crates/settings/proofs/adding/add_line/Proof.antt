@@ -1,3 +1,4 @@
+-- Written from tools/answers/settings/add_line.py, digest efddb89fd813.
 -- `settings::adding::add_line` meets its contract: the old text, the line behind it, and zeros.
 use mathlib.Core.Path.{sym, _∙_}
 use native.Mathlib.Omega.{arith}

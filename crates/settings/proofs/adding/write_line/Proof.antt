@@ -1,3 +1,4 @@
+-- Written from tools/answers/settings/write_line.py, digest c74f5f5d92b1.
 -- `settings::adding::write_line` meets its contract: a number that fits has at most 20 digits.
 use native.Mathlib.Omega.{arith}
 use Rattle.listing.proofs.Digits.{short}

@@ -1,3 +1,4 @@
+-- Written from tools/answers/settings/allowed.py, digest 782ee149b8a9.
 -- `settings::lines::allowed` meets its contract.
 use native.Mathlib.Omega.{arith}
 use Rattle.settings.proofs.Fields.{too-shallow, too-deep, quoted}

@@ -1,3 +1,4 @@
+-- Written from tools/answers/settings/choose.py, digest 39bf6552f6d9.
 -- `settings::lines::choose` meets its contract, by what all lines read to.
 use native.Mathlib.Omega.{arith}
 use Rattle.settings.proofs.Choosing.{chosen-bad, chosen-zero, chosen-past, chosen-named}

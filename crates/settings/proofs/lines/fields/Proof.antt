@@ -1,3 +1,4 @@
+-- Written from tools/answers/settings/fields.py, digest 8a6cd2848cf3.
 -- `settings::lines::fields` meets its contract: a field that is no number, or a value out of its range, makes the line one that does not read.
 use mathlib.Core.Path.{sym, _∙_}
 use mathlib.Core.Option.{none, some}

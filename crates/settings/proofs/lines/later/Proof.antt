@@ -1,3 +1,4 @@
+-- Written from tools/answers/settings/later.py, digest 6600a99a7d42.
 -- `settings::lines::later` meets its contract.
 use borrow.Author.Tests.{eq-eqb, ne-eqb}
 use borrow.Author.Needs.{needs}

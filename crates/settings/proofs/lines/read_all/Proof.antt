@@ -1,3 +1,4 @@
+-- Written from tools/answers/settings/read_all.py, digest 3b10e948a16b.
 -- `settings::lines::read_all` meets its contract: the lines before a place read.
 use Prim.Native.Nat.{_-_}
 use native.Mathlib.Omega.{arith}

@@ -1,3 +1,4 @@
+-- Written from tools/answers/settings/read_line.py, digest 165a9f96f892.
 -- `settings::lines::read_line` meets its contract, by the places where the fields end.
 use mathlib.Core.Path.{_∙_}
 use native.Mathlib.Omega.{arith}
