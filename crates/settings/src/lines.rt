@@ -4,10 +4,10 @@ use listing::piece_end;
 use listing::read_number;
 ghost use mathlib.Core.Path.{_≡_};
 ghost use mathlib.Core.Bool.{cond};
+ghost use mathlib.Core.List.{[], _∷_};
 ghost use lib.Dec.{eqb};
 ghost use Rattle.listing.specs.Lines.{parted};
-ghost use Rattle.listing.specs.Numbers.{number};
-ghost use Rattle.settings.specs.Settings.{inRange, editionOf, lineOf, settingsOf, choice};
+ghost use Rattle.settings.specs.Settings.{inRange, lineOf, settingsOf, choice};
 ghost use Rattle.settings.specs.Answer.{replyOf, lineFrom, scanOf};
 
 // What an edition sets.
@@ -58,7 +58,7 @@ pub fn allowed(values: Values) -> bool
 
 // The line of four fields.
 fn fields(edition: &[u8], fuel: &[u8], depth: &[u8], quote: &[u8]) -> Line
-    ensures { λ r. ⌜ r ≡ lineFrom (editionOf (number (now (edition .entry))) (number (now (fuel .entry))) (number (now (depth .entry))) (number (now (quote .entry)))) ⌝ }
+    ensures { λ r. ⌜ r ≡ lineFrom (lineOf (now (edition .entry) ∷ now (fuel .entry) ∷ now (depth .entry) ∷ now (quote .entry) ∷ [])) ⌝ }
 {
     let Number::Is(edition) = read_number(edition) else {
         return Line::Unread;

@@ -119,7 +119,7 @@ record Tells (bytes : List ℕ) (r : Rec) : Type 0 where
 place-length : (f a : ℕ) (t : List ℕ) → length (place-of f a t) ≡ behind f
 place-length f a t = go (eqb f 9)
   where
-    go : (b : Bool) → length (elim b [ true ↦ (a + bad-byte t) ∷ [] | false ↦ [] ]) ≡ cond b 1 0
+    go : (b : Bool) → length {A = ℕ} (elim b [ true ↦ (a + bad-byte t) ∷ [] | false ↦ [] ]) ≡ cond b 1 0
     go true = refl
     go false = refl
 
