@@ -11,14 +11,14 @@ use Rattle.shapes.specs.Sort as Sort
 use Rattle.shapes.specs.Shapes.{EVENT, KIND, END, Entry, event, flat}
 use Rattle.definition.specs.Prog.{Prog, Production}
 use Rattle.definition.specs.Grammar.{rule-decl}
-use Rattle.definition.specs.Run.{State, Reader, Limits, Event, opened, leaf, closed, bad, Mode, ok, failed, stopped, next, past, trivia-out, trivia, seek-out, take, turn, charge, begin, finish, nodes, exec, run, read, Choice, stray, Next, end, other, hit, sought, seek, errors, rule-keywords, read-rule, stray-item, item-at, flush, again, item}
+use Rattle.definition.specs.Run.{State, Reader, Limits, Event, opened, leaf, closed, bad, Mode, ok, failed, stopped, next, past, trivia-out, trivia, seek-out, take, turn, charge, begin, finish, nodes, exec, run, Choice, stray, Next, end, other, hit, sought, seek, errors, rule-keywords, read-rule, stray-item, item-at, flush, again, item}
 use Rattle.definition.specs.Render.{Source, starts-at, ends-at, span-end, bads, render, inside}
-use Rattle.definition.specs.Buffer.{patch, buffered, buffer}
+use Rattle.definition.specs.Buffer.{height, cell, next-depth, patch, buffered, buffer}
 use Rattle.definition.specs.Open.{Nest, Adds, Open}
 use Rattle.definition.proofs.Gap.{gap-out}
 use Rattle.definition.proofs.Induct.{exec-kept, run-kept}
 use Rattle.definition.proofs.Order.{Steps, stepped}
-use Rattle.definition.proofs.Tidy.{nest-trans, read-tidy}
+use Rattle.definition.proofs.Tidy.{nest-trans}
 
 -- APPENDING
 module _ (x : Source) where
@@ -26,15 +26,15 @@ module _ (x : Source) where
   unfolding buffered
   buffer-none = refl
 
-  pub buffer-opened : (n : ℕ) (o : List Event) → buffer x (opened n ∷ o) ≡ buffer x o ++ event Sort.BEGIN 0 (starts-at x n) (starts-at x n)
+  pub buffer-opened : (n : ℕ) (o : List Event) → buffer x (opened n ∷ o) ≡ buffer x o ++ event Sort.BEGIN 0 (starts-at x n) (starts-at x n) (cell (height o))
   unfolding buffered
   buffer-opened n o = refl
 
-  pub buffer-leaf : (a n : ℕ) (o : List Event) → buffer x (leaf a n ∷ o) ≡ buffer x o ++ event Sort.TOKEN a (starts-at x n) (ends-at x n)
+  pub buffer-leaf : (a n : ℕ) (o : List Event) → buffer x (leaf a n ∷ o) ≡ buffer x o ++ event Sort.TOKEN a (starts-at x n) (ends-at x n) (cell (height o))
   unfolding buffered
   buffer-leaf a n o = refl
 
-  pub buffer-bad : (n : ℕ) (c : Choice) (o : List Event) → buffer x (bad n c ∷ o) ≡ buffer x o ++ event Sort.ERROR (bads o) (starts-at x n) (ends-at x n)
+  pub buffer-bad : (n : ℕ) (c : Choice) (o : List Event) → buffer x (bad n c ∷ o) ≡ buffer x o ++ event Sort.ERROR (bads o) (starts-at x n) (ends-at x n) (cell (height o))
   unfolding buffered
   buffer-bad n c o = refl
 
@@ -69,13 +69,13 @@ patch-before p a e l q h g =
     ∙ set-before (set l (p - EVENT + KIND) a) q (p - EVENT + END) e (omega (arith, h, g, length-set l (p - EVENT + KIND) a))
 
 -- the provisional event is the last
-patch-last : (k a e s : ℕ) (l : List ℕ) → length l ≡ EVENT * k → patch (EVENT * suc k) a e (l ++ event Sort.BEGIN 0 s s) ≡ l ++ event Sort.BEGIN a s e
-patch-last k a e s l h =
+patch-last : (k a e s d : ℕ) (l : List ℕ) → length l ≡ EVENT * k → patch (EVENT * suc k) a e (l ++ event Sort.BEGIN 0 s s d) ≡ l ++ event Sort.BEGIN a s e d
+patch-last k a e s d l h =
     let i₁ : EVENT * suc k - EVENT + KIND ≡ length l + KIND = omega (arith, h) in
     let i₂ : EVENT * suc k - EVENT + END ≡ length l + END = omega (arith, h) in
-    ap₂ (λ (i j : ℕ). set (set (l ++ event Sort.BEGIN 0 s s) i a) j e) i₁ i₂
-    ∙ ap (λ (t : List ℕ). set t (length l + END) e) (set-after l (event Sort.BEGIN 0 s s) KIND a)
-    ∙ set-after l (event Sort.BEGIN a s s) END e
+    ap₂ (λ (i j : ℕ). set (set (l ++ event Sort.BEGIN 0 s s d) i a) j e) i₁ i₂
+    ∙ ap (λ (t : List ℕ). set t (length l + END) e) (set-after l (event Sort.BEGIN 0 s s d) KIND a)
+    ∙ set-after l (event Sort.BEGIN a s s d) END e
 
 module _ (x : Source) (t : ℕ × ℕ) (n : ℕ) (before : List Event) where
   abbrev spot : ℕ
@@ -93,38 +93,65 @@ module _ (x : Source) (t : ℕ × ℕ) (n : ℕ) (before : List Event) where
   -- a closing more at the stack's bottom reaches the opening that inner leaves open
   reaches : (st : List (ℕ × ℕ)) (inner : List Event) → Nest (length st) inner 0 → buffered x (st ++ (t ∷ [])) (all inner) ≡ patch spot (t .0) (t .1) (buffered x st (all inner))
   unfolding buffered
-  reaches [] [] p = sym (patch-last (length before) (t .0) (t .1) (starts-at x n) (buffered x [] before) (buffered-length x [] before))
+  reaches [] [] p = sym (patch-last (length before) (t .0) (t .1) (starts-at x n) (cell (height before)) (buffered x [] before) (buffered-length x [] before))
   reaches (u ∷ st) [] p = absurd (omega (arith, p))
   reaches [] (opened m ∷ w) p = absurd p
-  reaches (u ∷ st) (opened m ∷ w) p = one-more st (st ++ (t ∷ [])) w (event Sort.BEGIN (u .0) (starts-at x m) (u .1)) (reaches st w p)
-  reaches st (leaf a m ∷ w) p = one-more st (st ++ (t ∷ [])) w (event Sort.TOKEN a (starts-at x m) (ends-at x m)) (reaches st w p)
-  reaches st (closed a m k ∷ w) p = one-more ((a, span-end x m k) ∷ st) (((a, span-end x m k) ∷ st) ++ (t ∷ [])) w (event Sort.END a (starts-at x m) (span-end x m k)) (reaches ((a, span-end x m k) ∷ st) w p)
-  reaches st (bad m c ∷ w) p = one-more st (st ++ (t ∷ [])) w (event Sort.ERROR (bads (all w)) (starts-at x m) (ends-at x m)) (reaches st w p)
+  reaches (u ∷ st) (opened m ∷ w) p = one-more st (st ++ (t ∷ [])) w (event Sort.BEGIN (u .0) (starts-at x m) (u .1) (cell (height (all w)))) (reaches st w p)
+  reaches st (leaf a m ∷ w) p = one-more st (st ++ (t ∷ [])) w (event Sort.TOKEN a (starts-at x m) (ends-at x m) (cell (height (all w)))) (reaches st w p)
+  reaches st (closed a m k ∷ w) p = one-more ((a, span-end x m k) ∷ st) (((a, span-end x m k) ∷ st) ++ (t ∷ [])) w (event Sort.END a (starts-at x m) (span-end x m k) (cell (height (all w) - 1))) (reaches ((a, span-end x m k) ∷ st) w p)
+  reaches st (bad m c ∷ w) p = one-more st (st ++ (t ∷ [])) w (event Sort.ERROR (bads (all w)) (starts-at x m) (ends-at x m) (cell (height (all w)))) (reaches st w p)
 
 pub buffer-closed : (x : Source) (a n m j : ℕ) (inner before : List Event) → Nest 0 inner 0 → let o : List Event = inner ++ (opened j ∷ before) in
-    buffer x (closed a n m ∷ o) ≡ patch (EVENT * suc (length before)) a (span-end x n m) (buffer x o) ++ event Sort.END a (starts-at x n) (span-end x n m)
+    buffer x (closed a n m ∷ o) ≡ patch (EVENT * suc (length before)) a (span-end x n m) (buffer x o) ++ event Sort.END a (starts-at x n) (span-end x n m) (cell (height o - 1))
 unfolding buffered
-buffer-closed x a n m j inner before p = ap (λ (l : List ℕ). l ++ event Sort.END a (starts-at x n) (span-end x n m)) (reaches x (a, span-end x n m) j before [] inner p)
+buffer-closed x a n m j inner before p = ap (λ (l : List ℕ). l ++ event Sort.END a (starts-at x n) (span-end x n m) (cell (height (inner ++ (opened j ∷ before)) - 1))) (reaches x (a, span-end x n m) j before [] inner p)
 
--- FINISHED
-module _ (x : Source) where
-  entry-on : (l : List ℕ) (q : Entry) (z : List Entry) → l ++ flat (q ∷ z) ≡ (l ++ event (q .0) (q .1) (q .2) (q .3)) ++ flat z
-  entry-on l q z = sym (append-assoc l (event (q .0) (q .1) (q .2) (q .3)) (flat z))
+-- FINISHED: where every node is closed, and none lies so deep that a cell cannot hold its depth
+abbrev pub Low : ℕ → List Event → Type 0
+Low m [] = 1 ≤ m
+Low m (e ∷ o) = (height (e ∷ o) ≤ m) × Low m o
 
-  finished : (st : List (ℕ × ℕ)) (o : List Event) (z : List Entry) (g : ℕ) → Nest (length st) o g → flat (render x st o z) ≡ buffered x st o ++ flat z
+pub low-here : (m : ℕ) (o : List Event) → Low m o → height o ≤ m
+low-here m [] l = l
+low-here m (e ∷ o) l = l .0
+
+-- what w leaves open is counted
+pub height-nest : (h : ℕ) (w a : List Event) → Nest h w 0 → height (w ++ a) ≡ height a + h
+height-nest h [] a p = omega (arith, p)
+height-nest zero (opened n ∷ w) a p = absurd p
+height-nest (suc h) (opened n ∷ w) a p = omega (arith, height-nest h w a p)
+height-nest h (leaf k n ∷ w) a p = height-nest h w a p
+height-nest h (closed k n m ∷ w) a p = omega (arith, height-nest (suc h) w a p)
+height-nest h (bad n c ∷ w) a p = height-nest h w a p
+
+pub cell-small : (n : ℕ) → n < 4294967296 → cell n ≡ n
+cell-small n h = omega (arith, h)
+
+module _ (x : Source) (m : ℕ) (small : m < 4294967296) where
+  level : (h : ℕ) (o : List Event) → Nest h o 0 → Low m o → suc h ≡ cell (height o)
+  level h o p l =
+      let e : height o ≡ suc h = ap height (sym (append-nil o)) ∙ height-nest h o [] p ∙ omega arith in
+      sym (cell-small (height o) (omega (arith, low-here m o l, small)) ∙ e)
+
+  behind : (h : ℕ) (o : List Event) → Nest (suc h) o 0 → Low m o → suc h ≡ cell (height o - 1)
+  behind h o p l =
+      let e : height o ≡ suc (suc h) = ap height (sym (append-nil o)) ∙ height-nest (suc h) o [] p ∙ omega arith in
+      sym (cell-small (height o - 1) (omega (arith, low-here m o l, small)) ∙ omega (arith, e))
+
+  entry-on : (l : List ℕ) (s a b c : ℕ) {d d′ : ℕ} (z : List Entry) → d ≡ d′ → l ++ flat ((s, a, b, c, d) ∷ z) ≡ (l ++ event s a b c d′) ++ flat z
+  entry-on l s a b c {d} z e = ap (λ (i : ℕ). l ++ flat ((s, a, b, c, i) ∷ z)) e ∙ sym (append-assoc l (event s a b c _) (flat z))
+
+  finished : (st : List (ℕ × ℕ)) (o : List Event) (z : List Entry) → Nest (length st) o 0 → Low m o → flat (render x st o z) ≡ buffered x st o ++ flat z
   unfolding buffered
-  finished st [] z g p = refl
-  finished [] (opened n ∷ es) z g p = absurd p
-  finished (t ∷ st) (opened n ∷ es) z g p = finished st es ((Sort.BEGIN, t .0, starts-at x n, t .1) ∷ z) g p ∙ entry-on (buffered x st es) (Sort.BEGIN, t .0, starts-at x n, t .1) z
-  finished st (leaf a n ∷ es) z g p = finished st es ((Sort.TOKEN, a, starts-at x n, ends-at x n) ∷ z) g p ∙ entry-on (buffered x st es) (Sort.TOKEN, a, starts-at x n, ends-at x n) z
-  finished st (closed a n m ∷ es) z g p = finished ((a, span-end x n m) ∷ st) es ((Sort.END, a, starts-at x n, span-end x n m) ∷ z) g p ∙ entry-on (buffered x ((a, span-end x n m) ∷ st) es) (Sort.END, a, starts-at x n, span-end x n m) z
-  finished st (bad n c ∷ es) z g p = finished st es ((Sort.ERROR, bads es, starts-at x n, ends-at x n) ∷ z) g p ∙ entry-on (buffered x st es) (Sort.ERROR, bads es, starts-at x n, ends-at x n) z
+  finished st [] z p l = refl
+  finished [] (opened n ∷ es) z p l = absurd p
+  finished (t ∷ st) (opened n ∷ es) z p l = finished st es ((Sort.BEGIN, t .0, starts-at x n, t .1, suc (length st)) ∷ z) p (l .1) ∙ entry-on (buffered x st es) Sort.BEGIN (t .0) (starts-at x n) (t .1) z (level (length st) es p (l .1))
+  finished st (leaf a n ∷ es) z p l = finished st es ((Sort.TOKEN, a, starts-at x n, ends-at x n, suc (length st)) ∷ z) p (l .1) ∙ entry-on (buffered x st es) Sort.TOKEN a (starts-at x n) (ends-at x n) z (level (length st) es p (l .1))
+  finished st (closed a n j ∷ es) z p l = finished ((a, span-end x n j) ∷ st) es ((Sort.END, a, starts-at x n, span-end x n j, suc (length st)) ∷ z) p (l .1) ∙ entry-on (buffered x ((a, span-end x n j) ∷ st) es) Sort.END a (starts-at x n) (span-end x n j) z (behind (length st) es p (l .1))
+  finished st (bad n c ∷ es) z p l = finished st es ((Sort.ERROR, bads es, starts-at x n, ends-at x n, suc (length st)) ∷ z) p (l .1) ∙ entry-on (buffered x st es) Sort.ERROR (bads es) (starts-at x n) (ends-at x n) z (level (length st) es p (l .1))
 
-  pub buffer-finished : (o : List Event) → Nest 0 o 0 → buffer x o ≡ flat (inside x o)
-  buffer-finished o p = sym (finished [] o [] 0 p ∙ append-nil (buffered x [] o))
-
-  pub buffer-read : (L : Limits) (r : List ℕ) (f : ℕ) → buffer x ((read L r f) .out) ≡ flat (inside x ((read L r f) .out))
-  buffer-read L r f = buffer-finished ((read L r f) .out) (read-tidy L r f .1)
+  pub buffer-finished : (o : List Event) → Nest 0 o 0 → Low m o → buffer x o ≡ flat (inside x o)
+  buffer-finished o p l = sym (finished [] o [] p l ∙ append-nil (buffered x [] o))
 
 -- BALANCE: what any reader adds is nested, every closing with its opening. No hypothesis on the state.
 abbrev pub Adding : State → State → Type 0
@@ -221,16 +248,16 @@ run-adds d o a = run-kept (stepped Adding adding) d o a
 -- CLOSING, as the code meets it: o is what stood written when the node's opening had been, b what stands when its body has run. The opening
 -- ends at EVENT * length o.
 pub buffer-closes : (x : Source) (a n m j : ℕ) (before o b : List Event) → o ≡ opened j ∷ before → Adds o b →
-    buffer x (closed a n m ∷ b) ≡ patch (EVENT * length o) a (span-end x n m) (buffer x b) ++ event Sort.END a (starts-at x n) (span-end x n m)
+    buffer x (closed a n m ∷ b) ≡ patch (EVENT * length o) a (span-end x n m) (buffer x b) ++ event Sort.END a (starts-at x n) (span-end x n m) (cell (height b - 1))
 buffer-closes x a n m j before o b e p =
     let q : p .new ++ (opened j ∷ before) ≡ b = ap (λ (l : List Event). p .new ++ l) (sym e) ∙ p .joins in
     let l : EVENT * suc (length before) ≡ EVENT * length o = ap (λ (l : List Event). EVENT * length l) (sym e) in
     ap (λ (l : List Event). buffer x (closed a n m ∷ l)) (sym q)
     ∙ buffer-closed x a n m j (p .new) before (p .nest 0)
-    ∙ ap₂ (λ (i : ℕ) (l : List Event). patch i a (span-end x n m) (buffer x l) ++ event Sort.END a (starts-at x n) (span-end x n m)) l q
+    ∙ ap₂ (λ (i : ℕ) (l : List Event). patch i a (span-end x n m) (buffer x l) ++ event Sort.END a (starts-at x n) (span-end x n m) (cell (height l - 1))) l q
 
-pub buffer-shut : (x : Source) (a n m p : ℕ) (o : List Event) → Open p o → buffer x (closed a n m ∷ o) ≡ patch p a (span-end x n m) (buffer x o) ++ event Sort.END a (starts-at x n) (span-end x n m)
-buffer-shut x a n m p o w = buffer-closes x a n m (w .row) (w .before) (opened (w .row) ∷ w .before) o refl (w .added) ∙ ap (λ (i : ℕ). patch i a (span-end x n m) (buffer x o) ++ event Sort.END a (starts-at x n) (span-end x n m)) (sym (w .place))
+pub buffer-shut : (x : Source) (a n m p : ℕ) (o : List Event) → Open p o → buffer x (closed a n m ∷ o) ≡ patch p a (span-end x n m) (buffer x o) ++ event Sort.END a (starts-at x n) (span-end x n m) (cell (height o - 1))
+buffer-shut x a n m p o w = buffer-closes x a n m (w .row) (w .before) (opened (w .row) ∷ w .before) o refl (w .added) ∙ ap (λ (i : ℕ). patch i a (span-end x n m) (buffer x o) ++ event Sort.END a (starts-at x n) (span-end x n m) (cell (height o - 1))) (sym (w .place))
 
 -- a body that adds leaves its node's opening open
 pub begun-open : (d p : ℕ) (s : State) (b : List Event) → p ≡ EVENT * length ((begin d s) .out) → Adds ((begin d s) .out) b → Open p b
@@ -238,7 +265,7 @@ begun-open d p s b e w = record { row = length ((trivia s) .rest); before = (tri
 
 -- a node: what the buffer holds when it is closed, by what it held when its body f had run
 pub buffer-node : (x : Source) (d : ℕ) (o : Bool) (a : ℕ) (f : Reader) → ((s : State) → Adding s (f s)) → (s : State) → let t : State = begin d s in let u : State = f t in let n : ℕ = length (t .rest) in let k : ℕ = closing (u .mode) a in let e : ℕ = span-end x n (length (u .rest)) in
-    buffer x ((nodes d o a f s) .out) ≡ patch (EVENT * length (t .out)) k e (buffer x (u .out)) ++ event Sort.END k (starts-at x n) e
+    buffer x ((nodes d o a f s) .out) ≡ patch (EVENT * length (t .out)) k e (buffer x (u .out)) ++ event Sort.END k (starts-at x n) e (cell (height (u .out) - 1))
 buffer-node x d o a f F s =
     let t : State = begin d s in
     let u : State = f t in
@@ -252,10 +279,10 @@ module _ (x : Source) (a : List Event) where
   grown [] [] p = ([], sym (append-nil (buffered x [] a)))
   grown (u ∷ st) [] p = absurd (omega (arith, p))
   grown [] (opened m ∷ w) p = absurd p
-  grown (u ∷ st) (opened m ∷ w) p = let g = grown st w p in let l : List ℕ = event Sort.BEGIN (u .0) (starts-at x m) (u .1) in (g .0 ++ l, ap (λ (i : List ℕ). i ++ l) (g .1) ∙ append-assoc (buffered x [] a) (g .0) l)
-  grown st (leaf k m ∷ w) p = let g = grown st w p in let l : List ℕ = event Sort.TOKEN k (starts-at x m) (ends-at x m) in (g .0 ++ l, ap (λ (i : List ℕ). i ++ l) (g .1) ∙ append-assoc (buffered x [] a) (g .0) l)
-  grown st (closed k m j ∷ w) p = let g = grown ((k, span-end x m j) ∷ st) w p in let l : List ℕ = event Sort.END k (starts-at x m) (span-end x m j) in (g .0 ++ l, ap (λ (i : List ℕ). i ++ l) (g .1) ∙ append-assoc (buffered x [] a) (g .0) l)
-  grown st (bad m c ∷ w) p = let g = grown st w p in let l : List ℕ = event Sort.ERROR (bads (w ++ a)) (starts-at x m) (ends-at x m) in (g .0 ++ l, ap (λ (i : List ℕ). i ++ l) (g .1) ∙ append-assoc (buffered x [] a) (g .0) l)
+  grown (u ∷ st) (opened m ∷ w) p = let g = grown st w p in let l : List ℕ = event Sort.BEGIN (u .0) (starts-at x m) (u .1) (cell (height (w ++ a))) in (g .0 ++ l, ap (λ (i : List ℕ). i ++ l) (g .1) ∙ append-assoc (buffered x [] a) (g .0) l)
+  grown st (leaf k m ∷ w) p = let g = grown st w p in let l : List ℕ = event Sort.TOKEN k (starts-at x m) (ends-at x m) (cell (height (w ++ a))) in (g .0 ++ l, ap (λ (i : List ℕ). i ++ l) (g .1) ∙ append-assoc (buffered x [] a) (g .0) l)
+  grown st (closed k m j ∷ w) p = let g = grown ((k, span-end x m j) ∷ st) w p in let l : List ℕ = event Sort.END k (starts-at x m) (span-end x m j) (cell (height (w ++ a) - 1)) in (g .0 ++ l, ap (λ (i : List ℕ). i ++ l) (g .1) ∙ append-assoc (buffered x [] a) (g .0) l)
+  grown st (bad m c ∷ w) p = let g = grown st w p in let l : List ℕ = event Sort.ERROR (bads (w ++ a)) (starts-at x m) (ends-at x m) (cell (height (w ++ a))) in (g .0 ++ l, ap (λ (i : List ℕ). i ++ l) (g .1) ∙ append-assoc (buffered x [] a) (g .0) l)
 
   pub buffer-grows : (b : List Event) → Adds a b → (q : List ℕ) × (buffer x b ≡ buffer x a ++ q)
   buffer-grows b p = let g = grown [] (p .new) (p .nest 0) in (g .0, ap (buffer x) (sym (p .joins)) ∙ g .1)

@@ -124,22 +124,22 @@ P8 =
     (4 ∷ 5 ∷ 6 ∷ 7 ∷ 16 ∷ 17 ∷ 21 ∷ 22 ∷ 26 ∷ 27 ∷ 28 ∷ 29 ∷ 38 ∷ 39 ∷ 43 ∷ 44 ∷ [])
     6 0 16 0 29 1 (22 ∷ 26 ∷ 1 ∷ 2 ∷ k.OPERATOR ∷ k.R-BRACE ∷ [])
 
--- "P4 whole"
+-- "P4 whole", each event with its depth
 abbrev whole-4 : List ℕ
 whole-4 =
-    1 ∷ k.SOURCE-FILE ∷ 0 ∷ 22
-    ∷ 1 ∷ k.ERROR ∷ 0 ∷ 0
-    ∷ 1 ∷ k.ERROR ∷ 0 ∷ 0
-    ∷ 3 ∷ k.ERROR ∷ 0 ∷ 0
-    ∷ 3 ∷ k.ERROR ∷ 0 ∷ 0
-    ∷ 3 ∷ k.SOURCE-FILE ∷ 0 ∷ 22 ∷ []
+    1 ∷ k.SOURCE-FILE ∷ 0 ∷ 22 ∷ 0
+    ∷ 1 ∷ k.ERROR ∷ 0 ∷ 0 ∷ 1
+    ∷ 1 ∷ k.ERROR ∷ 0 ∷ 0 ∷ 2
+    ∷ 3 ∷ k.ERROR ∷ 0 ∷ 0 ∷ 2
+    ∷ 3 ∷ k.ERROR ∷ 0 ∷ 0 ∷ 1
+    ∷ 3 ∷ k.SOURCE-FILE ∷ 0 ∷ 22 ∷ 0 ∷ []
 
 -- "Merger on ERROR 0..1, ERROR 1..3, empty: one ERROR 0..3."
 abbrev two-errors : List ℕ
-two-errors = 1 ∷ k.ERROR ∷ 0 ∷ 1 ∷ 3 ∷ k.ERROR ∷ 0 ∷ 1 ∷ 1 ∷ k.ERROR ∷ 1 ∷ 3 ∷ 3 ∷ k.ERROR ∷ 1 ∷ 3 ∷ []
+two-errors = 1 ∷ k.ERROR ∷ 0 ∷ 1 ∷ 0 ∷ 3 ∷ k.ERROR ∷ 0 ∷ 1 ∷ 0 ∷ 1 ∷ k.ERROR ∷ 1 ∷ 3 ∷ 0 ∷ 3 ∷ k.ERROR ∷ 1 ∷ 3 ∷ 0 ∷ []
 
 abbrev one-error : List ℕ
-one-error = 1 ∷ k.ERROR ∷ 0 ∷ 3 ∷ 3 ∷ k.ERROR ∷ 0 ∷ 3 ∷ []
+one-error = 1 ∷ k.ERROR ∷ 0 ∷ 3 ∷ 0 ∷ 3 ∷ k.ERROR ∷ 0 ∷ 3 ∷ 0 ∷ []
 
 abbrev merges : List ℕ → Merged → Bool
 merges l (unmerged n) = false
@@ -155,5 +155,5 @@ table =
     all (P1 ∷ P2 ∷ P3 ∷ P4 ∷ P5 ∷ P6 ∷ P7 ∷ P8 ∷ [])
     && same ((after base (desk P4 (EVENT * 6) 8)) .events) whole-4
     && merges whole-4 (merger whole-4 (EVENT * 6))
-    && holds (1 ∷ k.ERROR ∷ 22 ∷ 43 ∷ []) 29 ((after base (desk P8 (EVENT * 29) 8)) .events)
-    && merges one-error (merger two-errors 8)
+    && holds (1 ∷ k.ERROR ∷ 22 ∷ 43 ∷ 2 ∷ []) 29 ((after base (desk P8 (EVENT * 29) 8)) .events)
+    && merges one-error (merger two-errors (EVENT * 2))
