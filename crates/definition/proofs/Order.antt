@@ -10,7 +10,7 @@ use Rattle.kinds.specs.Kinds as kinds
 use Rattle.kinds.specs.Sets.{idOf}
 use Rattle.definition.specs.Run.{count, State, Reader, Mode, ok, failed, stopped, Stop, spent, deep, Event, opened, leaf, closed, bad, Choice, Next, end, other, hit, next, turn, pay, note, keep, emit, take, back, halt, if-ok, trivia, expected, unexpected, choose, charge, begin, finish, unless-optional, skip-to, swallow, first-names, recovered, recovery, eat-row, refuse-row, branch, or-else, loop, go-on, known, remember, memo-row, nodes, halted}
 pub use Rattle.definition.specs.Remaining.{Running}
-use Rattle.definition.proofs.Induct.{Kept}
+use Rattle.definition.proofs.Induct.{Joined, Kept}
 
 pub halted-not : (w : Stop) (m : Mode) → Running (halted w m) → ⊥
 halted-not w ok r = r
@@ -22,6 +22,21 @@ Plain (opened n) = Unit
 Plain (leaf a n) = Unit
 Plain (closed a n m) = Unit
 Plain (bad n c) = ⊥
+
+-- what each small change keeps, and a node around skipped rows
+pub record Parts (Q : State → State → Type 0) : Type 0 where
+  pub same : (s : State) → Q s s
+  pub trans : (s t u : State) → Q s t → Q t u → Q s u
+  pub at-turn : (m : Mode) (s : State) → Running (s .mode) → Q s (turn m s)
+  pub at-expected : (N : List ℕ) (s : State) → Q s (expected N s)
+  pub at-unexpected : (S : List ℕ) (s : State) (a : ℕ) (is : List ℕ) → next S (s .rest) ≡ hit a is → Q s (unexpected s)
+  pub at-choose : (s : State) → Q s (choose s)
+  pub at-keep : (r a : ℕ) (s : State) → Q s (keep ((r, a) ∷ s .cache) s)
+  pub at-trivia : (s : State) → Q s (trivia s)
+  pub at-take : (S : List ℕ) (s : State) (a : ℕ) (is : List ℕ) → s .mode ≡ ok → next S (s .rest) ≡ hit a is → Q s (take a is (trivia s))
+  pub at-skip : (S : List ℕ) (s : State) → Q s (skip-to S s)
+  pub at-back : (s t : State) → Q s t → Q s (back s t)
+  pub at-swallow : (d : ℕ) (o : Bool) (S : List ℕ) (s : State) → Q s (swallow d o S s)
 
 -- what each small change, and a node, keeps
 pub record Steps (Q : State → State → Type 0) : Type 0 where
@@ -53,7 +68,7 @@ pub record Order (Q : State → State → Type 0) : Type 0 where
   pub at-skip : (S : List ℕ) (s : State) → Q s (skip-to S s)
   pub at-back : (s t : State) → Q s t → Q s (back s t)
 
-module _ (Q : State → State → Type 0) (O : Steps Q) where
+module _ (Q : State → State → Type 0) (O : Parts Q) where
   abbrev pub Up : Reader → Type 0
   Up f = (s : State) → Q s (f s)
 
@@ -107,9 +122,9 @@ module _ (Q : State → State → Type 0) (O : Steps Q) where
       go failed t h = let b : State = back s (turn failed t) in O .trans s b (turn ok b) (O .at-back s (turn failed t) h) (O .at-turn ok b tt)
       go (stopped w) t h = O .at-back s (turn (stopped w) t) h
 
-  pub loop-up : (f : Reader) → Up f → (n : ℕ) → Up (loop f n)
-  loop-up f F zero s = O .same s
-  loop-up f F (suc n) s = go-on-up (loop f n) (loop-up f F n) s (f (trivia s)) (after f F s)
+  pub looped : (f : Reader) → Up f → (n : ℕ) → Up (loop f n)
+  looped f F zero s = O .same s
+  looped f F (suc n) s = go-on-up (loop f n) (looped f F n) s (f (trivia s)) (after f F s)
 
   remember-up : (r a : ℕ) → Up (remember r a)
   remember-up r a t = go (t .mode) t
@@ -123,9 +138,6 @@ module _ (Q : State → State → Type 0) (O : Steps Q) where
   memo-row-up a f F s e true = O .at-turn failed s (running (s .mode) e)
   memo-row-up a f F s e false = O .trans s (f s) (remember (length (s .rest)) a (f s)) (F s) (remember-up (length (s .rest)) a (f s))
 
-  pub swallow-up : (d : ℕ) (o : Bool) (S : List ℕ) → Up (swallow d o S)
-  swallow-up d o S = O .at-node d o kinds.ERROR (skip-to S) (λ t. O .at-skip S t)
-
   first-names-up : (c : List (ℕ × Choice)) (S : List ℕ) → Up (first-names c S)
   first-names-up [] S s = O .at-expected (map idOf S) s
   first-names-up (e ∷ es) S s = O .same s
@@ -137,32 +149,46 @@ module _ (Q : State → State → Type 0) (O : Steps Q) where
   recovered-up d o S (hit a is) (stopped w) s = O .at-choose s
   recovered-up d o S other m s =
       let t : State = first-names (s .chosen) S s in
-      O .trans s (choose t) (swallow d o S (choose t)) (O .trans s t (choose t) (first-names-up (s .chosen) S s) (O .at-choose t)) (swallow-up d o S (choose t))
+      O .trans s (choose t) (swallow d o S (choose t)) (O .trans s t (choose t) (first-names-up (s .chosen) S s) (O .at-choose t)) (O .at-swallow d o S (choose t))
 
-  pub recover-up : (d : ℕ) (o : Bool) (S : List ℕ) → Up (recovery d o S)
-  recover-up d o S s = go (s .mode) s
+  pub recovers : (d : ℕ) (o : Bool) (S : List ℕ) → Up (recovery d o S)
+  recovers d o S s = go (s .mode) s
     where
       go : (m : Mode) (s : State) → Q (turn m s) (recovery d o S (turn m s))
       go ok s = recovered-up d o S (next S (s .rest)) ok (turn ok s)
       go failed s = O .trans (turn failed s) (turn ok s) (recovered d o S (next S (s .rest)) failed (turn ok s)) (O .at-turn ok (turn failed s) tt) (recovered-up d o S (next S (s .rest)) failed (turn ok s))
       go (stopped w) s = O .same (turn (stopped w) s)
 
-  pub stepped : Kept Up
-  stepped = record {
-    at-id = λ s. O .same s;
+  pub joined : Joined Up
+  joined = record {
     at-eat = λ S N. guarded (λ s. eat-row N (next S (s .rest)) s) (λ s e. eat-row-up S N s e (next S (s .rest)) refl);
     at-unless = λ S. guarded (λ s. refuse-row (next S (s .rest)) s) (λ s e. refuse-row-up S s e (next S (s .rest)) refl);
     at-ifnext = λ S f F. guarded (λ s. branch (map idOf S) f (next S (s .rest)) s) (λ s e. branch-up (map idOf S) f F s (next S (s .rest)));
     at-opt = λ f F. guarded (λ s. or-else (λ t. t) s (f (trivia s))) (λ s e. or-else-up (λ t. t) (λ t. O .same t) s (f (trivia s)) (after f F s));
-    at-many = λ f F. guarded (λ s. loop f (suc (length (s .rest))) s) (λ s e. loop-up f F (suc (length (s .rest))) s);
+    at-many = λ f F. guarded (λ s. loop f (suc (length (s .rest))) s) (λ s e. looped f F (suc (length (s .rest))) s);
     at-then = λ f F. guarded (λ s. f (trivia s)) (λ s e. after f F s);
     at-seq = λ f g F G s. O .trans s (f s) (g (f s)) (F s) (G (f s));
     at-alt = λ f g F G. guarded (λ s. or-else g s (f (trivia s))) (λ s e. or-else-up g G s (f (trivia s)) (after f F s));
     at-fail = guarded (λ s. turn failed s) (λ s e. O .at-turn failed s (running (s .mode) e));
-    at-recover = recover-up;
+    at-recover = recovers;
     at-memo = λ a f F. guarded (λ s. memo-row a f (known (s .cache) (length (s .rest)) a) s) (λ s e. memo-row-up a f F s e (known (s .cache) (length (s .rest)) a));
-    at-node = O .at-node;
   }
+
+module _ (Q : State → State → Type 0) (O : Steps Q) where
+  pub swallow-up : (d : ℕ) (o : Bool) (S : List ℕ) (s : State) → Q s (swallow d o S s)
+  swallow-up d o S = O .at-node d o kinds.ERROR (skip-to S) (λ t. O .at-skip S t)
+
+  pub parts : Parts Q
+  parts = record { same = O .same; trans = O .trans; at-turn = O .at-turn; at-expected = O .at-expected; at-unexpected = O .at-unexpected; at-choose = O .at-choose; at-keep = O .at-keep; at-trivia = O .at-trivia; at-take = O .at-take; at-skip = O .at-skip; at-back = O .at-back; at-swallow = swallow-up }
+
+  pub loop-up : (f : Reader) → ((s : State) → Q s (f s)) → (n : ℕ) (s : State) → Q s (loop f n s)
+  loop-up = looped Q parts
+
+  pub recover-up : (d : ℕ) (o : Bool) (S : List ℕ) (s : State) → Q s (recovery d o S s)
+  recover-up = recovers Q parts
+
+  pub stepped : Kept (λ f. (s : State) → Q s (f s))
+  stepped = let J = joined Q parts in record { at-id = O .same; at-eat = J .at-eat; at-unless = J .at-unless; at-ifnext = J .at-ifnext; at-opt = J .at-opt; at-many = J .at-many; at-then = J .at-then; at-seq = J .at-seq; at-alt = J .at-alt; at-fail = J .at-fail; at-recover = J .at-recover; at-memo = J .at-memo; at-node = O .at-node }
 
 -- a step at a time, the writing of an event one of them
 module _ (Q : State → State → Type 0) (O : Order Q) where

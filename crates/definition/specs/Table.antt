@@ -155,5 +155,5 @@ table =
     all (P1 ∷ P2 ∷ P3 ∷ P4 ∷ P5 ∷ P6 ∷ P7 ∷ P8 ∷ [])
     && same ((after base (desk P4 (EVENT * 6) 8)) .events) whole-4
     && merges whole-4 (merger whole-4 (EVENT * 6))
-    && holds (1 ∷ k.ERROR ∷ 22 ∷ 43 ∷ 2 ∷ []) 29 ((after base (desk P8 (EVENT * 29) 8)) .events)
+    && holds (1 ∷ k.ERROR ∷ 22 ∷ 43 ∷ 3 ∷ []) 29 ((after base (desk P8 (EVENT * 29) 8)) .events)
     && merges one-error (merger two-errors (EVENT * 2))
