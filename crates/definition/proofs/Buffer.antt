@@ -3,12 +3,13 @@ use Prim.Native.Nat.{ℕ, zero, suc, _+_, _-_, _*_, _≤_, _<_}
 use mathlib.Core.Path.{_≡_, refl, ap, ap₂, sym, _∙_, subst}
 use mathlib.Core.List.{List, [], _∷_, _++_, append-nil, append-assoc}
 use mathlib.Core.Bool.{Bool, true, false}
-use lib.ListN.{length, set, length-set, length-append}
+use lib.Dec.{eqb}
+use lib.ListN.{length, getD, set, length-set, length-append}
 use native.Mathlib.Omega.{arith}
 use Rattle.kinds.specs.Kinds as kinds
 use Rattle.kinds.specs.Sets.{kindOf, trivial}
 use Rattle.shapes.specs.Sort as Sort
-use Rattle.shapes.specs.Shapes.{EVENT, KIND, END, Entry, event, flat}
+use Rattle.shapes.specs.Shapes.{EVENT, KIND, END, DEPTH, Entry, event, flat}
 use Rattle.definition.specs.Prog.{Prog, Production}
 use Rattle.definition.specs.Grammar.{rule-decl}
 use Rattle.definition.specs.Run.{State, Reader, Limits, Event, opened, leaf, closed, bad, Mode, ok, failed, stopped, next, past, trivia-out, trivia, seek-out, take, turn, charge, begin, finish, nodes, exec, run, Choice, stray, Next, end, other, hit, sought, seek, errors, rule-keywords, read-rule, stray-item, item-at, flush, again, item}
@@ -105,6 +106,33 @@ pub buffer-closed : (x : Source) (a n m j : ℕ) (inner before : List Event) →
     buffer x (closed a n m ∷ o) ≡ patch (EVENT * suc (length before)) a (span-end x n m) (buffer x o) ++ event Sort.END a (starts-at x n) (span-end x n m) (cell (height o - 1))
 unfolding buffered
 buffer-closed x a n m j inner before p = ap (λ (l : List ℕ). l ++ event Sort.END a (starts-at x n) (span-end x n m) (cell (height (inner ++ (opened j ∷ before)) - 1))) (reaches x (a, span-end x n m) j before [] inner p)
+
+-- THE DEPTH, out of what stands before the place
+cell-suc : (n : ℕ) → cell (cell n + 1) ≡ cell (suc n)
+cell-suc n = native.Mathlib.Nat.mod-add-mod n 4294967296 1 ∙ ap cell (native.Mathlib.Numerals.add-one n)
+
+-- the last event's sort and depth
+last-of : (l : List ℕ) (n : ℕ) (b : List ℕ) (s a c e d : ℕ) → length b ≡ EVENT * n → lib.ListN.take (EVENT * suc n) l ≡ b ++ event s a c e d → (getD l (EVENT * suc n - EVENT) 0 ≡ s) × (getD l (EVENT * suc n - EVENT + DEPTH) 0 ≡ d)
+last-of l n b s a c e d h t = (ap (λ (i : ℕ). getD l i 0) (sym (native.Mathlib.Nat.add-zero (EVENT * suc n - EVENT))) ∙ at 0 (omega arith), at DEPTH (omega arith))
+  where
+    at : (i : ℕ) → i < EVENT → getD l (EVENT * suc n - EVENT + i) 0 ≡ getD (event s a c e d) i 0
+    at i k =
+        sym (lib.Seq.getD-take (EVENT * suc n) l (EVENT * suc n - EVENT + i) 0 (omega (arith, k)))
+        ∙ ap₂ (λ (m : List ℕ) (j : ℕ). getD m j 0) t (omega (arith, h))
+        ∙ lib.Seq.getD-append-add b (event s a c e d) i 0
+
+next-behind : (l : List ℕ) (n : ℕ) (s d : ℕ) → (getD l (EVENT * suc n - EVENT) 0 ≡ s) × (getD l (EVENT * suc n - EVENT + DEPTH) 0 ≡ d) → next-depth l (EVENT * suc n) ≡ elim (eqb s Sort.BEGIN) [ true ↦ cell (d + 1) | false ↦ d ]
+next-behind l n s d p =
+    ap (λ (c : Bool). elim c [ true ↦ 1 | false ↦ elim (eqb (getD l (EVENT * suc n - EVENT) 0) Sort.BEGIN) [ true ↦ cell (getD l (EVENT * suc n - EVENT + DEPTH) 0 + 1) | false ↦ getD l (EVENT * suc n - EVENT + DEPTH) 0 ] ]) (borrow.Author.Tests.le-ltb (EVENT * suc n) EVENT (omega arith))
+    ∙ ap₂ (λ (i j : ℕ). elim (eqb i Sort.BEGIN) [ true ↦ cell (j + 1) | false ↦ j ]) (p .0) (p .1)
+
+pub next-is : (x : Source) (l : List ℕ) (o : List Event) → lib.ListN.take (EVENT * length o) l ≡ buffer x o → next-depth l (EVENT * length o) ≡ cell (height o)
+unfolding buffered
+next-is x l [] t = refl
+next-is x l (opened n ∷ o) t = next-behind l (length o) Sort.BEGIN (cell (height o)) (last-of l (length o) (buffered x [] o) Sort.BEGIN 0 (starts-at x n) (starts-at x n) (cell (height o)) (buffered-length x [] o) t) ∙ cell-suc (height o)
+next-is x l (leaf a n ∷ o) t = next-behind l (length o) Sort.TOKEN (cell (height o)) (last-of l (length o) (buffered x [] o) Sort.TOKEN a (starts-at x n) (ends-at x n) (cell (height o)) (buffered-length x [] o) t)
+next-is x l (closed a n m ∷ o) t = let st : List (ℕ × ℕ) = (a, span-end x n m) ∷ [] in next-behind l (length o) Sort.END (cell (height o - 1)) (last-of l (length o) (buffered x st o) Sort.END a (starts-at x n) (span-end x n m) (cell (height o - 1)) (buffered-length x st o) t)
+next-is x l (bad n c ∷ o) t = next-behind l (length o) Sort.ERROR (cell (height o)) (last-of l (length o) (buffered x [] o) Sort.ERROR (bads o) (starts-at x n) (ends-at x n) (cell (height o)) (buffered-length x [] o) t)
 
 -- FINISHED: where every node is closed, and none lies so deep that a cell cannot hold its depth
 abbrev pub Low : ℕ → List Event → Type 0
@@ -289,6 +317,17 @@ module _ (x : Source) (a : List Event) where
 
   pub buffer-back : (b : List Event) → Adds a b → lib.ListN.take (EVENT * length a) (buffer x b) ≡ buffer x a
   buffer-back b p = let g = buffer-grows b p in ap (lib.ListN.take (EVENT * length a)) (g .1) ∙ lib.Seq.take-at (buffer x a) (g .0) (EVENT * length a) (buffered-length x [] a)
+
+-- an open node's depth stands in its begin event
+pub begin-depth : (x : Source) (l : List ℕ) (p : ℕ) (o : List Event) → Open p o → lib.ListN.take (EVENT * length o) l ≡ buffer x o → getD l (p - EVENT + DEPTH) 0 ≡ cell (height o - 1)
+begin-depth x l p o w t =
+    let before : List Event = w .before in
+    let b : List Event = opened (w .row) ∷ before in
+    let e : height o ≡ suc (height before) = ap height (sym (w .added .joins)) ∙ height-nest 0 (w .added .new) b (w .added .nest 0) ∙ omega arith in
+    let n : EVENT * length b ≤ EVENT * length o = omega (arith, ap length (w .added .joins), length-append (w .added .new) b) in
+    let u : lib.ListN.take (EVENT * length b) l ≡ buffer x b = sym (lib.Seq.take-take (EVENT * length b) (EVENT * length o) l n) ∙ ap (lib.ListN.take (EVENT * length b)) t ∙ buffer-back x b o (w .added) in
+    let d = last-of l (length before) (buffer x before) Sort.BEGIN 0 (starts-at x (w .row)) (starts-at x (w .row)) (cell (height before)) (buffer-length x before) (u ∙ buffer-opened x (w .row) before) .1 in
+    ap (λ (i : ℕ). getD l (i - EVENT + DEPTH) 0) (w .place) ∙ d ∙ ap cell (omega (arith, e))
 
 -- items and the whole reading, at every moment between items
 errors-added : (c : List (ℕ × Choice)) (o : List Event) → Adds o (errors c o)
