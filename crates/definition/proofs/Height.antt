@@ -155,8 +155,11 @@ module _ (L : Limits) where
       go f (i ∷ is) (stopped w) s l h = l
 
   -- THE THEOREM: of the nodes open around any event of a reading there are at most two more than the limit allows besides SOURCE_FILE
+  pub standing-low : (r : List ℕ) (f n : ℕ) → Low (L .depth + 2) ((items L n (start r f)) .out)
+  standing-low r f n = items-low (L .depth + 2) n (start r f) (omega arith) (omega arith)
+
   pub read-low : (r : List ℕ) (f : ℕ) → Low (L .depth + 2) ((read L r f) .out)
-  read-low r f = items-low (L .depth + 2) (length r) (start r f) (omega arith) (omega arith)
+  read-low r f = standing-low r f (length r)
 
   -- so the buffer of a finished reading holds its events
   pub buffer-read : (x : Source) → L .depth + 2 < 4294967296 → (r : List ℕ) (f : ℕ) → buffer x ((read L r f) .out) ≡ flat (inside x ((read L r f) .out))

@@ -34,6 +34,10 @@ next-depth l at =
       | false ↦ elim (eqb (getD l (at - EVENT) 0) Sort.BEGIN) [ true ↦ cell (getD l (at - EVENT + DEPTH) 0 + 1) | false ↦ getD l (at - EVENT + DEPTH) 0 ]
     ]
 
+-- an event as it is written at a place
+abbrev pub placed : ℕ → ℕ → ℕ → ℕ → List ℕ → ℕ → List ℕ
+placed sort kind start end l at = event sort kind start end (next-depth l at)
+
 -- the stack holds kind and end of the nodes whose closing was met
 unfoldable pub buffered : Source → List (ℕ × ℕ) → List Event → List ℕ
 buffered x st [] = []

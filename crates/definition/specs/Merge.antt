@@ -11,8 +11,8 @@ use Rattle.shapes.specs.Refusal as Refusal
 use Rattle.shapes.specs.Shapes.{EVENT, Entry, flat, entries}
 
 -- how many nodes are open behind an event, where h are open before it
-abbrev pub opened : ℕ → Entry → ℕ
-opened h e = elim (eqb (e .0) Sort.BEGIN) [ true ↦ suc h | false ↦ elim (eqb (e .0) Sort.END) [ true ↦ h - 1 | false ↦ h ] ]
+abbrev pub open-behind : ℕ → Entry → ℕ
+open-behind h e = elim (eqb (e .0) Sort.BEGIN) [ true ↦ suc h | false ↦ elim (eqb (e .0) Sort.END) [ true ↦ h - 1 | false ↦ h ] ]
 
 -- its depth is the count of nodes open around it; an end's is one less than h, and there is none where "more ends than begins" are before
 abbrev pub deep : ℕ → Entry → Bool
@@ -22,7 +22,7 @@ deep h e = elim (eqb (e .0) Sort.END) [ true ↦ eqb (suc (e .4)) h | false ↦ 
 -- before it"; h nodes are open
 abbrev pub sound : ℕ → List Entry → Bool
 sound h [] = true
-sound h (e ∷ es) = leb Sort.BEGIN (e .0) && leb (e .0) Sort.ERROR && deep h e && sound (opened h e) es
+sound h (e ∷ es) = leb Sort.BEGIN (e .0) && leb (e .0) Sort.ERROR && deep h e && sound (open-behind h e) es
 
 abbrev pub well-formed : List ℕ → Bool
 well-formed l = eqb (length l % EVENT) 0 && sound 0 (entries l)

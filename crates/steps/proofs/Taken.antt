@@ -46,18 +46,18 @@ pub end-is : (x : Source) (n i : ℕ) → length (x .ids) - n ≡ i → i < leng
 end-is x n i e h = ap (λ (k : ℕ). getD (x .ends) k (length (x .bytes))) e ∙ getD-any (x .ends) i (length (x .bytes)) 0 h
 
 -- a row is written
-pub leaf-buffer : (x : Source) (p i : ℕ) (o : List Event) → Lines (x .ids) (x .ends) → p < length (x .ids) → buffer x (leaf i (suc (length (drop (suc p) (x .ids)))) ∷ o) ≡ buffer x o ++ event Sort.TOKEN i (getD (0 ∷ x .ends) p 0) (getD (x .ends) p 0)
+pub leaf-buffer : (x : Source) (p i : ℕ) (o : List Event) → Lines (x .ids) (x .ends) → p < length (x .ids) → buffer x (leaf i (suc (length (drop (suc p) (x .ids)))) ∷ o) ≡ buffer x o ++ event Sort.TOKEN i (getD (0 ∷ x .ends) p 0) (getD (x .ends) p 0) (cell (height o))
 leaf-buffer x p i o w h =
     let n : ℕ = suc (length (drop (suc p) (x .ids))) in
     let e : length (x .ids) - n ≡ p = row-next p (x .ids) h in
     buffer-leaf x i n o
-    ∙ ap₂ (λ (a z : ℕ). buffer x o ++ event Sort.TOKEN i a z) (start-is x n p e (omega (arith, w .level))) (end-is x n p e (omega (arith, w .level)))
+    ∙ ap₂ (λ (a z : ℕ). buffer x o ++ event Sort.TOKEN i a z (cell (height o))) (start-is x n p e (omega (arith, w .level))) (end-is x n p e (omega (arith, w .level)))
 
 -- a row is taken up
-pub took : (i at : ℕ) {p : Past} {x : Source} {s r : Whole} {ev ev′ er sc : List ℕ} {a : P.State} → Lines (x .ids) (x .ends) → at < length (x .ids) → Wf x (bufs ev er sc) s → Put (event Sort.TOKEN i (getD (0 ∷ x .ends) at 0) (getD (x .ends) at 0)) s r ev ev′ → Stands p x s (bufs ev er sc) a → Stands p x (withPos (at + 1) r) (bufs ev′ er sc) (P.take i (drop (suc at) (x .ids)) a)
+pub took : (i at : ℕ) {p : Past} {x : Source} {s r : Whole} {ev ev′ er sc : List ℕ} {a : P.State} → Lines (x .ids) (x .ends) → at < length (x .ids) → Wf x (bufs ev er sc) s → Put (placed Sort.TOKEN i (getD (0 ∷ x .ends) at 0) (getD (x .ends) at 0) ev (s .ev)) s r ev ev′ → Stands p x s (bufs ev er sc) a → Stands p x (withPos (at + 1) r) (bufs ev′ er sc) (P.take i (drop (suc at) (x .ids)) a)
 took i at {p} {x} {s} {r} {ev} {ev′} {er} {sc} {a} l h w u t =
     subst (λ (k : ℕ). Stands p x (withPos (at + 1) r) (bufs ev′ er sc) (P.take i (drop k (x .ids)) a)) (add-one at)
-    (moved (at + 1) (emitted u w t (leaf i (suc (length (drop (at + 1) (x .ids))))) tt (λ z. ap (λ (b : List ℕ). b ++ event Sort.TOKEN i (getD (0 ∷ x .ends) at 0) (getD (x .ends) at 0)) (t .means z .written .is) ∙ sym (ap (λ (k : ℕ). buffer x (leaf i (suc (length (drop k (x .ids)))) ∷ a .out)) (add-one at) ∙ leaf-buffer x at i (a .out) l h))))
+    (moved (at + 1) (emitted u w t (leaf i (suc (length (drop (at + 1) (x .ids))))) tt (λ z. ap₂ (λ (b : List ℕ) (d : ℕ). b ++ event Sort.TOKEN i (getD (0 ∷ x .ends) at 0) (getD (x .ends) at 0) d) (t .means z .written .is) (depth-is w (t .means z)) ∙ sym (ap (λ (k : ℕ). buffer x (leaf i (suc (length (drop k (x .ids)))) ∷ a .out)) (add-one at) ∙ leaf-buffer x at i (a .out) l h))))
 
 pub ok-took : {q : List ℕ} {s r : Whole} {ev ev′ : List ℕ} (n at : ℕ) → Put q s r ev ev′ → s .first ≤ at → at < n → Ok n s → Ok n (withPos (at + 1) r)
 ok-took n at u h k w =
@@ -153,11 +153,11 @@ taking g l w h =
 
 module _ {g : P.Reader} {x : Source} {s₀ s : Whole} {ev₀ ev : List ℕ} (k : Taking g x s₀ s ev₀ ev) where
   -- a row is taken up as kind i, and g goes on behind it
-  pub takes : (i st : ℕ) {r : Whole} {ev′ : List ℕ} → s .pos < length (x .ids) → st ≡ getD (0 ∷ x .ends) (s .pos) 0 → Put (event Sort.TOKEN i st (getD (x .ends) (s .pos) 0)) s r ev ev′
+  pub takes : (i st : ℕ) {r : Whole} {ev′ : List ℕ} → s .pos < length (x .ids) → st ≡ getD (0 ∷ x .ends) (s .pos) 0 → Put (placed Sort.TOKEN i st (getD (x .ends) (s .pos) 0) ev (s .ev)) s r ev ev′
       → ((er sc : List ℕ) (p : Past) (a : P.State) → Wf x (bufs ev er sc) s → Stands p x s (bufs ev er sc) a → Like p x (g (P.take i (drop (suc (s .pos)) (x .ids)) a)) (g a))
       → Taking g x s₀ (withPos (s .pos + 1) r) ev₀ ev′
   takes i st {r} {ev′} h q v step =
-      let u = subst (λ (j : ℕ). Put (event Sort.TOKEN i j (getD (x .ends) (s .pos) 0)) s r ev ev′) q v in
+      let u = subst (λ (j : ℕ). Put (placed Sort.TOKEN i j (getD (x .ends) (s .pos) 0) ev (s .ev)) s r ev ev′) q v in
       let caps = caps-put u in
       record {
         does = λ er sc w p a t.
@@ -200,7 +200,7 @@ module _ {g : P.Reader} {x : Source} {s₀ s : Whole} {ev₀ ev : List ℕ} (k :
 
 -- trivia in a row: one is taken up, none is left, or none are skipped
 module _ {x : Source} {s₀ s : Whole} {ev₀ ev : List ℕ} (k : Taking P.trivia x s₀ s ev₀ ev) (good : s₀ .mode ≡ 0) where
-  pub trivia-on : (st : ℕ) {r : Whole} {ev′ : List ℕ} → s .pos < length (x .ids) → trivial (getD (x .ids) (s .pos) 0) ≡ true → st ≡ getD (0 ∷ x .ends) (s .pos) 0 → Put (event Sort.TOKEN (getD (x .ids) (s .pos) 0) st (getD (x .ends) (s .pos) 0)) s r ev ev′ → Taking P.trivia x s₀ (withPos (s .pos + 1) r) ev₀ ev′
+  pub trivia-on : (st : ℕ) {r : Whole} {ev′ : List ℕ} → s .pos < length (x .ids) → trivial (getD (x .ids) (s .pos) 0) ≡ true → st ≡ getD (0 ∷ x .ends) (s .pos) 0 → Put (placed Sort.TOKEN (getD (x .ids) (s .pos) 0) st (getD (x .ends) (s .pos) 0) ev (s .ev)) s r ev ev′ → Taking P.trivia x s₀ (withPos (s .pos + 1) r) ev₀ ev′
   trivia-on st h y q u =
       takes k (getD (x .ids) (s .pos) 0) st h q u
       (λ er sc p a w t. trivia-step (getD (x .ids) (s .pos) 0) (drop (suc (s .pos)) (x .ids)) w t (λ z. (t .means z .mode ∙ ap modeOf (k .mode ∙ good), t .means z .rest ∙ drop-cons (x .ids) (s .pos) 0 h)) y)
