@@ -1,21 +1,22 @@
 -- Rows taken, trivia skipped, nodes begun and closed: from what the code wrote to what it means. Assumes nothing.
-use Prim.Native.Nat.{ℕ, zero, suc, _+_, _-_, _*_, _≤_, _<_}
+use Prim.Native.Nat.{ℕ, zero, suc, _+_, _-_, _*_, _%_, _≤_, _<_}
 use mathlib.Core.Path.{_≡_, refl, sym, ap, ap₂, subst, _∙_}
 use mathlib.Core.List.{List, [], _∷_, _++_}
 use mathlib.Core.Bool.{Bool, true, false}
 use native.Mathlib.Nat.{le-refl, le-trans, le-of-eq}
 use native.Mathlib.Omega.{arith}
 use native.Mathlib.Numerals.{add-one, sub-one}
+use borrow.Author.Tests.{lt-ltb, le-ltb, eq-eqb, ne-eqb}
 use lib.Dec.{eqb}
 use lib.ListN.{length, getD, take, drop, set, length-set, length-append, length-drop, drop-of-length-le, replicate}
 use lib.Seq.{take-take, drop-cons, length-take-le}
 use Rattle.kinds.specs.Sets.{trivial}
 use Rattle.shapes.specs.Sort as Sort
-use Rattle.shapes.specs.Shapes.{event}
+use Rattle.shapes.specs.Shapes.{EVENT, DEPTH, event}
 use Rattle.definition.specs.Run as P
 use Rattle.definition.specs.Run.{Event, opened, leaf, closed, bad, Mode, ok, failed, stopped, Stop, spent, deep}
 use Rattle.definition.specs.Render.{Source, starts-at, ends-at, span-end, said, held, used}
-use Rattle.definition.specs.Buffer.{buffer}
+use Rattle.definition.specs.Buffer.{height, cell, next-depth, placed, buffer}
 use Rattle.definition.proofs.Buffer.{buffer-leaf, buffer-opened}
 use Rattle.definition.proofs.Gap.{gap, gap-out}
 use Rattle.notes.specs.Whole.{Whole}
@@ -26,7 +27,7 @@ use Rattle.notes.proofs.Lists.{getD-any}
 use Rattle.notes.proofs.Peeks.{skip-yes, skip-no}
 use Rattle.notes.proofs.Rooms.{fits, marked, still, thin, first-of, spill}
 use Rattle.notes.proofs.Sticky.{sticky-trans, sticky-trivia, sticky-take}
-use Rattle.notes.proofs.Core.{bare, Like, like-same, like-trans, like-at, alike, idle, then, emitted, moved, ok-put, wf-put, caps-put}
+use Rattle.notes.proofs.Core.{bare, Like, like-same, like-trans, like-at, alike, idle, then, depth-is, emitted, moved, ok-put, wf-put, caps-put}
 use Rattle.notes.proofs.Naming.{none-named}
 use Rattle.steps.specs.declared.state.State.{State}
 use Rattle.steps.specs.Steps.{whole, onTo, Fits}
@@ -44,6 +45,23 @@ start-is x n i e h = ap (λ (k : ℕ). getD (0 ∷ x .ends) k (length (x .bytes)
 
 pub end-is : (x : Source) (n i : ℕ) → length (x .ids) - n ≡ i → i < length (x .ends) → ends-at x n ≡ getD (x .ends) i 0
 end-is x n i e h = ap (λ (k : ℕ). getD (x .ends) k (length (x .bytes))) e ∙ getD-any (x .ends) i (length (x .bytes)) 0 h
+
+-- the depth as `around` finds it
+module _ (l : List ℕ) (at : ℕ) where
+  pub around-first : at < EVENT → 1 ≡ next-depth l at
+  around-first h = sym (ap (λ (c : Bool). elim c as (λ _. ℕ) [ true ↦ 1 | false ↦ elim (eqb (getD l (at - EVENT) 0) Sort.BEGIN) as (λ _. ℕ) [ true ↦ cell (getD l (at - EVENT + DEPTH) 0 + 1) | false ↦ getD l (at - EVENT + DEPTH) 0 ] ]) (lt-ltb at EVENT h))
+
+  behind : (c : Bool) → EVENT ≤ at → eqb (getD l (at - EVENT) 0) Sort.BEGIN ≡ c → next-depth l at ≡ elim c as (λ _. ℕ) [ true ↦ cell (getD l (at - EVENT + DEPTH) 0 + 1) | false ↦ getD l (at - EVENT + DEPTH) 0 ]
+  behind c h e = ap₂ (λ (b d : Bool). elim b as (λ _. ℕ) [ true ↦ 1 | false ↦ elim d as (λ _. ℕ) [ true ↦ cell (getD l (at - EVENT + DEPTH) 0 + 1) | false ↦ getD l (at - EVENT + DEPTH) 0 ] ]) (le-ltb at EVENT h) e
+
+  pub around-begin : EVENT ≤ at → getD l (at - EVENT) 0 ≡ Sort.BEGIN → (getD l (at - EVENT + DEPTH) 0 + 1) % 4294967296 ≡ next-depth l at
+  around-begin h e = sym (behind true h (eq-eqb (getD l (at - EVENT) 0) Sort.BEGIN e))
+
+  pub around-other : EVENT ≤ at → (getD l (at - EVENT) 0 ≡ Sort.BEGIN → ⊥) → getD l (at - EVENT + DEPTH) 0 ≡ next-depth l at
+  around-other h n = sym (behind false h (ne-eqb (getD l (at - EVENT) 0) Sort.BEGIN n))
+
+pub put-at : (d : ℕ) {a b c e at : ℕ} {s r : Whole} {ev ev′ : List ℕ} → d ≡ next-depth ev at → Put (event a b c e d) s r ev ev′ → Put (placed a b c e ev at) s r ev ev′
+put-at d {a} {b} {c} {e} {at} {s} {r} {ev} {ev′} q u = subst (λ (i : ℕ). Put (event a b c e i) s r ev ev′) q u
 
 -- a row is written
 pub leaf-buffer : (x : Source) (p i : ℕ) (o : List Event) → Lines (x .ids) (x .ends) → p < length (x .ids) → buffer x (leaf i (suc (length (drop (suc p) (x .ids)))) ∷ o) ≡ buffer x o ++ event Sort.TOKEN i (getD (0 ∷ x .ends) p 0) (getD (x .ends) p 0) (cell (height o))
