@@ -2,7 +2,7 @@
 """Writes crates/definition/specs/Cases.antt from a folder of cases: cases.py FOLDER [--check].
 
 A case is NAME.yar (the source), NAME.rows (its rows, and the fuel) and NAME.raw (the listing, not merged, of a copy of the Rust that
-keeps empty ERROR nodes). With --check nothing is written; the tool only says whether the file is what the folder gives.
+keeps empty ERROR nodes). An event's depth, which the listing does not show, is counted here from its begins and ends. With --check nothing is written; the tool only says whether the file is what the folder gives.
 """
 import sys
 from pathlib import Path
@@ -54,15 +54,17 @@ def fields(path):
 
 def case(folder, stem):
     rows = fields(folder / f"{stem}.rows")
-    events, errors, records = [], [], 0
+    events, errors, records, depth = [], [], 0, 0
     for f in fields(folder / f"{stem}.raw")[1:-1]:
         if f[0] == "X":
             names = [] if f[4] == "-" else f[4].split(",")
-            events.append(f"4 ∷ {records} ∷ {f[2]} ∷ {f[3]}")
+            events.append(f"4 ∷ {records} ∷ {f[2]} ∷ {f[3]} ∷ {depth}")
             errors += [f[2], f[3], f[1], len(names)] + [name(n) for n in names] + f[5:]
             records += 1
         else:
-            events.append(f"{SORTS[f[0]]} ∷ {name(f[1])} ∷ {f[2]} ∷ {f[3]}")
+            depth -= f[0] == "E"
+            events.append(f"{SORTS[f[0]]} ∷ {name(f[1])} ∷ {f[2]} ∷ {f[3]} ∷ {depth}")
+            depth += f[0] == "B"
     outcome, covered, left = fields(folder / f"{stem}.raw")[-1][1:]
     text = (folder / f"{stem}.yar").read_text().replace("\\", "\\\\").replace('"', '\\"').replace("\n", "\\n")
     title = stem.split("-", 1)[1]

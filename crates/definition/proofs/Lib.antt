@@ -19,6 +19,7 @@ pub mod Takes
 pub mod Suffix
 pub mod Tidy
 pub mod Buffer
+pub mod Height
 pub mod Shown
 pub mod Cut
 pub mod Text

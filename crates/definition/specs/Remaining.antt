@@ -59,7 +59,7 @@ remaining d s scratch events errors =
 
 -- "places and record numbers shifted": by p places and c records
 abbrev pub shift : ℕ → ℕ → Entry → Entry
-shift p c q = (q .0, elim (eqb (q .0) Sort.ERROR) as (λ _. ℕ) [ true ↦ q .1 + c | false ↦ q .1 ], p + q .2, p + q .3)
+shift p c q = (q .0, elim (eqb (q .0) Sort.ERROR) as (λ _. ℕ) [ true ↦ q .1 + c | false ↦ q .1 ], p + q .2, p + q .3, q .4)
 
 abbrev pub shifts : ℕ → ℕ → List Entry → List Entry
 shifts p c [] = []
@@ -71,7 +71,7 @@ shift-records p (q ∷ l) = (p + q .0, p + q .1, q .2, q .3, map (λ i. p + i) (
 
 -- a list "inside SOURCE_FILE", z the source's length
 abbrev pub in-file : ℕ → List Entry → List Entry
-in-file z l = (Sort.BEGIN, k.SOURCE-FILE, 0, z) ∷ l ++ ((Sort.END, k.SOURCE-FILE, 0, z) ∷ [])
+in-file z l = (Sort.BEGIN, k.SOURCE-FILE, 0, z, 0) ∷ l ++ ((Sort.END, k.SOURCE-FILE, 0, z, 0) ∷ [])
 
 -- r is the desk's reading, r′ that of the remaining rows where the reader stands at s
 pub record Continued (L : Limits) (d : Desk) (s : State) (r r′ : Reading) : Type 0 where
@@ -99,10 +99,10 @@ Solid [] = ⊥
 Solid (i ∷ []) = trivial i ≡ false
 Solid (i ∷ j ∷ js) = Solid (j ∷ js)
 
--- the events of the rows j, before the rows r
-abbrev pub tokens : Source → List ℕ → List ℕ → List Entry
-tokens x [] r = []
-tokens x (i ∷ j) r = let n = suc (length (j ++ r)) in (Sort.TOKEN, kindOf i, starts-at x n, ends-at x n) ∷ tokens x j r
+-- the events of the rows j, before the rows r, in so many nodes
+abbrev pub tokens : Source → ℕ → List ℕ → List ℕ → List Entry
+tokens x h [] r = []
+tokens x h (i ∷ j) r = let n = suc (length (j ++ r)) in (Sort.TOKEN, kindOf i, starts-at x n, ends-at x n, h) ∷ tokens x h j r
 
 -- "one error, one ERROR node": the run j before the rows r, c records before it
 abbrev pub junk-error : Source → List ℕ → List ℕ → Rec
@@ -113,7 +113,7 @@ junk-events x c j r =
     let n = length (j ++ r) in
     let a = starts-at x n in
     let z = span-end x n (length r) in
-    (Sort.ERROR, c, a, ends-at x n) ∷ (Sort.BEGIN, k.ERROR, a, z) ∷ tokens x j r ++ ((Sort.END, k.ERROR, a, z) ∷ [])
+    (Sort.ERROR, c, a, ends-at x n, 1) ∷ (Sort.BEGIN, k.ERROR, a, z, 1) ∷ tokens x 2 j r ++ ((Sort.END, k.ERROR, a, z, 1) ∷ [])
 
 -- v is where the reader stands behind the run: not stopped, with the fuel that it had
 pub record Junk (L : Limits) (d : Desk) (s v : State) (j r : List ℕ) : Type 0 where
@@ -123,4 +123,4 @@ pub record Junk (L : Limits) (d : Desk) (s v : State) (j r : List ℕ) : Type 0 
   pub gap : List ℕ
   pub front : s .rest ≡ gap ++ (j ++ r)
   pub errors : recorded L d v ≡ recorded L d s ++ (junk-error (source-of d) j r ∷ [])
-  pub events : written d v ≡ written d s ++ (tokens (source-of d) gap (j ++ r) ++ junk-events (source-of d) (length (recorded L d s)) j r)
+  pub events : written d v ≡ written d s ++ (tokens (source-of d) 1 gap (j ++ r) ++ junk-events (source-of d) (length (recorded L d s)) j r)

@@ -91,14 +91,14 @@ abbrev pub bads : List Event → ℕ
 bads es = length (faults es)
 
 -- written from the last event to the first: the stack holds kind and end of the nodes whose closing was met, so that a begin has them "at both
--- events"; l is what stands behind. An error's index is how many records are before
+-- events"; l is what stands behind. An error's index is how many records are before. What is open around an event are these nodes and SOURCE_FILE
 abbrev pub render : Source → List (ℕ × ℕ) → List Event → List Entry → List Entry
 render x st [] l = l
 render x [] (opened n ∷ es) l = render x [] es l
-render x (t ∷ st) (opened n ∷ es) l = render x st es ((Sort.BEGIN, t .0, starts-at x n, t .1) ∷ l)
-render x st (leaf a n ∷ es) l = render x st es ((Sort.TOKEN, a, starts-at x n, ends-at x n) ∷ l)
-render x st (closed a n m ∷ es) l = render x ((a, span-end x n m) ∷ st) es ((Sort.END, a, starts-at x n, span-end x n m) ∷ l)
-render x st (bad n c ∷ es) l = render x st es ((Sort.ERROR, bads es, starts-at x n, ends-at x n) ∷ l)
+render x (t ∷ st) (opened n ∷ es) l = render x st es ((Sort.BEGIN, t .0, starts-at x n, t .1, suc (length st)) ∷ l)
+render x st (leaf a n ∷ es) l = render x st es ((Sort.TOKEN, a, starts-at x n, ends-at x n, suc (length st)) ∷ l)
+render x st (closed a n m ∷ es) l = render x ((a, span-end x n m) ∷ st) es ((Sort.END, a, starts-at x n, span-end x n m, suc (length st)) ∷ l)
+render x st (bad n c ∷ es) l = render x st es ((Sort.ERROR, bads es, starts-at x n, ends-at x n, suc (length st)) ∷ l)
 
 abbrev pub record-of : Limits → Source → ℕ → Choice → Rec
 record-of L x n c =
@@ -134,7 +134,7 @@ rendered L x s =
       covered = length (x .ids) - length (s .rest);
       left = s .fuel;
       events =
-          (Sort.BEGIN, k.SOURCE-FILE, 0, length (x .bytes)) ∷ inside x (s .out) ++ ((Sort.END, k.SOURCE-FILE, 0, length (x .bytes)) ∷ []);
+          (Sort.BEGIN, k.SOURCE-FILE, 0, length (x .bytes), 0) ∷ inside x (s .out) ++ ((Sort.END, k.SOURCE-FILE, 0, length (x .bytes), 0) ∷ []);
       errors = records L x (s .out) [];
     }
 

@@ -180,22 +180,22 @@ importing = statements "import" k.IMPORT-KW 6
 abbrev including : List Case
 including = statements "include" k.INCLUDE-KW 7
 
--- "P4 whole"
+-- "P4 whole", each event with its depth
 abbrev whole-4 : List ℕ
 whole-4 =
-    1 ∷ k.SOURCE-FILE ∷ 0 ∷ 22
-    ∷ 1 ∷ k.ERROR ∷ 0 ∷ 0
-    ∷ 1 ∷ k.ERROR ∷ 0 ∷ 0
-    ∷ 3 ∷ k.ERROR ∷ 0 ∷ 0
-    ∷ 3 ∷ k.ERROR ∷ 0 ∷ 0
-    ∷ 3 ∷ k.SOURCE-FILE ∷ 0 ∷ 22 ∷ []
+    1 ∷ k.SOURCE-FILE ∷ 0 ∷ 22 ∷ 0
+    ∷ 1 ∷ k.ERROR ∷ 0 ∷ 0 ∷ 1
+    ∷ 1 ∷ k.ERROR ∷ 0 ∷ 0 ∷ 2
+    ∷ 3 ∷ k.ERROR ∷ 0 ∷ 0 ∷ 2
+    ∷ 3 ∷ k.ERROR ∷ 0 ∷ 0 ∷ 1
+    ∷ 3 ∷ k.SOURCE-FILE ∷ 0 ∷ 22 ∷ 0 ∷ []
 
 -- "Merger on ERROR 0..1, ERROR 1..3, empty: one ERROR 0..3."
 abbrev two-errors : List ℕ
-two-errors = 1 ∷ k.ERROR ∷ 0 ∷ 1 ∷ 3 ∷ k.ERROR ∷ 0 ∷ 1 ∷ 1 ∷ k.ERROR ∷ 1 ∷ 3 ∷ 3 ∷ k.ERROR ∷ 1 ∷ 3 ∷ []
+two-errors = 1 ∷ k.ERROR ∷ 0 ∷ 1 ∷ 0 ∷ 3 ∷ k.ERROR ∷ 0 ∷ 1 ∷ 0 ∷ 1 ∷ k.ERROR ∷ 1 ∷ 3 ∷ 0 ∷ 3 ∷ k.ERROR ∷ 1 ∷ 3 ∷ 0 ∷ []
 
 abbrev one-error : List ℕ
-one-error = 1 ∷ k.ERROR ∷ 0 ∷ 3 ∷ 3 ∷ k.ERROR ∷ 0 ∷ 3 ∷ []
+one-error = 1 ∷ k.ERROR ∷ 0 ∷ 3 ∷ 0 ∷ 3 ∷ k.ERROR ∷ 0 ∷ 3 ∷ 0 ∷ []
 
 abbrev merges : List ℕ → Merged → Bool
 merges l (unmerged n) = false
@@ -211,10 +211,10 @@ table =
     all (P1 ∷ P2 ∷ P3 ∷ P4 ∷ P5 ∷ P6 ∷ P7 ∷ P8 ∷ [])
     && same ((after base (desk P4 (EVENT * 6) 8)) .events) whole-4
     && merges whole-4 (merger whole-4 (EVENT * 6))
-    && holds (1 ∷ k.ERROR ∷ 22 ∷ 43 ∷ []) 29 ((after base (desk P8 (EVENT * 29) 8)) .events)
-    && merges one-error (merger two-errors 8)
+    && holds (1 ∷ k.ERROR ∷ 22 ∷ 43 ∷ 3 ∷ []) 29 ((after base (desk P8 (EVENT * 29) 8)) .events)
+    && merges one-error (merger two-errors (EVENT * 2))
     && all (importing ++ including)
-    && holds (1 ∷ k.IMPORT-STMT ∷ 0 ∷ 11 ∷ []) 7 ((after base (desk (alone "import" k.IMPORT-KW 6 1 0 3 0 7 0 []) 28 8)) .events)
-    && holds (1 ∷ k.ERROR ∷ 0 ∷ 6 ∷ []) 23 ((after base (desk (bare "import" k.IMPORT-KW 6 6 0 10 0 23 1 []) 92 8)) .events)
-    && holds (1 ∷ k.ERROR ∷ 0 ∷ 13 ∷ []) 27 ((after base (desk (swallowed "import" k.IMPORT-KW 6) 108 8)) .events)
-    && holds (1 ∷ k.INCLUDE-STMT ∷ 0 ∷ 12 ∷ []) 7 ((after base (desk (alone "include" k.INCLUDE-KW 7 1 0 3 0 7 0 []) 28 8)) .events)
+    && holds (1 ∷ k.IMPORT-STMT ∷ 0 ∷ 11 ∷ 1 ∷ []) 7 ((after base (desk (alone "import" k.IMPORT-KW 6 1 0 3 0 7 0 []) (EVENT * 7) 8)) .events)
+    && holds (1 ∷ k.ERROR ∷ 0 ∷ 6 ∷ 1 ∷ []) 23 ((after base (desk (bare "import" k.IMPORT-KW 6 6 0 10 0 23 1 []) (EVENT * 23) 8)) .events)
+    && holds (1 ∷ k.ERROR ∷ 0 ∷ 13 ∷ 1 ∷ []) 27 ((after base (desk (swallowed "import" k.IMPORT-KW 6) (EVENT * 27) 8)) .events)
+    && holds (1 ∷ k.INCLUDE-STMT ∷ 0 ∷ 12 ∷ 1 ∷ []) 7 ((after base (desk (alone "include" k.INCLUDE-KW 7 1 0 3 0 7 0 []) (EVENT * 7) 8)) .events)

@@ -13,7 +13,8 @@ use lib.Seq.{take-take}
 use Rattle.shapes.specs.Shapes.{EVENT, event, Rec}
 use Rattle.definition.specs.Run as P
 use Rattle.definition.specs.Run.{Event, opened, leaf, closed, bad, Limits}
-use Rattle.definition.specs.Buffer.{buffer}
+use Rattle.definition.specs.Buffer.{height, cell, next-depth, buffer}
+use Rattle.definition.proofs.Buffer.{next-is}
 use Rattle.definition.specs.Render.{Source, records, said, held, used, exceeds, over}
 use Rattle.notes.specs.Whole.{Whole, beside}
 use Rattle.notes.specs.Bits.{ifb}
@@ -113,7 +114,7 @@ quiet-said L x (leaf a n) o q = refl
 quiet-said L x (closed a n m) o q = refl
 quiet-said L x (bad n c) o q = absurd q
 
--- four numbers more: what `write` returns
+-- an event more: what `write` returns
 module _ (at cap full : ℕ) (ev : List ℕ) where
   pub pen-not : (q : List ℕ) → at ≤ cap → (full ≡ 0 → ⊥) → Penned q at cap full at full ev ev
   pen-not q h f = record { stuck = λ n. refl; filled = λ z. absurd (f z); room = λ z. z; wrote = λ z. absurd (f z); more = λ z. absurd (f z); fits = h; grows = le-refl _; long = refl; kept = refl }
@@ -121,18 +122,18 @@ module _ (at cap full : ℕ) (ev : List ℕ) where
   pub pen-full : (q : List ℕ) → full ≡ 0 → at ≤ cap → cap < at + EVENT → Penned q at cap full at 7 ev ev
   pen-full q z h l = record { stuck = λ n. absurd (n z); filled = λ y. ap (λ (c : Bool). ifb c 7 0) (sym (lt-ltb cap (at + EVENT) l)); room = λ y. absurd (omega arith); wrote = λ y. absurd (omega arith); more = λ y. absurd (omega arith); fits = h; grows = le-refl _; long = refl; kept = refl }
 
-  pub pen-event : (a b c d : ℕ) → full ≡ 0 → at + EVENT ≤ cap → cap ≤ length ev → Penned (event a b c d) at cap full (at + EVENT) full ev (stored ev at a b c d)
-  pen-event a b c d z f l =
+  pub pen-event : (a b c d e : ℕ) → full ≡ 0 → at + EVENT ≤ cap → cap ≤ length ev → Penned (event a b c d e) at cap full (at + EVENT) full ev (stored ev at a b c d e)
+  pen-event a b c d e z f l =
       record {
         stuck = λ n. refl;
         filled = λ y. z ∙ ap (λ (t : Bool). ifb t 7 0) (sym (le-ltb cap (at + EVENT) f));
         room = λ y. z;
-        wrote = λ y. take-event ev at a b c d (le-trans f l);
+        wrote = λ y. take-event ev at a b c d e (le-trans f l);
         more = λ y. refl;
         fits = f;
         grows = omega arith;
-        long = length-event ev at a b c d;
-        kept = keep-event ev at a b c d;
+        long = length-event ev at a b c d e;
+        kept = keep-event ev at a b c d e;
       }
 
 -- and what that is in a state
@@ -158,6 +159,12 @@ sound l s w = (
   record { events = le-refl _; since = w .2 .since; errors = w .2 .errors },
 )
 
+-- the depth at which the next event stands
+pub depth-is : {p : Past} {x : Source} {s : Whole} {b : Bufs} {a : P.State} → Wf x b s → Means p x s b a → next-depth (b .events) (s .ev) ≡ cell (height (a .out))
+depth-is {p} {x} {s} {b} {a} w m =
+    let e : s .ev ≡ EVENT * length (a .out) = omega (arith, ev-count w m) in
+    ap (next-depth (b .events)) e ∙ next-is x (b .events) (a .out) (ap (λ (i : ℕ). take i (b .events)) (sym e) ∙ m .written .is)
+
 module _ {q : List ℕ} {s r : Whole} {ev ev′ : List ℕ} (u : Put q s r ev ev′) where
   pub ok-put : {n : ℕ} → Ok n s → Ok n r
   ok-put {n} w = subst (λ (t : Whole). Ok n t) (sym (u .is)) (w .0, w .1, record { events = u .fits; since = w .2 .since; errors = w .2 .errors })
@@ -168,7 +175,7 @@ module _ {q : List ℕ} {s r : Whole} {ev ev′ : List ℕ} (u : Put q s r ev ev
   pub wf-put : (x : Source) (er sc : List ℕ) → Wf x (bufs ev er sc) s → Wf x (bufs ev′ er sc) r
   wf-put x er sc w = (ok-put (w .0), record { events = omega (arith, w .1 .events, caps-put .0, u .long); errors = omega (arith, w .1 .errors, caps-put .1); scratch = w .1 .scratch })
 
-  -- the room that an event exceeds is found where its four numbers are written
+  -- the room that an event exceeds is found where its numbers are written
   module _ {p : Past} {x : Source} {ev₀ er sc : List ℕ} {a : P.State} (w : Wf x (bufs ev₀ er sc) s) (t : Stands p x s (bufs ev₀ er sc) a) (v : Event) (k : Quiet v) where
     put-over : r .full ≡ overOf p x (P.emit v a)
     unfolding overOf

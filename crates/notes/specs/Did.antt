@@ -125,7 +125,7 @@ pub record Both (f : P.Reader) (x : Source) (s r : Whole) (ev ev′ er er′ : L
   pub event-fits : r .evcap ≤ length ev′
   pub error-fits : r .ercap ≤ length er′
 
--- four numbers were written at a place, if there was room up to cap
+-- numbers were written at a place, if there was room for an event up to cap
 pub record Penned (q : List ℕ) (at cap full at′ full′ : ℕ) (ev ev′ : List ℕ) : Type 0 where
   pub stuck : (full ≡ 0 → ⊥) → full′ ≡ full
   pub filled : full ≡ 0 → full′ ≡ ifb (ltb cap (at + EVENT)) 7 0
@@ -137,7 +137,7 @@ pub record Penned (q : List ℕ) (at cap full at′ full′ : ℕ) (ev ev′ : L
   pub long : length ev′ ≡ length ev
   pub kept : take at ev′ ≡ take at ev
 
--- four numbers were written at the end of the events, if there was room
+-- numbers were written at the end of the events, if there was room for an event
 pub record Put (q : List ℕ) (s r : Whole) (ev ev′ : List ℕ) : Type 0 where
   pub is : r ≡ withEv (r .ev) (withFull (r .full) s)
   pub stuck : (s .full ≡ 0 → ⊥) → r .full ≡ s .full

@@ -11,8 +11,8 @@ use lib.ListN.{length, getD, drop, length-append, drop-of-length-le}
 use lib.Seq.{drop-append-seam, drop-length, drop-drop, getD-append-add, getD-drop}
 use Rattle.shapes.specs.Shapes.{EVENT, Entry, event, flat, entries, HEAD, FORM, COUNT, Rec, flat-records, behind, recordSize, next-record}
 
-pub event-length : (sort kind start end : ℕ) → length (event sort kind start end) ≡ EVENT
-event-length sort kind start end = refl
+pub event-length : (sort kind start end depth : ℕ) → length (event sort kind start end depth) ≡ EVENT
+event-length sort kind start end depth = refl
 
 pub flat-length : (es : List Entry) → length (flat es) ≡ EVENT * length es
 flat-length [] = refl

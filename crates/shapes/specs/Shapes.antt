@@ -7,26 +7,30 @@ use lib.ListN.{length, getD}
 
 -- EVENTS
 
--- "An event is four numbers: sort (1 begin, 2 token, 3 end, 4 error), kind or error record index (from 0), start, end."
+-- "An event is" sort (1 begin, 2 token, 3 end, 4 error), kind or error record index (from 0), start, end; "an event becomes five numbers, the fifth being
+-- the count of nodes open around it" (request (vii))
 abbrev pub EVENT : ℕ
-EVENT = 4
+EVENT = 5
 
--- where its kind and its end stand in it
+-- where its kind, its end and its depth stand in it
 abbrev pub KIND : ℕ
 KIND = 1
 
 abbrev pub END : ℕ
 END = 3
 
-abbrev pub Entry : Type 0
-Entry = ℕ × ℕ × ℕ × ℕ
+abbrev pub DEPTH : ℕ
+DEPTH = 4
 
-abbrev pub event : ℕ → ℕ → ℕ → ℕ → List ℕ
-event sort kind start end = sort ∷ kind ∷ start ∷ end ∷ []
+abbrev pub Entry : Type 0
+Entry = ℕ × ℕ × ℕ × ℕ × ℕ
+
+abbrev pub event : ℕ → ℕ → ℕ → ℕ → ℕ → List ℕ
+event sort kind start end depth = sort ∷ kind ∷ start ∷ end ∷ depth ∷ []
 
 abbrev pub flat : List Entry → List ℕ
 flat [] = []
-flat (e ∷ es) = e .0 ∷ e .1 ∷ e .2 ∷ e .3 ∷ flat es
+flat (e ∷ es) = e .0 ∷ e .1 ∷ e .2 ∷ e .3 ∷ e .4 ∷ flat es
 
 -- the events that a list of numbers has; what is left over is none
 abbrev pub entries : List ℕ → List Entry
@@ -34,7 +38,8 @@ entries [] = []
 entries (a ∷ []) = []
 entries (a ∷ b ∷ []) = []
 entries (a ∷ b ∷ c ∷ []) = []
-entries (a ∷ b ∷ c ∷ d ∷ l) = (a, b, c, d) ∷ entries l
+entries (a ∷ b ∷ c ∷ d ∷ []) = []
+entries (a ∷ b ∷ c ∷ d ∷ h ∷ l) = (a, b, c, d, h) ∷ entries l
 
 -- ERROR RECORDS
 

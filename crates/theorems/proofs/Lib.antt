@@ -6,6 +6,7 @@ pub mod Drafts
 pub mod Stands
 pub mod Junk
 pub mod Joined
+pub mod Depth
 pub mod Matched
 pub mod Least
 pub mod Bound

@@ -20,6 +20,7 @@ use Rattle.definition.proofs.Agree.{next-end, next-hit}
 use Rattle.definition.proofs.Doom.{Off}
 use Rattle.definition.proofs.Accept.{Fresh}
 use Rattle.definition.proofs.Buffer.{item-adds, buffer-finished}
+use Rattle.definition.proofs.Height.{standing-low}
 use Rattle.definition.proofs.Tidy.{items-tidied}
 use Rattle.definition.proofs.Shown.{damage-shown, inside-append}
 use Rattle.definition.proofs.Suffix.{items-rows, damage-stays, next-item}
@@ -55,8 +56,8 @@ module _ (L : Limits) (d : Desk) (n : ℕ) where
   rest-ids = drop-end (s .rest) (d .ids) (items-rows L n (start (d .ids) (d .fuel)))
 
   -- what the event buffer holds behind the SOURCE_FILE begin event where the reader stands
-  pub standing-buffer : buffer (source-of d) (s .out) ≡ flat (written d s)
-  standing-buffer = buffer-finished (source-of d) (s .out) (items-tidied L (d .ids) (d .fuel) n .1)
+  pub standing-buffer : L .depth + 2 < 4294967296 → buffer (source-of d) (s .out) ≡ flat (written d s)
+  standing-buffer h = buffer-finished (source-of d) (L .depth + 2) h (s .out) (items-tidied L (d .ids) (d .fuel) n .1) (standing-low L (d .ids) (d .fuel) n)
 
   module _ (sc ev er : List ℕ) where
     abbrev rest : Desk
@@ -176,7 +177,7 @@ module _ (L : Limits) (d : Desk) (n : ℕ) where
             gap = G .0;
             front = G .1 ∙ ap (λ (l : List ℕ). G .0 ++ l) e;
             errors = ap (λ (o : List Event). records L x o []) o ∙ junk-recorded x L (G .0) j r (s .out);
-            events = ap (inside x) o ∙ junk-written x (G .0) j r (s .out) ∙ ap (λ (c : ℕ). written d s ++ (tokens x (G .0) (j ++ r) ++ junk-events x c j r)) (as-many (bads (s .out)) (length (recorded L d s)) (records-count L x (s .out) []));
+            events = ap (inside x) o ∙ junk-written x (G .0) j r (s .out) ∙ ap (λ (c : ℕ). written d s ++ (tokens x 1 (G .0) (j ++ r) ++ junk-events x c j r)) (as-many (bads (s .out)) (length (recorded L d s)) (records-count L x (s .out) []));
           }
 
       at : (l : List ℕ) → (standing L d n) .rest ≡ l → skip l ≡ j ++ r → Junk L d (standing L d n) (standing L d (n + 1)) j r

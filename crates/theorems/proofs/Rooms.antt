@@ -11,10 +11,11 @@ use Rattle.kinds.specs.Kinds as k
 use Rattle.shapes.specs.Sort as Sort
 use Rattle.shapes.specs.Shapes.{EVENT, Entry, flat, Rec, flat-records}
 use Rattle.definition.specs.Run.{State, Limits, Draft, Event, opened, leaf, closed, bad}
-use Rattle.definition.specs.Render.{Source, Reading, records, record-of, said, inside, rendered, moments, exceeds, over, used}
+use Rattle.definition.specs.Render.{Source, Reading, starts-at, ends-at, span-end, bads, render, records, record-of, said, inside, rendered, moments, exceeds, over, used}
 use Rattle.definition.specs.Answer.{Desk, Answer, refused, given, refusal, exceeded, answer, answer-of, source-of, After, refusing, blank, as-lent, filled, left-by, after}
 use Rattle.definition.proofs.Tidy.{read-tidy}
-use Rattle.definition.proofs.Buffer.{buffer-length, buffer-finished}
+use Rattle.shapes.proofs.Laws.{flat-length}
+use Rattle.definition.specs.Open.{Nest}
 use Rattle.theorems.proofs.Answered.{reading, is-given}
 
 abbrev pub Fits : ℕ → ℕ → List (ℕ × ℕ) → Type 0
@@ -104,13 +105,21 @@ flat-append : (a b : List Entry) → length (flat (a ++ b)) ≡ length (flat a) 
 flat-append [] b = omega arith
 flat-append (q ∷ a) b = omega (arith, flat-append a b)
 
+render-length : (x : Source) (st : List (ℕ × ℕ)) (o : List Event) (z : List Entry) → Nest (length st) o 0 → length (render x st o z) ≡ length o + length z
+render-length x st [] z p = omega arith
+render-length x [] (opened n ∷ o) z p = absurd p
+render-length x (t ∷ st) (opened n ∷ o) z p = omega (arith, render-length x st o ((Sort.BEGIN, t .0, starts-at x n, t .1, suc (length st)) ∷ z) p)
+render-length x st (leaf a n ∷ o) z p = omega (arith, render-length x st o ((Sort.TOKEN, a, starts-at x n, ends-at x n, suc (length st)) ∷ z) p)
+render-length x st (closed a n m ∷ o) z p = omega (arith, render-length x ((a, span-end x n m) ∷ st) o ((Sort.END, a, starts-at x n, span-end x n m, suc (length st)) ∷ z) p)
+render-length x st (bad n c ∷ o) z p = omega (arith, render-length x st o ((Sort.ERROR, bads o, starts-at x n, ends-at x n, suc (length st)) ∷ z) p)
+
 events-size : (L : Limits) (d : Desk) → length (flat ((rendered L (source-of d) (reading L d)) .events)) ≡ EVENT * suc (suc (length ((reading L d) .out)))
 events-size L d =
     let x = source-of d in
     let o = (reading L d) .out in
     let i = inside x o in
     let z = length (d .bytes) in
-    omega (arith, flat-append i ((Sort.END, k.SOURCE-FILE, 0, z) ∷ []), sym (ap length (buffer-finished x o (read-tidy L (d .ids) (d .fuel) .1))) ∙ buffer-length x o)
+    omega (arith, flat-append i ((Sort.END, k.SOURCE-FILE, 0, z, 0) ∷ []), flat-length i, render-length x [] o [] (read-tidy L (d .ids) (d .fuel) .1))
 
 records-size : (L : Limits) (x : Source) (o : List Event) (l : List Rec) → length (flat-records (records L x o l)) ≡ said L x o + length (flat-records l)
 records-size L x [] l = omega arith
