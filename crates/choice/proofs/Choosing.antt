@@ -13,7 +13,7 @@ use lib.ListN.{length, getD, take, drop, set, length-set, length-append}
 use lib.Seq.{paste, take-paste, length-paste, length-take-le, take-add, take-at, drop-at, sets-eq}
 use Rattle.kinds.specs.Kinds as k
 use Rattle.utf8.specs.Utf8.{bad-byte}
-use Rattle.shapes.specs.Shapes.{EVENT, event, HEAD, Rec, flat-records}
+use Rattle.shapes.specs.Shapes.{EVENT, HEAD, Rec, flat-records}
 use Rattle.definition.specs.Run as P
 use Rattle.definition.specs.Run.{Event, Choice, Limits, wanted, unwanted}
 use Rattle.definition.specs.Render.{Source, starts-at, ends-at, id-at, text-at, record-of, records, form-of, names-of, said, held, used}
@@ -24,14 +24,25 @@ use Rattle.notes.specs.Change.{withEr, withFull, withWants}
 use Rattle.notes.specs.Means.{bufs, Past, Rows, Apart, recorded, Chosen, wantOf, unwantOf, namesIn, Means, Stands, overOf}
 use Rattle.notes.specs.Did.{Placed, Ok, Sound, Coded, Wf, Counted, Errors}
 use Rattle.choice.specs.Choice.{choiceOf, scan, Noted, Pends, Chose}
-use Rattle.notes.proofs.Lists.{stored, take-event, length-event}
 use Rattle.notes.proofs.Cells.{long, new-er, no-wants}
 use Rattle.notes.proofs.Core.{blank, sound}
 use Rattle.notes.proofs.Rooms.{flat-append, said-is, held-is, fits, first-of, spill, full-first, exceeds-none, exceeds-errors}
 use Rattle.choice.proofs.Records.{starts, ends, starts-is, ends-is, id-is}
 use Rattle.choice.proofs.Scanning.{scan-recorded}
 
--- A RECORD
+-- A RECORD: the numbers before its names are stored
+abbrev headed : List ℕ → ℕ → ℕ → ℕ → ℕ → ℕ → List ℕ
+headed l i a b c d = set (set (set (set l i a) (i + 1) b) (i + 2) c) (i + 3) d
+
+take-headed : (l : List ℕ) (i a b c d : ℕ) → i + HEAD ≤ length l → take (i + HEAD) (headed l i a b c d) ≡ take i l ++ (a ∷ b ∷ c ∷ d ∷ [])
+take-headed l i a b c d h =
+    let q = a ∷ b ∷ c ∷ d ∷ [] in
+    let e : headed l i a b c d ≡ take i l ++ q ++ drop (i + HEAD) l = simp towards-suc (sets-eq q l i h ∙ simp towards-suc) in
+    ap (take (i + HEAD)) e ∙ take-at (take i l ++ q) (drop (i + HEAD) l) (i + HEAD) (length-append (take i l) q ∙ omega (arith, length-take-le i l (omega arith)))
+
+length-headed : (l : List ℕ) (i a b c d : ℕ) → length (headed l i a b c d) ≡ length l
+length-headed l i a b c d = simp length-set
+
 module _ (q : List ℕ) (s : Whole) (er : List ℕ) where
   pub noted-full : s .er ≤ s .ercap → s .ercap < s .er + length q → Noted q s (withFull 8 s) er er
   noted-full h l =
@@ -65,19 +76,19 @@ module _ (s : Whole) (start end form count : ℕ) (names er : List ℕ) (c : cou
   pub record-full : s .er ≤ s .ercap → s .ercap - s .er < count + HEAD → Noted numbers s (withFull 8 s) er er
   record-full h l = noted-full numbers s er h (omega (arith, size))
 
-  record-written : s .er ≤ s .ercap → count + HEAD ≤ s .ercap - s .er → s .ercap ≤ length er → (er′ : List ℕ) → er′ ≡ paste (stored er (s .er) start end form count) (s .er + HEAD) names count → Noted numbers s (withFull 0 (withEr (s .er + HEAD + count) s)) er er′
+  record-written : s .er ≤ s .ercap → count + HEAD ≤ s .ercap - s .er → s .ercap ≤ length er → (er′ : List ℕ) → er′ ≡ paste (headed er (s .er) start end form count) (s .er + HEAD) names count → Noted numbers s (withFull 0 (withEr (s .er + HEAD + count) s)) er er′
   record-written h f l er′ e =
-      let q = length-event er (s .er) start end form count in
+      let q = length-headed er (s .er) start end form count in
       noted-written numbers s er (s .er + HEAD + count) (omega (arith, size)) (omega arith) er′
       (ap (take (s .er + HEAD + count)) e
-      ∙ take-paste (stored er (s .er) start end form count) (s .er + HEAD) names count (omega (arith, q)) c
-      ∙ ap (λ (t : List ℕ). t ++ take count names) (take-event er (s .er) start end form count (omega arith))
-      ∙ append-assoc (take (s .er) er) (event start end form count) (take count names))
-      (ap length e ∙ length-paste (stored er (s .er) start end form count) (s .er + HEAD) names count (omega (arith, q)) c ∙ q)
+      ∙ take-paste (headed er (s .er) start end form count) (s .er + HEAD) names count (omega (arith, q)) c
+      ∙ ap (λ (t : List ℕ). t ++ take count names) (take-headed er (s .er) start end form count (omega arith))
+      ∙ append-assoc (take (s .er) er) (start ∷ end ∷ form ∷ count ∷ []) (take count names))
+      (ap length e ∙ length-paste (headed er (s .er) start end form count) (s .er + HEAD) names count (omega (arith, q)) c ∙ q)
 
 -- with a place behind the count
 abbrev pub placed : List ℕ → ℕ → ℕ → ℕ → ℕ → List ℕ
-placed er i start end place = set (stored er i start end 9 0) (i + HEAD) place
+placed er i start end place = set (headed er i start end 9 0) (i + HEAD) place
 
 placed-written : (s : Whole) (start end place : ℕ) (er : List ℕ) → s .er ≤ s .ercap → HEAD + 1 ≤ s .ercap - s .er → s .ercap ≤ length er → Noted (start ∷ end ∷ 9 ∷ 0 ∷ place ∷ []) s (withFull 0 (withEr (s .er + HEAD + 1) s)) er (placed er (s .er) start end place)
 placed-written s start end place er h f l =
@@ -88,7 +99,7 @@ placed-written s start end place er h f l =
     (simp length-set)
 
 -- the same where the number of the records' numbers is noted
-pub record-noted : (l : List ℕ) (s : Whole) → Coded l → (start end form count : ℕ) (names er : List ℕ) → count ≤ length names → getD l 4 0 ≤ getD l 5 0 → count + HEAD ≤ getD l 5 0 - getD l 4 0 → getD l 5 0 ≤ length er → (er′ : List ℕ) → er′ ≡ paste (stored er (getD l 4 0) start end form count) (getD l 4 0 + HEAD) names count → Noted (start ∷ end ∷ form ∷ count ∷ take count names) (beside l s) (withFull 0 (beside (set l 4 (getD l 4 0 + HEAD + count)) s)) er er′
+pub record-noted : (l : List ℕ) (s : Whole) → Coded l → (start end form count : ℕ) (names er : List ℕ) → count ≤ length names → getD l 4 0 ≤ getD l 5 0 → count + HEAD ≤ getD l 5 0 - getD l 4 0 → getD l 5 0 ≤ length er → (er′ : List ℕ) → er′ ≡ paste (headed er (getD l 4 0) start end form count) (getD l 4 0 + HEAD) names count → Noted (start ∷ end ∷ form ∷ count ∷ take count names) (beside l s) (withFull 0 (beside (set l 4 (getD l 4 0 + HEAD + count)) s)) er er′
 record-noted l s w start end form count names er c h f g er′ e =
     subst (λ (v : Whole). Noted (start ∷ end ∷ form ∷ count ∷ take count names) (beside l s) (withFull 0 v) er er′) (sym (new-er l s (long l (w .long)) (getD l 4 0 + HEAD + count))) (record-written (beside l s) start end form count names er c h f g er′ e)
 

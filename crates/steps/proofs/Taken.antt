@@ -54,14 +54,14 @@ module _ (l : List ℕ) (at : ℕ) where
   behind : (c : Bool) → EVENT ≤ at → eqb (getD l (at - EVENT) 0) Sort.BEGIN ≡ c → next-depth l at ≡ elim c as (λ _. ℕ) [ true ↦ cell (getD l (at - EVENT + DEPTH) 0 + 1) | false ↦ getD l (at - EVENT + DEPTH) 0 ]
   behind c h e = ap₂ (λ (b d : Bool). elim b as (λ _. ℕ) [ true ↦ 1 | false ↦ elim d as (λ _. ℕ) [ true ↦ cell (getD l (at - EVENT + DEPTH) 0 + 1) | false ↦ getD l (at - EVENT + DEPTH) 0 ] ]) (le-ltb at EVENT h) e
 
-  pub around-begin : EVENT ≤ at → getD l (at - EVENT) 0 ≡ Sort.BEGIN → (getD l (at - EVENT + DEPTH) 0 + 1) % 4294967296 ≡ next-depth l at
+  pub around-begin : EVENT ≤ at → getD l (at - EVENT) 0 ≡ Sort.BEGIN → cell (getD l (at - EVENT + DEPTH) 0 + 1) ≡ next-depth l at
   around-begin h e = sym (behind true h (eq-eqb (getD l (at - EVENT) 0) Sort.BEGIN e))
 
   pub around-other : EVENT ≤ at → (getD l (at - EVENT) 0 ≡ Sort.BEGIN → ⊥) → getD l (at - EVENT + DEPTH) 0 ≡ next-depth l at
   around-other h n = sym (behind false h (ne-eqb (getD l (at - EVENT) 0) Sort.BEGIN n))
 
-pub put-at : (d : ℕ) {a b c e at : ℕ} {s r : Whole} {ev ev′ : List ℕ} → d ≡ next-depth ev at → Put (event a b c e d) s r ev ev′ → Put (placed a b c e ev at) s r ev ev′
-put-at d {a} {b} {c} {e} {at} {s} {r} {ev} {ev′} q u = subst (λ (i : ℕ). Put (event a b c e i) s r ev ev′) q u
+pub put-at : (d at : ℕ) {a b c e : ℕ} {s r : Whole} {ev ev′ : List ℕ} → d ≡ next-depth ev at → Put (event a b c e d) s r ev ev′ → Put (placed a b c e ev at) s r ev ev′
+put-at d at {a} {b} {c} {e} {s} {r} {ev} {ev′} q u = subst (λ (i : ℕ). Put (event a b c e i) s r ev ev′) q u
 
 -- a row is written
 pub leaf-buffer : (x : Source) (p i : ℕ) (o : List Event) → Lines (x .ids) (x .ends) → p < length (x .ids) → buffer x (leaf i (suc (length (drop (suc p) (x .ids)))) ∷ o) ≡ buffer x o ++ event Sort.TOKEN i (getD (0 ∷ x .ends) p 0) (getD (x .ends) p 0) (cell (height o))

@@ -11,11 +11,11 @@ use shapes::mode;
 use shapes::sort;
 ghost use mathlib.Core.Path.{_≡_};
 ghost use mathlib.Core.List.{List};
-ghost use Prim.Native.Nat.{ℕ, _-_, _≤_};
+ghost use Prim.Native.Nat.{ℕ, _+_, _-_, _≤_};
 ghost use lib.Dec.{eqb};
 ghost use lib.ListN.{length};
 ghost use Rattle.shapes.specs.Shapes.{EVENT, event};
-ghost use Rattle.definition.specs.Buffer.{next-depth, placed};
+ghost use Rattle.definition.specs.Buffer.{cell, next-depth, placed};
 ghost use Rattle.definition.specs.Render.{Source};
 ghost use Rattle.definition.specs.Run as P;
 ghost use Rattle.notes.specs.Change.{markOf, gone, undoneTo};
@@ -43,8 +43,12 @@ pub struct Mark {
     pub ev: usize,
 }
 
-// What a cell cannot count.
-const CELL: usize = 4294967296;
+// One more, as a cell counts it.
+fn deeper(depth: u32) -> u32
+    ensures { λ r. ⌜ r ≡ cell (depth + 1) ⌝ }
+{
+    ((depth as u64 + 1) % 0x1_0000_0000) as u32
+}
 
 // How many nodes are open where the next event stands: the last event's depth, one more where it begins a node.
 fn around(at: usize, events: &[u32]) -> u32
@@ -57,7 +61,7 @@ fn around(at: usize, events: &[u32]) -> u32
     let last = at - EVENT;
     let depth = events[last + DEPTH];
     if events[last] == sort::BEGIN {
-        return ((depth as usize + 1) % CELL) as u32;
+        return deeper(depth);
     }
     depth
 }

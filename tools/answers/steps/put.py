@@ -4,5 +4,5 @@ use Rattle.steps.proofs.Taken.{put-at}
 ANS = {
     "around-requires": "omega (arith, {pre} .0, {pre} .1)",
     "write-requires": "{pre}",
-    "returns": "λ l. put-at ({around} .result) ({around} .ensures) ({write} .ensures l)",
+    "returns": "λ l. put-at ({around} .result) ({args} .self .ev) ({around} .ensures) ({write} .ensures l)",
 }
