@@ -42,7 +42,7 @@ two-events L d n =
     let g = answered L d n in
     let t : P.State = P.read L (d .ids) (d .fuel) in
     let w = ap (λ (a : After). a .event-count) (ap (left-by d) (g .1)) ∙ ap (λ (r : Reading). length (r .events)) (given-is L d (g .0) (g .1) .whole) in
-    omega (arith, w, length-append (inside (source-of d) (t .out)) ((Sort.END, kinds.SOURCE-FILE, 0, length (d .bytes)) ∷ []))
+    omega (arith, w, length-append (inside (source-of d) (t .out)) ((Sort.END, kinds.SOURCE-FILE, 0, length (d .bytes), 0) ∷ []))
 
 result-is : (L : Limits) (d : Desk) (r : D.Reading) (ev er sc : List ℕ) → Promised L d r ev er sc → answered-of ((after L d) .number) (after L d) ≡ r
 unfolding answered-of

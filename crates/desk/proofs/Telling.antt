@@ -14,7 +14,7 @@ use Rattle.shapes.specs.Sort as Sort
 use Rattle.shapes.specs.Shapes.{EVENT, event, Rec, flat-records}
 use Rattle.definition.specs.Run as P
 use Rattle.definition.specs.Run.{Event, opened, leaf, closed, bad, Choice, Limits}
-use Rattle.definition.specs.Buffer.{buffer}
+use Rattle.definition.specs.Buffer.{height, cell, next-depth, buffer}
 use Rattle.definition.specs.Render.{Source, record-of, records, bads, said, used, starts-at, ends-at}
 use Rattle.definition.proofs.Text.{behind-is}
 use Rattle.definition.proofs.Buffer.{buffer-bad, buffer-length}
@@ -22,6 +22,7 @@ use Rattle.notes.specs.Whole.{Whole}
 use Rattle.notes.specs.Bits.{ifb}
 use Rattle.notes.specs.Means.{bufs, Past, recorded, Chosen, Means, Stands, overOf}
 use Rattle.notes.specs.Did.{Wf}
+use Rattle.notes.proofs.Core.{depth-is}
 use Rattle.notes.proofs.Rooms.{flat-append, said-is, ev-count, fits, first-of, spill, full-first, exceeds-none, exceeds-events}
 use Rattle.desk.specs.Items.{Tally, most, notes, Flushed, withItem, tell, told, Numbered, Tells}
 use Rattle.desk.proofs.Writing.{notes-one, notes-none}
@@ -60,19 +61,20 @@ module _ (L : Limits) (x : Source) where
   unfolding recorded
   recorded-none = refl
 
-  errors-buffer : (es : List (ℕ × Choice)) (o : List Event) → bads o + length es ≤ most → buffer x (P.errors es o) ≡ buffer x o ++ notes (bads o) 0 (flat-records (recorded L x es))
+  errors-buffer : (es : List (ℕ × Choice)) (o : List Event) → bads o + length es ≤ most → buffer x (P.errors es o) ≡ buffer x o ++ notes (cell (height o)) (bads o) 0 (flat-records (recorded L x es))
   unfolding recorded
-  errors-buffer [] o h = sym (ap (λ (l : List ℕ). buffer x o ++ l) (notes-none (bads o)) ∙ append-nil (buffer x o))
-  errors-buffer (e ∷ es) o h =
+  errors-buffer [] o h = sym (ap (λ (l : List ℕ). buffer x o ++ l) (notes-none (cell (height o)) (bads o)) ∙ append-nil (buffer x o))
+  errors-buffer (e ∷ es) o few =
       let r : Rec = record-of L x (e .0) (e .1) in
-      let q = event Sort.ERROR (bads o) (starts-at x (e .0)) (ends-at x (e .0)) in
-      let l = notes (suc (bads o)) 0 (flat-records (recorded L x es)) in
+      let h = cell (height o) in
+      let q = event Sort.ERROR (bads o) (starts-at x (e .0)) (ends-at x (e .0)) h in
+      let l = notes h (suc (bads o)) 0 (flat-records (recorded L x es)) in
       errors-buffer es (bad (e .0) (e .1) ∷ o) (omega arith)
       ∙ ap (λ (k : List ℕ). k ++ l) (buffer-bad x (e .0) (e .1) o)
       ∙ append-assoc (buffer x o) q l
       ∙ ap (λ (k : List ℕ). buffer x o ++ k)
-      (sym (notes-one (bads o) (starts-at x (e .0)) (ends-at x (e .0)) (r .2) (length (r .3)) (r .3 ++ r .4) (flat-records (recorded L x es)) (behind-is L x (e .0) (e .1)) (omega arith))
-      ∙ ap (λ (t : List ℕ). notes (bads o) 0 (r .0 ∷ r .1 ∷ r .2 ∷ length (r .3) ∷ t)) (append-assoc (r .3) (r .4) (flat-records (recorded L x es))))
+      (sym (notes-one h (bads o) (starts-at x (e .0)) (ends-at x (e .0)) (r .2) (length (r .3)) (r .3 ++ r .4) (flat-records (recorded L x es)) (behind-is L x (e .0) (e .1)) (omega arith))
+      ∙ ap (λ (t : List ℕ). notes h (bads o) 0 (r .0 ∷ r .1 ∷ r .2 ∷ length (r .3) ∷ t)) (append-assoc (r .3) (r .4) (flat-records (recorded L x es))))
 
   errors-length : (es : List (ℕ × Choice)) (o : List Event) → length (P.errors es o) ≡ length es + length o
   errors-length [] o = omega arith
@@ -88,7 +90,7 @@ item-part {x} {p} {er = er} {item = item} {errors = errors} {es = es} k i l =
 
 module _ (x : Source) (s : Whole) (before : ℕ) (d : Tally) (ev ev′ er sc : List ℕ) (w : Wf x (bufs ev er sc) s) (u : Flushed (take (s .er - s .item) (drop (s .item) er)) before s d ev ev′) where
   abbrev q : List ℕ
-  q = notes before 0 (take (s .er - s .item) (drop (s .item) er))
+  q = notes (next-depth ev (s .ev)) before 0 (take (s .er - s .item) (drop (s .item) er))
 
   abbrev after : Tally
   after = record { state = withItem (s .er) (d .state); before = d .before }
@@ -102,7 +104,8 @@ module _ (x : Source) (s : Whole) (before : ℕ) (d : Tally) (ev ev′ er sc : L
         let m = t .means z in
         let c : bads (a .out) ≡ before = omega (arith, bads-records (p .limits) x (a .out) [], ap length (m .written .past), n z .0) in
         errors-buffer (p .limits) x (a .chosen) (a .out) (omega (arith, n z .1))
-        ∙ ap₂ (λ (i : ℕ) (l : List ℕ). buffer x (a .out) ++ notes i 0 l) c (sym (item-part (m .chosen) (w .0 .2 .since) (omega (arith, w .0 .2 .errors, w .1 .errors))))
+        ∙ ap₂ (λ (i : ℕ) (l : List ℕ). buffer x (a .out) ++ notes (cell (height (a .out))) i 0 l) c (sym (item-part (m .chosen) (w .0 .2 .since) (omega (arith, w .0 .2 .errors, w .1 .errors))))
+        ∙ ap (λ (d : ℕ). buffer x (a .out) ++ notes d before 0 (take (s .er - s .item) (drop (s .item) er))) (sym (depth-is w m))
 
     size : s .full ≡ 0 → length q ≡ EVENT * length (a .chosen)
     size z = omega (arith, ap length (wrote z), length-append (buffer x (a .out)) q, buffer-length x out′, buffer-length x (a .out), errors-length (p .limits) x (a .chosen) (a .out))

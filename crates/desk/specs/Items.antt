@@ -11,6 +11,7 @@ use Rattle.shapes.specs.Shapes.{EVENT, event, Rec, behind}
 use Rattle.definition.specs.Run as P
 use Rattle.definition.specs.Run.{Limits}
 use Rattle.definition.specs.Render.{Source, records}
+use Rattle.definition.specs.Buffer.{next-depth}
 use Rattle.notes.specs.Whole.{Whole}
 use Rattle.notes.specs.Bits.{ifb}
 use Rattle.notes.specs.Change.{withEv, withFull}
@@ -32,14 +33,14 @@ tally d l = record { state = whole (d .state) l; before = d .before }
 abbrev pub most : ℕ
 most = 4294967295
 
--- the error events of records, the first with index i, where k numbers are still to be passed over
-unfoldable pub notes : ℕ → ℕ → List ℕ → List ℕ
-notes i (suc k) (a ∷ l) = notes i k l
-notes i zero (a ∷ b ∷ form ∷ n ∷ l) = elim (ltb i most) [ true ↦ event Sort.ERROR i a b ++ notes (suc i) (behind form n) l | false ↦ [] ]
-notes i zero (a ∷ b ∷ form ∷ []) = []
-notes i zero (a ∷ b ∷ []) = []
-notes i zero (a ∷ []) = []
-notes i k [] = []
+-- the error events of records at a depth d, the first with index i, where k numbers are still to be passed over
+unfoldable pub notes : ℕ → ℕ → ℕ → List ℕ → List ℕ
+notes d i (suc k) (a ∷ l) = notes d i k l
+notes d i zero (a ∷ b ∷ form ∷ n ∷ l) = elim (ltb i most) [ true ↦ event Sort.ERROR i a b d ++ notes d (suc i) (behind form n) l | false ↦ [] ]
+notes d i zero (a ∷ b ∷ form ∷ []) = []
+notes d i zero (a ∷ b ∷ []) = []
+notes d i zero (a ∷ []) = []
+notes d i k [] = []
 
 -- numbers were written at the end of the events, if there was room
 pub record Puts (q : List ℕ) (s r : Whole) (ev ev′ : List ℕ) : Type 0 where
@@ -54,10 +55,10 @@ pub record Puts (q : List ℕ) (s r : Whole) (ev ev′ : List ℕ) : Type 0 wher
   pub long : length ev′ ≡ length ev
   pub kept : take (s .ev) ev′ ≡ take (s .ev) ev
 
--- the events of the records were written, and counted
+-- the events of the records were written, all at the depth of the first, and counted
 pub record Flushed (records : List ℕ) (before : ℕ) (s : Whole) (r : Tally) (ev ev′ : List ℕ) : Type 0 where
-  pub puts : Puts (notes before 0 records) s (r .state) ev ev′
-  pub counted : EVENT * r .before ≡ EVENT * before + length (notes before 0 records)
+  pub puts : Puts (notes (next-depth ev (s .ev)) before 0 records) s (r .state) ev ev′
+  pub counted : EVENT * r .before ≡ EVENT * before + length (notes (next-depth ev (s .ev)) before 0 records)
 
 abbrev pub withItem : ℕ → Whole → Whole
 withItem n s = record { pos = s .pos; fuel = s .fuel; mode = s .mode; ev = s .ev; evcap = s .evcap; full = s .full; want = s .want; unwant = s .unwant; count = s .count; mask = s .mask; codes = s .codes; er = s .er; ercap = s .ercap; item = n; first = s .first; far = s .far; quote = s .quote }

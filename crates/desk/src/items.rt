@@ -18,6 +18,7 @@ use shapes::record::HEAD;
 use shapes::record::next_record;
 use shapes::sort;
 use steps::state::State;
+use steps::state::around;
 ghost use mathlib.Core.Path.{_≡_};
 ghost use mathlib.Core.List.{List, []};
 ghost use Prim.Native.Nat.{ℕ, _*_, _≤_, _<_};
@@ -43,6 +44,7 @@ pub fn flush(mut s: State, before: u32, records: &[u32], events: &mut [u32]) -> 
     requires { ⌜ Fits s (now events) ⌝ }
     ensures { λ r. ⌜ ((l : List ℕ) → Flushed (now (records .entry)) before (whole s l) (tally r l) (now (events .entry)) (now (events .exit))) ⌝ }
 {
+    let depth = around(s.ev, events);
     let mut at = 0;
     let mut index = before;
     while at + HEAD <= records.len() {
@@ -54,7 +56,7 @@ pub fn flush(mut s: State, before: u32, records: &[u32], events: &mut [u32]) -> 
         }
         let start = records[at];
         let end = records[at + END];
-        s = s.put(sort::ERROR, index, start, end, events);
+        s = s.write(sort::ERROR, index, start, end, depth, events);
         index += 1;
         at = next_record(records, at);
     }

@@ -10,6 +10,7 @@ use notes::names::ER;
 use notes::names::ERCAP;
 use notes::names::QUOTE;
 use refusals::judged;
+use shapes::event::DEPTH;
 use shapes::event::END;
 use shapes::event::EVENT;
 use shapes::event::KIND;
@@ -31,9 +32,10 @@ ghost use Rattle.desk.specs.Items as Items;
 ghost use Rattle.desk.specs.Items.{tally};
 ghost use Rattle.desk.specs.Framing.{limitsOf, Framed, afterOf, answering, outcomeOf};
 
-// How many nodes may be open besides SOURCE_FILE, and how long a found text may be to be quoted. Any values will do; each open node takes stack.
+// How many nodes may be open besides SOURCE_FILE, and how long a found text may be to be quoted. Any values will do; each open node takes stack. A depth
+// of 16 bits keeps every event's depth within its cell.
 pub struct Limits {
-    pub depth: usize,
+    pub depth: u16,
     pub quote: usize,
 }
 
@@ -116,6 +118,7 @@ fn whole(
     events[KIND] = kind::SOURCE_FILE;
     events[START] = 0;
     events[END] = size;
+    events[DEPTH] = 0;
     let d = blank(fuel, events.len() - EVENT);
     notes[ERCAP] = errors.len();
     notes[QUOTE] = limits.quote;
@@ -124,7 +127,7 @@ fn whole(
     let inner = &mut events[EVENT..];
     let r = items(
         d,
-        limits.depth,
+        limits.depth as usize,
         src,
         ids,
         ends,
@@ -136,7 +139,7 @@ fn whole(
         &sets,
     );
     let s = r.state;
-    let t = s.put(sort::END, kind::SOURCE_FILE, 0, size, inner);
+    let t = s.write(sort::END, kind::SOURCE_FILE, 0, size, 0, inner);
     Desk {
         state: t,
         before: r.before,

@@ -51,7 +51,7 @@ fn deeper(depth: u32) -> u32
 }
 
 // How many nodes are open where the next event stands: the last event's depth, one more where it begins a node.
-fn around(at: usize, events: &[u32]) -> u32
+pub fn around(at: usize, events: &[u32]) -> u32
     requires { ⌜ at ≤ length (now events) ⌝ }
     ensures { λ r. ⌜ r ≡ next-depth (now (events .entry)) at ⌝ }
 {
