@@ -1,6 +1,6 @@
 -- Refusal 9, one event after the other.
 use Prim.Native.Nat.{ℕ, suc, _+_, _-_, _%_, _≤_, _<_}
-use mathlib.Core.Path.{_≡_, refl, ap, ap₂, sym, _∙_}
+use mathlib.Core.Path.{_≡_, refl, ap, ap₂, _∙_}
 use mathlib.Core.List.{List}
 use mathlib.Core.Bool.{Bool, true, false, _&&_}
 use lib.Dec.{eqb, leb}
@@ -24,6 +24,9 @@ module _ (l : List ℕ) (h at : ℕ) (more : at + EVENT ≤ length l) where
   abbrev s : ℕ
   s = getD l at 0
 
+  abbrev d : ℕ
+  d = getD l (at + DEPTH) 0
+
   by : (a b c : Bool) → leb Sort.BEGIN s ≡ a → leb s Sort.ERROR ≡ b → deep h e ≡ c → sound-from l h at ≡ a && b && c && sound-from l (open-behind h e) (at + EVENT)
   by a b c p q r =
       ap (sound h) (entries-at l at more)
@@ -37,14 +40,14 @@ module _ (l : List ℕ) (h at : ℕ) (more : at + EVENT ≤ length l) where
     pub sort-high : Sort.ERROR < s → sound-from l h at ≡ false
     sort-high p = by true false (deep h e) (le-leb Sort.BEGIN s least) (lt-leb s Sort.ERROR p) refl
 
-    module _ (most : s ≤ Sort.ERROR) (d : ℕ) (is : d ≡ getD l (at + DEPTH) 0) where
+    module _ (most : s ≤ Sort.ERROR) where
       on : (c : Bool) → deep h e ≡ c → sound-from l h at ≡ c && sound-from l (open-behind h e) (at + EVENT)
       on c r = by true true c (le-leb Sort.BEGIN s least) (le-leb s Sort.ERROR most) r
 
-      -- d is its depth, and it is an end
+      -- an end
       module _ (end : s ≡ Sort.END) where
         by-end : (c : Bool) → eqb (suc d) h ≡ c → deep h e ≡ c
-        by-end c p = ap₂ (λ (i j : ℕ). elim (eqb i Sort.END) [ true ↦ eqb (suc j) h | false ↦ eqb j h ]) end (sym is) ∙ p
+        by-end c p = ap (λ (i : ℕ). elim (eqb i Sort.END) [ true ↦ eqb (suc d) h | false ↦ eqb d h ]) end ∙ p
 
         pub end-fits : d + 1 ≡ h → sound-from l h at ≡ sound-from l d (at + EVENT)
         end-fits p =
@@ -57,7 +60,7 @@ module _ (l : List ℕ) (h at : ℕ) (more : at + EVENT ≤ length l) where
       -- no end
       module _ (no-end : s ≡ Sort.END → ⊥) where
         by-other : (c : Bool) → eqb d h ≡ c → deep h e ≡ c
-        by-other c p = ap₂ (λ (x : Bool) (j : ℕ). elim x [ true ↦ eqb (suc j) h | false ↦ eqb j h ]) (ne-eqb s Sort.END no-end) (sym is) ∙ p
+        by-other c p = ap (λ (x : Bool). elim x [ true ↦ eqb (suc d) h | false ↦ eqb d h ]) (ne-eqb s Sort.END no-end) ∙ p
 
         pub other-wrong : (d ≡ h → ⊥) → sound-from l h at ≡ false
         other-wrong p = on false (by-other false (ne-eqb d h p))

@@ -6,7 +6,7 @@ use shapes::event::KIND;
 use shapes::event::START;
 use shapes::sort;
 ghost use mathlib.Core.Path.{_≡_};
-ghost use Prim.Native.Nat.{_+_, _^_, _≤_, _<_};
+ghost use Prim.Native.Nat.{_+_, _≤_};
 ghost use lib.ListN.{length};
 ghost use Rattle.shapes.specs.Shapes.{EVENT};
 ghost use Rattle.definition.specs.Merge as D;
@@ -33,12 +33,6 @@ pub fn read(l: &[u32], at: usize) -> Event
     }
 }
 
-fn wide(depth: u32) -> usize
-    ensures { λ r. ⌜ (r ≡ depth) × (r < 2 ^ 32) ⌝ }
-{
-    depth as usize
-}
-
 // Whether the list is no case of refusal 9: one sweep, with a count of the nodes that are open.
 pub fn well_formed(events: &[u32]) -> bool
     ensures { λ r. ⌜ r ≡ D.well-formed (now (events .entry)) ⌝ }
@@ -50,7 +44,7 @@ pub fn well_formed(events: &[u32]) -> bool
     let mut nodes: usize = 0;
     while at < events.len() {
         let sort = events[at];
-        let depth = wide(events[at + DEPTH]);
+        let depth = events[at + DEPTH] as usize;
         if sort < sort::BEGIN {
             return false;
         }
