@@ -7,10 +7,10 @@ use Rattle.vectors.proofs.strip.Statement.{statement}
 use Rattle.vectors.proofs.strip.Tie as tie
 
 abbrev Inv-loop : tie.InvT-loop
-Inv-loop list₀ at₀ to₀ list at to = (to ≤ at) × (at ≤ length list) × (length list ≡ length list₀)
+Inv-loop list₀ at₀ to₀ dropped₀ list at to dropped = (to ≤ at) × (at ≤ length list) × (dropped ≤ at) × (length list ≡ length list₀)
 
 abbrev μ-loop : tie.MeasureT-loop
-μ-loop list₀ at₀ to₀ list at to = length list₀ - at
+μ-loop list₀ at₀ to₀ dropped₀ list at to dropped = length list₀ - at
 
 loop-holds : tie.Need-loop-holds Inv-loop μ-loop
 loop-holds c = search needs
