@@ -7,7 +7,8 @@ use borrow.Author.Needs.{needs}
 use mathlib.Core.List.{List, []}
 use lib.ListN.{length, getD, drop}
 use Rattle.cutter.specs.Classes.{wides, wideClass}
-use Rattle.cutter.specs.Glyph.{decoded, spread, glyph}
+use Rattle.cutter.specs.Glyph.{glyph}
+use Rattle.cutter.specs.Decoded.{decoded, spread}
 use Rattle.cutter.specs.Lent.{numberOf, glyphOf}
 use Rattle.cutter.specs.Table.{classTable}
 use Rattle.cutter.specs.declared.glyph.Glyph.{Glyph}
