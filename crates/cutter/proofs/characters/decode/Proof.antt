@@ -1,5 +1,4 @@
 -- `decode` meets its contract: the first byte tells how many follow.
-use mathlib.Core.Path.{_≡_, refl, sym, ap, ap₂, _∙_}
 use borrow.Author.Tests.{lt-ltb, le-ltb}
 use Rattle.cutter.specs.Decoded.{decoded}
 use borrow.Author.Needs.{needs}
