@@ -36,6 +36,7 @@ inside r b e = let p = parts (leb (r .0) b) (leb b (r .1)) e in (leb-true (r .0)
 insides : (r : Range) (b : ℕ) → In r b → within r b ≡ true
 insides r b h = join (le-leb (r .0) b (h .0)) (le-leb b (r .1) (h .1))
 
+-- a follower
 abbrev F : ℕ → Type 0
 F b = In (0x80, 0xBF) b
 
@@ -44,13 +45,12 @@ abbrev Plain : ℕ → Type 0
 Plain n = (0x800 ≤ n) × ((n < 0xD800) ⊎ (0xDFFF < n))
 
 is-plain : (n : ℕ) → plain n ≡ true → Plain n
-is-plain n e = let p = parts (leb 0x800 n) (not (leb 0xD800 n && leb n 0xDFFF)) e in (leb-true 0x800 n (p .0), go (leb 0xD800 n) (leb n 0xDFFF) refl refl (not-true _ (p .1)))
+is-plain n e =
+    let p = parts (leb 0x800 n) (not (leb 0xD800 n && leb n 0xDFFF)) e in
+    (leb-true 0x800 n (p .0), go (leb 0xD800 n) (leb n 0xDFFF) refl refl (not-true _ (p .1)))
   where
     go : (x y : Bool) → leb 0xD800 n ≡ x → leb n 0xDFFF ≡ y → x && y ≡ false → (n < 0xD800) ⊎ (0xDFFF < n)
-    go true true e f g = let z : _≡_ {A = Bool} true false = g in absurd (bad z)
-      where
-        bad : _≡_ {A = Bool} true false → ⊥
-        bad z = let w : _≡_ {A = ℕ} 0 1 = cc in omega arith
+    go true true e f g = let z : _≡_ {A = ℕ} 0 1 = cc in absurd (omega arith)
     go true false e f g = inr (leb-false n 0xDFFF f)
     go false y e f g = inl (leb-false 0xD800 n e)
 
@@ -219,6 +219,7 @@ module _ (s : List ℕ) where
   unfolding glyph
   no-first lo hi t e l g m = ap (λ o. shown m (counted o s) s) (sym e ∙ alike l g characters t)
 
+-- the test passes for every number below n
 abbrev upTo : (ℕ → Bool) → ℕ → Bool
 upTo f zero = true
 upTo f (suc n) = both (f n) (upTo f n)
@@ -235,6 +236,7 @@ up-to f (suc n) t b h = go (up-to f n (right (f n) (upTo f n) t) b) (decLt b n)
 abbrev pub classed : ℕ → ℕ → Bool
 classed k b = cond (ltb b 0x80) (both (not (eqb k LEAD)) (not (eqb k INVALID))) (cond (leb 0xC2 b && ltb b 0xF5) (eqb k LEAD) (eqb k INVALID))
 
+-- by one computed test over all bytes, in each mode
 pub first-class : (m b : ℕ) → b < 256 → T (classed (class m b) b)
 unfolding class normal hex jump
 first-class zero b h = up-to (λ b. classed (classIn normal b) b) 256 tt b h
@@ -255,18 +257,18 @@ module _ (s : List ℕ) (byte : getD s 0 0 < 256) (m : ℕ) where
   ascii : b₀ < 0x80 → told m s ≡ glyph m s
   unfolding told
   ascii g =
-      let t = rw (lt-ltb (b₀) 0x80 g) at (first-class m (b₀) byte) in
+      let t = rw (lt-ltb b₀ 0x80 g) at (first-class m b₀ byte) in
       rw (untrue (eqb k LEAD) (left (not (eqb k LEAD)) (not (eqb k INVALID)) t)) (begins s 0 0x80 [] (omega arith) g tt refl m)
 
   lead : 0xC2 ≤ b₀ → b₀ < 0xF5 → told m s ≡ glyph m s
   unfolding told
   lead l g =
-      let t = rw (le-ltb (b₀) 0x80 (omega arith), le-leb 0xC2 (b₀) l, lt-ltb (b₀) 0xF5 g) at (first-class m (b₀) byte) in
+      let t = rw (le-ltb b₀ 0x80 (omega arith), le-leb 0xC2 b₀ l, lt-ltb b₀ 0xF5 g) at (first-class m b₀ byte) in
       rw (eqb→eq k LEAD t) (lead-same s l g m)
 
-  neither : 0x80 ≤ b₀ → leb 0xC2 (b₀) && ltb (b₀) 0xF5 ≡ false → _≡_ {A = ℕ × ℕ} (INVALID, 1) (glyph m s) → told m s ≡ glyph m s
+  neither : 0x80 ≤ b₀ → leb 0xC2 b₀ && ltb b₀ 0xF5 ≡ false → _≡_ {A = ℕ × ℕ} (INVALID, 1) (glyph m s) → told m s ≡ glyph m s
   unfolding told
-  neither l e f = let t = rw (le-ltb (b₀) 0x80 l, e) at (first-class m (b₀) byte) in rw (eqb→eq k INVALID t) f
+  neither l e f = let t = rw (le-ltb b₀ 0x80 l, e) at (first-class m b₀ byte) in rw (eqb→eq k INVALID t) f
 
   pub agrees : told m s ≡ glyph m s
   agrees = go (decLt b₀ 0x80) (decLt b₀ 0xC2) (decLt b₀ 0xF5)
