@@ -1,9 +1,8 @@
 -- Names are spelled: each entered once, in order; those of the sets by one computed test over the 55, and those of codes. Assumes nothing.
 use Prim.Native.Nat.{ℕ, zero, suc, _+_, _≤_, _<_}
 use mathlib.Core.Path.{_≡_, refl, sym, ap, ap₂, subst, _∙_}
-use mathlib.Core.List.{List, [], _∷_, _++_, map}
+use mathlib.Core.List.{List, [], _∷_, _++_}
 use mathlib.Core.Bool.{Bool, true, false}
-use mathlib.Core.Option.{Option, none, some}
 use native.Mathlib.Decide.{decLt}
 use native.Mathlib.Numerals.{add-one}
 use native.Mathlib.Omega.{arith}
@@ -13,7 +12,6 @@ use lib.ListN.{length, getD, getElem?, take, drop, set, length-set, length-appen
 use lib.Seq.{drop-cons, getD-drop, getD-take, length-take-le, take-suc, take-suc-set}
 use Rattle.kinds.specs.Sets.{idOf, idsOf, setOf}
 use Rattle.kinds.specs.Answers.{nameOf}
-use Rattle.kinds.specs.declared.answer.Name.{Name}
 use Rattle.kinds.specs.declared.answer.Name.the-variants as n
 use Rattle.kinds.proofs.Tables.{both, both-left, both-right, all, all-sound}
 use Rattle.kinds.proofs.Order.{set-none}

@@ -270,9 +270,6 @@ adding = record {
 pub exec-adds : (d : ℕ) (p : Prog) (o : Bool) (s : State) → Adding s (exec d (run d) p o s)
 exec-adds d p o = exec-kept (stepped Adding adding) d (run d) (run-kept (stepped Adding adding) d) p o
 
-pub run-adds : (d : ℕ) (o : Bool) (a : Production) (s : State) → Adding s (run d o a s)
-run-adds d o a = run-kept (stepped Adding adding) d o a
-
 -- CLOSING, as the code meets it: o is what stood written when the node's opening had been, b what stands when its body has run. The opening
 -- ends at EVENT * length o.
 pub buffer-closes : (x : Source) (a n m j : ℕ) (before o b : List Event) → o ≡ opened j ∷ before → Adds o b →

@@ -60,9 +60,6 @@ module _ (k : ℕ) (q : List Event) (b : List ℕ) (dr : List Draft) where
   pub skip-to-h : (S : List ℕ) (s : State) → skip-to S (h s) ≡ h (skip-to S s)
   skip-to-h S s = ap (λ (o : List Event). mark (put (seek S (s .rest)) o (h s))) (seek-out-q S (s .rest) (s .out))
 
-  pub choose-h : (s : State) → choose (h s) ≡ h (choose s)
-  choose-h s = refl
-
   -- a step that good order alone lets happen
   guarded : (f : Reader) → ((s : State) → Live ((f (turn ok s)) .mode) → f (h (turn ok s)) ≡ h (f (turn ok s))) → Framed (if-ok f)
   guarded f g s = go (s .mode) s

@@ -19,7 +19,7 @@ use Rattle.definition.specs.Prog as G
 use Rattle.definition.specs.Grammar.{grammar, kind, rule-decl, item-of}
 use Rattle.definition.specs.Run as P
 use Rattle.definition.specs.Render.{Source}
-use Rattle.definition.proofs.Every.{productions}
+use Rattle.definition.specs.Prog.{productions}
 use Rattle.notes.specs.Whole.{Whole}
 use Rattle.notes.specs.Change.{markOf, gone, withMode}
 use Rattle.notes.specs.Means.{Bufs, bufs, namesOf}

@@ -8,11 +8,10 @@ use lib.Dec.{eqb}
 use lib.ListN.{length, getD, drop}
 use Rattle.kinds.specs.Kinds as k
 use Rattle.kinds.specs.Sets.{setOf}
-use Rattle.definition.specs.Prog.{Prog, Production, eat, unless, ifnext, opt, many, then, _⨟_, last, recover, node, memo, RULE-DECL}
+use Rattle.definition.specs.Prog.{Prog, Production, productions, eat, unless, ifnext, opt, many, then, _⨟_, last, recover, node, memo, RULE-DECL}
 use Rattle.definition.specs.Prog as G
 use Rattle.definition.specs.Grammar.{grammar, kind, item-of}
 use Rattle.definition.specs.Run as P
-use Rattle.definition.proofs.Every.{productions}
 use Rattle.notes.specs.Bits.{ifb}
 use Rattle.notes.specs.Means.{namesOf}
 use Rattle.notes.specs.Did.{Peeked, hits}

@@ -1,7 +1,7 @@
 -- A pair of words read bit by bit, and the rule of the sets' words: one computed test over all sets and ids. Assumes nothing.
-use Prim.Native.Nat.{ℕ, _+_, _-_, _/_, _%_, _^_, _≤_, _<_}
+use Prim.Native.Nat.{ℕ, _-_, _/_, _%_, _^_, _≤_, _<_}
 use mathlib.Core.Path.{_≡_, refl, sym, ap, ap₂, _∙_}
-use mathlib.Core.List.{List, [], _∷_, map}
+use mathlib.Core.List.{List, [], _∷_}
 use mathlib.Core.Bool.{Bool, true, false}
 use mathlib.Core.Option.{none, some}
 use native.Mathlib.Nat.{zero-div}
@@ -11,7 +11,7 @@ use borrow.Author.Tests.{eqb-true, ltb-true, ne-eqb}
 use lib.Bits.{bitAnd, and-mask}
 use lib.Dec.{eqb, ltb}
 use lib.ListN.{length, getD, List·getD-eq-default}
-use Rattle.kinds.specs.Sets.{idOf, pick, sets, setOf}
+use Rattle.kinds.specs.Sets.{idOf, pick, setOf}
 use Rattle.kinds.specs.Answers.{inPair, isSome, words}
 use Rattle.kinds.proofs.Order.{set-none}
 use Rattle.kinds.proofs.Tables.{both, both-left, both-right, all, all-sound, alike, alike-sound}

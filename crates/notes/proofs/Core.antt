@@ -40,9 +40,6 @@ like-same {p} {x} e = record { all = λ z. ap bare e; over = ap (overOf p x) e }
 pub like-trans : {p : Past} {x : Source} {a b c : P.State} → Like p x a b → Like p x b c → Like p x a c
 like-trans k l = record { all = λ z. k .all z ∙ l .all (sym (k .over) ∙ z); over = k .over ∙ l .over }
 
-pub like-sym : {p : Past} {x : Source} {a b : P.State} → Like p x a b → Like p x b a
-like-sym l = record { all = λ z. sym (l .all (l .over ∙ z)); over = sym (l .over) }
-
 -- once a room is exceeded, it stays the one
 abbrev pub Sticky : Past → Source → P.State → P.State → Type 0
 Sticky p x a c = (overOf p x a ≡ 0 → ⊥) → overOf p x c ≡ overOf p x a
@@ -143,13 +140,6 @@ put-of s u = record { is = refl; stuck = u .stuck; filled = u .filled; room = u 
 -- a state for any place: what holds of all that stand there is known of this one, where the code has none at hand
 abbrev pub blank : Whole
 blank = record { pos = 0; fuel = 0; mode = 0; ev = 0; evcap = 0; er = 0; ercap = 0; item = 0; first = 0; far = 0; quote = 0; want = 0; unwant = 0; full = 0; count = 0; mask = 0; codes = replicate 58 0 }
-
-pub ok-blank : (n pos ev cap full : ℕ) → pos ≤ n → ev ≤ cap → Ok n (standing pos ev cap full blank)
-ok-blank n pos ev cap full h k = (
-  record { here = h; since = omega arith; far-in = omega arith; want-in = omega arith; want-since = λ z. absurd (z refl); unwant-in = omega arith; unwant-since = λ z. absurd (z refl) },
-  none-named (replicate 58 0) refl,
-  record { events = k; since = le-refl _; errors = le-refl _ },
-)
 
 -- what is noted beside a well formed state is well formed
 pub sound : {n : ℕ} (l : List ℕ) (s : Whole) → Ok n (beside l s) → Sound n l

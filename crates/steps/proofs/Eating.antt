@@ -82,9 +82,6 @@ module _ (S N : List ℕ) {x : Source} {s : Whole} (good : s .mode ≡ 0) where
 pub fails-after : (f : P.Reader) {x : Source} {s r : Whole} → Plain f x s r → Plain (λ a. P.turn failed (f a)) x s (withMode 1 r)
 fails-after f y = record { did = λ b w. turned 1 failed refl (y .did b w); ok = y .ok; evcap = y .evcap; ercap = y .ercap; first = y .first; place = y .place; still = y .still }
 
-pub thenE : {f g : P.Reader} {x : Source} {s r q : Whole} {ev ev₁ ev₂ : List ℕ} → Events f x s r ev ev₁ → Events g x r q ev₁ ev₂ → Events (λ a. g (f a)) x s q ev ev₂
-thenE t u = record { did = λ er sc w. let T = t .did er sc w in then T (u .did er sc (T .wf)); ok = u .ok; fits = u .fits; first = u .first ∙ t .first; grows = omega (arith, t .grows, u .grows) }
-
 -- `not`, by what `sees` answers
 refuses-there : (N : List ℕ) (z : Next) → hits z ≡ true → (a : P.State) → P.refuse-row z a ≡ P.turn failed (P.unexpected (P.back a (P.eat-row N z a)))
 refuses-there N end h a = let c : _≡_ {A = ℕ} 0 1 = cc in absurd (omega arith)

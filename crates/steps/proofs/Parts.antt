@@ -92,10 +92,6 @@ module _ {f : P.Reader} {x : Source} {s r : Whole} {b b′ : Bufs} (w : Wf x b s
   pub went : (n : ℕ) (m : Mode) → m ≡ modeOf n → Did (λ a. P.turn m (P.back a (f a))) x s (withMode n (gone (markOf s) r)) b b′
   went n m e = turned n m e returned
 
-  -- the same after `mark` and `rewind`
-  pub rewound : {m : ℕ × ℕ} {q : Whole} (n : ℕ) (k : Mode) → k ≡ modeOf n → m ≡ markOf s → q ≡ gone m r → Did (λ a. P.turn k (P.back a (f a))) x s (withMode n q) b b′
-  rewound {m} {q} n k e i j = subst (λ (u : Whole). Did (λ a. P.turn k (P.back a (f a))) x s (withMode n u) b b′) (sym (j ∙ ap (λ (u : ℕ × ℕ). gone u r) i)) (went n k e)
-
 -- alternatives
 or-else-ok : (g : P.Reader) (a t : P.State) (n : ℕ) → t .mode ≡ modeOf n → (n ≡ 1 → ⊥) → P.or-else g a t ≡ t
 or-else-ok g a t zero e h = λ i. elim (e i) [ ok ↦ t | failed ↦ g (P.turn ok (P.back a t)) | stopped w ↦ t ]

@@ -30,11 +30,6 @@ done failed e = tt
 done (stopped spent) e = omega (arith, e)
 done (stopped deep) e = omega (arith, e)
 
-pub outcome-done : (m : Mode) → Running m → outcome-of m ≡ 0
-outcome-done ok r = refl
-outcome-done failed r = refl
-outcome-done (stopped w) r = absurd r
-
 not-given : {A : Type 0} (n : ℕ) (R : Reading) → refused n ≡ given R → A
 not-given n R e = never cc
 

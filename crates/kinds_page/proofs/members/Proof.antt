@@ -1,6 +1,5 @@
 -- `kinds_page::members` is safe and ends: no more is found than was looked at.
 use Prim.Native.Nat.{_≤_, _-_}
-use native.Mathlib.Omega.{arith}
 use borrow.Author.Needs.{needs}
 use Rattle.kinds_page.proofs.members.Statement.{statement}
 use Rattle.kinds_page.proofs.members.Tie as tie
