@@ -154,6 +154,16 @@ fn keep(list: &mut [u32], at: usize, to: usize) -> usize
     to + TOLD
 }
 
+// How many events are gone where the list, which ended at one place, ends at another: an empty node has two.
+fn gone(to: usize, next: usize) -> usize
+    ensures { λ r. ⌜ r ≤ 2 ⌝ }
+{
+    if next < to {
+        return 2;
+    }
+    0
+}
+
 // Takes the depths out, which the Rust does not tell, and empty ERROR nodes, inside out, since the Rust writes none (docs/DIFFERENCES.md, row 1), and
 // answers how many events are gone. Behind the list stand zeros, as before.
 fn strip(list: &mut [u32]) -> usize
@@ -164,9 +174,7 @@ fn strip(list: &mut [u32]) -> usize
     let mut dropped = 0;
     while EVENT <= list.len() - at {
         let next = keep(list, at, to);
-        if next < to {
-            dropped += 2;
-        }
+        dropped += gone(to, next);
         to = next;
         at += EVENT;
     }

@@ -21,6 +21,12 @@ sub-loop c = search needs
 keep-requires : tie.Need-keep-requires Inv-loop μ-loop
 keep-requires c κs = search needs
 
+gone-requires : tie.Need-gone-requires Inv-loop μ-loop
+gone-requires c κs = search needs
+
+add-dropped : tie.Need-add-dropped Inv-loop μ-loop
+add-dropped c = search needs
+
 add-at : tie.Need-add-at Inv-loop μ-loop
 add-at c = search needs
 
@@ -45,9 +51,6 @@ part-clear-end c = search needs
 clear-requires : tie.Need-clear-requires Inv-loop μ-loop
 clear-requires c κs = search needs
 
-sub-result : tie.Need-sub-result Inv-loop μ-loop
-sub-result c = search needs
-
 same-length : tie.Need-same-length Inv-loop μ-loop
 same-length c = search needs
 
@@ -63,6 +66,8 @@ strip-spec =
     loop-holds
     sub-loop
     keep-requires
+    gone-requires
+    add-dropped
     add-at
     loop-less
     loop-again
@@ -71,6 +76,5 @@ strip-spec =
     part-clear-start
     part-clear-end
     clear-requires
-    sub-result
     same-length
     returns)
