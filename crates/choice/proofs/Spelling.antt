@@ -1,4 +1,4 @@
--- Names are spelled: each entered once, in order; those of the sets by one computed test over the 55, and those of codes. Assumes nothing.
+-- Names are spelled: each entered once, in order; those of the sets by one computed test over the 56, and those of codes. Assumes nothing.
 use Prim.Native.Nat.{ℕ, zero, suc, _+_, _≤_, _<_}
 use mathlib.Core.Path.{_≡_, refl, sym, ap, ap₂, subst, _∙_}
 use mathlib.Core.List.{List, [], _∷_, _++_}
@@ -85,7 +85,7 @@ named-below (a ∷ S) t = (ltb-true (idOf a) 85 (both-left (ltb (idOf a) 85) (na
 abbrev brief : List ℕ → Bool
 brief S = both (ltb (length (idsOf S)) 17) (named S)
 
-tested : all (λ s. brief (setOf s)) 55 ≡ true
+tested : all (λ s. brief (setOf s)) 56 ≡ true
 unfolding idOf
 tested = refl
 
@@ -94,11 +94,11 @@ pub record Brief (ids : List ℕ) : Type 0 where
   pub few : length ids ≤ 16
 
 pub sets-brief : (s : ℕ) → Brief (idsOf (setOf s))
-sets-brief s = go (decLt s 55)
+sets-brief s = go (decLt s 56)
   where
-    go : Dec (s < 55) → Brief (idsOf (setOf s))
+    go : Dec (s < 56) → Brief (idsOf (setOf s))
     go (yes h) =
-        let t = all-sound (λ s. brief (setOf s)) 55 tested s h in
+        let t = all-sound (λ s. brief (setOf s)) 56 tested s h in
         record { below = named-below (setOf s) (both-right (ltb (length (idsOf (setOf s))) 17) (named (setOf s)) t); few = omega (arith, ltb-true (length (idsOf (setOf s))) 17 (both-left (ltb (length (idsOf (setOf s))) 17) (named (setOf s)) t)) }
     go (no h) = rw (set-none s (omega (arith, h))) (record { below = tt; few = omega arith })
 

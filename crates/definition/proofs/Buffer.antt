@@ -267,8 +267,8 @@ adding = record {
   at-node = nodes-added;
 }
 
-pub exec-adds : (d : ℕ) (p : Prog) (o : Bool) (s : State) → Adding s (exec d (run d) p o s)
-exec-adds d p o = exec-kept (stepped Adding adding) d (run d) (run-kept (stepped Adding adding) d) p o
+pub exec-adds : (E : Bool) (d : ℕ) (p : Prog) (o : Bool) (s : State) → Adding s (exec d (run E d) p o s)
+exec-adds E d p o = exec-kept (stepped Adding adding) d (run E d) (run-kept (stepped Adding adding) E d) p o
 
 -- CLOSING, as the code meets it: o is what stood written when the node's opening had been, b what stands when its body has run. The opening
 -- ends at EVENT * length o.
@@ -333,7 +333,7 @@ errors-added (e ∷ c) o = adds-trans o (bad (e .0) (e .1) ∷ o) (errors c (bad
 
 reads-adds : (L : Limits) (p : Prog) (s : State) → Adding s (read-item L p s)
 unfolding read-item
-reads-adds L p s = exec-adds (L .depth) p false s
+reads-adds L p s = exec-adds (L .entrypoint) (L .depth) p false s
 
 stray-adds : (s : State) → Adding s (stray-item s)
 stray-adds s =

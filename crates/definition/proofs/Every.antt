@@ -36,6 +36,11 @@ pub clash : {A : Type 0} (b : Bool) → T (not b) → T b → A
 clash true n t = absurd n
 clash false n t = absurd t
 
+-- what holds where entrypoint is allowed and where it is not holds of both, E which of the two
+pub either-way : (P : Bool → Type 0) → P true → P false → (E : Bool) → P E
+either-way P t f true = t
+either-way P t f false = f
+
 unkind : ℕ → Production
 unkind n = getD productions (n - kinds.RULE-DECL) RULE-DECL
 

@@ -99,12 +99,12 @@ parts-within k = record {
 }
 
 -- a program whose productions open no more
-exec-within : (k d : ℕ) → ((o : Bool) (a : Production) (s : State) → Within (suc k) s (run d o a s)) → (p : Prog) (o : Bool) (s : State) → Within (suc k) s (exec d (run d) p o s)
-exec-within k d c p = exec-joined-if (joined-if (Within (suc k)) (parts-within k)) d (run d) c p (any-enter p)
+exec-within : (E : Bool) (k d : ℕ) → ((o : Bool) (a : Production) (s : State) → Within (suc k) s (run E d o a s)) → (p : Prog) (o : Bool) (s : State) → Within (suc k) s (exec d (run E d) p o s)
+exec-within E k d c p = exec-joined-if (joined-if (Within (suc k)) (parts-within k)) d (run E d) c p (any-enter p)
 
-run-within : (d : ℕ) (o : Bool) (a : Production) (s : State) → Within (suc d) s (run d o a s)
-run-within zero o a = node-within 0 zero o (kind a) (λ t. t) (λ t. within-still 0 t t refl)
-run-within (suc d) o a = node-within (suc d) (suc d) o (kind a) (exec d (run d) (grammar a) o) (exec-within d d (run-within d) (grammar a) o)
+run-within : (E : Bool) (d : ℕ) (o : Bool) (a : Production) (s : State) → Within (suc d) s (run E d o a s)
+run-within E zero o a = node-within 0 zero o (kind a) (λ t. t) (λ t. within-still 0 t t refl)
+run-within E (suc d) o a = node-within (suc d) (suc d) o (kind a) (exec d (run E d) (grammar E a) o) (exec-within E d d (run-within E d) (grammar E a) o)
 
 -- ITEMS
 module _ (L : Limits) where
@@ -113,7 +113,7 @@ module _ (L : Limits) where
 
   item-within : (p : Prog) (s : State) → Within most s (read-item L p s)
   unfolding read-item
-  item-within p = exec-within (L .depth) (L .depth) (run-within (L .depth)) p false
+  item-within p = exec-within (L .entrypoint) (L .depth) (L .depth) (run-within (L .entrypoint) (L .depth)) p false
 
   errors-low : (m : ℕ) (c : List (ℕ × Choice)) (o : List Event) → Low m o → Low m (errors c o)
   errors-low m [] o l = l

@@ -83,10 +83,10 @@ module _ {c : List ℕ → Bool} {G : Reader → Type 0} (K : KeptIf c G) where
   pub exec-kept-if : (d : ℕ) (call : Bool → Production → Reader) → ((o : Bool) (a : Production) → G (call o a)) → (p : Prog) → T (enters c p) → (o : Bool) → G (exec d call p o)
   exec-kept-if = exec-joined-if (K .joined)
 
-  pub run-kept-if : ((a : Production) → T (enters c (grammar a))) → (d : ℕ) (o : Bool) (a : Production) → G (run d o a)
-  run-kept-if e zero o a = K .at-node zero o (kind a) (λ s. s) (K .at-id)
-  run-kept-if e (suc d) o a =
-      K .at-node (suc d) o (kind a) (exec d (run d) (grammar a) o) (exec-kept-if d (run d) (λ o b. run-kept-if e d o b) (grammar a) (e a) o)
+  pub run-kept-if : (E : Bool) → ((a : Production) → T (enters c (grammar E a))) → (d : ℕ) (o : Bool) (a : Production) → G (run E d o a)
+  run-kept-if E e zero o a = K .at-node zero o (kind a) (λ s. s) (K .at-id)
+  run-kept-if E e (suc d) o a =
+      K .at-node (suc d) o (kind a) (exec d (run E d) (grammar E a) o) (exec-kept-if d (run E d) (λ o b. run-kept-if E e d o b) (grammar E a) (e a) o)
 
 pub any-enter : (p : Prog) → T (enters (λ N. true) p)
 any-enter (eat S N) = tt
@@ -109,5 +109,5 @@ module _ {G : Reader → Type 0} (K : Kept G) where
   pub exec-kept : (d : ℕ) (call : Bool → Production → Reader) → ((o : Bool) (a : Production) → G (call o a)) → (p : Prog) (o : Bool) → G (exec d call p o)
   exec-kept d call g p o = exec-kept-if whatever d call g p (any-enter p) o
 
-  pub run-kept : (d : ℕ) (o : Bool) (a : Production) → G (run d o a)
-  run-kept d o a = run-kept-if whatever (λ b. any-enter (grammar b)) d o a
+  pub run-kept : (E : Bool) (d : ℕ) (o : Bool) (a : Production) → G (run E d o a)
+  run-kept E d o a = run-kept-if whatever E (λ b. any-enter (grammar E b)) d o a

@@ -27,6 +27,7 @@ use Rattle.steps.proofs.Ends.{none-pending}
 use Rattle.desk.specs.Items.{Tally, tell, told, Tells, Numbered, Free, at-hand, pastOf, Hands, settled, Settled, over, Between, Goes}
 use Rattle.desk.proofs.Telling.{recorded-length}
 use Rattle.desk.proofs.Hand.{heard, sticky-hand}
+use Rattle.grammar.specs.Table.{reach}
 
 -- AN ITEM ENDS
 abbrev calm : Mode → Mode
@@ -153,8 +154,8 @@ module _ (n : ℕ) (s : Whole) where
       go true false i j e = absurd (subst T e tt)
       go false d i j e = absurd (subst T e tt)
 
-module _ {depth : ℕ} {x : Source} {d : Tally} {b : Bufs} (w : Wf x b (d .state)) (st : Settled (d .state)) (k : ℕ) where
-  stuck : (d .state .full ≡ 0 → ⊥) → Goes depth k x d d b b
+module _ {bounds : ℕ × Bool} {x : Source} {d : Tally} {b : Bufs} (w : Wf x b (d .state)) (st : Settled (d .state)) (k : ℕ) where
+  stuck : (d .state .full ≡ 0 → ⊥) → Goes bounds k x d d b b
   unfolding overOf
   stuck n =
       record {
@@ -168,38 +169,38 @@ module _ {depth : ℕ} {x : Source} {d : Tally} {b : Bufs} (w : Wf x b (d .state
         settles = st;
       }
 
-  same : ((L : Limits) (E R : ℕ) (a : P.State) → Between L E R x d b a → P.items L k a ≡ a) → Goes depth k x d d b b
+  same : ((L : Limits) (E R : ℕ) (a : P.State) → Between L E R x d b a → P.items L k a ≡ a) → Goes bounds k x d d b b
   same g = record { does = λ L E R a i B. subst (λ (c : P.State). Between L E R x d b c) (sym (g L E R a B)) B; wf = w; settles = st }
 
-  pub idles : over (length (x .ids)) (d .state) ≡ true → Goes depth k x d d b b
+  pub idles : over (length (x .ids)) (d .state) ≡ true → Goes bounds k x d d b b
   idles e = go (ℕ-discrete (d .state .full) 0) (ℕ-discrete (d .state .mode) 0) (decLt (d .state .pos) (length (x .ids)))
     where
-      go : Dec (d .state .full ≡ 0) → Dec (d .state .mode ≡ 0) → Dec (d .state .pos < length (x .ids)) → Goes depth k x d d b b
+      go : Dec (d .state .full ≡ 0) → Dec (d .state .mode ≡ 0) → Dec (d .state .pos < length (x .ids)) → Goes bounds k x d d b b
       go (no n) m l = stuck n
       go (yes z) (no n) l = same (λ L E R a B. items-not L k (d .state .mode) a n (B .stands .means z .mode))
       go (yes z) (yes y) (no h) = let g : length (x .ids) ≤ d .state .pos = omega arith in same (λ L E R a B. items-out L k a (B .stands .means z .rest ∙ drop-of-length-le (x .ids) g))
       go (yes z) (yes y) (yes h) = let g = leb-true (length (x .ids)) (d .state .pos) (over-rows (length (x .ids)) (d .state) z y ∙ e) in absurd (omega arith)
 
-pub items-none : {depth : ℕ} {x : Source} {d : Tally} {b : Bufs} → Wf x b (d .state) → Settled (d .state) → Goes depth 0 x d d b b
+pub items-none : {bounds : ℕ × Bool} {x : Source} {d : Tally} {b : Bufs} → Wf x b (d .state) → Settled (d .state) → Goes bounds 0 x d d b b
 items-none w st = same w st 0 (λ L E R a B. refl)
 
 -- some number of items by another name of it
-pub goes-as : {depth : ℕ} {x : Source} {d r : Tally} {b b′ : Bufs} (n k : ℕ) → n ≡ k → Goes depth n x d r b b′ → Goes depth k x d r b b′
-goes-as {depth} {x} {d} {r} {b} {b′} n k e y = subst (λ (i : ℕ). Goes depth i x d r b b′) e y
+pub goes-as : {bounds : ℕ × Bool} {x : Source} {d r : Tally} {b b′ : Bufs} (n k : ℕ) → n ≡ k → Goes bounds n x d r b b′ → Goes bounds k x d r b b′
+goes-as {bounds} {x} {d} {r} {b} {b′} n k e y = subst (λ (i : ℕ). Goes bounds i x d r b b′) e y
 
 -- some items more
-pub goes-then : {depth : ℕ} {x : Source} {d r q : Tally} {b b₁ b₂ : Bufs} (n k : ℕ) → Goes depth n x d r b b₁ → Goes depth k x r q b₁ b₂ → Goes depth (n + k) x d q b b₂
-goes-then {depth} {x} {d} {r} {q} {b} {b₁} {b₂} n k y z =
+pub goes-then : {bounds : ℕ × Bool} {x : Source} {d r q : Tally} {b b₁ b₂ : Bufs} (n k : ℕ) → Goes bounds n x d r b b₁ → Goes bounds k x r q b₁ b₂ → Goes bounds (n + k) x d q b b₂
+goes-then {bounds} {x} {d} {r} {q} {b} {b₁} {b₂} n k y z =
     record { does = λ L E R a i B. subst (λ (c : P.State). Between L E R x q b₂ c) (sym (chain L n k a)) (z .does L E R (P.items L n a) i (y .does L E R a i B)); wf = z .wf; settles = z .settles }
 
 -- AN ITEM
 
 -- what is to be forgotten has its place in the scratch words
-pub settle-asks : (x : Source) {depth : ℕ} {s : Whole} {before : ℕ} {h u : Tally} {b b′ : Bufs} {ev′ : List ℕ} → Hands depth x s before h b b′ → ((sc : List ℕ) → Wf x (bufs (b′ .events) (b′ .errors) sc) (h .state) → Tells x (h .state) (h .before) u (bufs (b′ .events) (b′ .errors) sc) (bufs ev′ (b′ .errors) sc)) → 2 * u .state .far ≤ 64 * length (b′ .scratch)
+pub settle-asks : (x : Source) {bounds : ℕ × Bool} {s : Whole} {before : ℕ} {h u : Tally} {b b′ : Bufs} {ev′ : List ℕ} → Hands bounds x s before h b b′ → ((sc : List ℕ) → Wf x (bufs (b′ .events) (b′ .errors) sc) (h .state) → Tells x (h .state) (h .before) u (bufs (b′ .events) (b′ .errors) sc) (bufs ev′ (b′ .errors) sc)) → 2 * u .state .far ≤ 64 * length (b′ .scratch)
 settle-asks x {b′ = b′} H T = let v = T (b′ .scratch) (H .wf) .wf in omega (arith, v .0 .0 .far-in, v .1 .scratch)
 
-module _ {depth : ℕ} (x : Source) (d h u r : Tally) (s : Whole) (ev ev₁ ev₂ ev₃ er er₂ sc sc₂ sc₃ : List ℕ) (rows : Rows x) (w : Wf x (bufs ev er sc) (d .state)) (st : Settled (d .state)) (ready : (d .state .full ≡ 0) × (d .state .mode ≡ 0) × (d .state .pos < length (x .ids)))
-    (T : Events P.trivia x (d .state) s ev ev₁) (H : Hands depth x s (d .before) h (bufs ev₁ er sc) (bufs ev₂ er₂ sc₂)) (U : Tells x (h .state) (h .before) u (bufs ev₂ er₂ sc₂) (bufs ev₃ er₂ sc₂))
+module _ {bounds : ℕ × Bool} (x : Source) (d h u r : Tally) (s : Whole) (ev ev₁ ev₂ ev₃ er er₂ sc sc₂ sc₃ : List ℕ) (rows : Rows x) (w : Wf x (bufs ev er sc) (d .state)) (st : Settled (d .state)) (ready : (d .state .full ≡ 0) × (d .state .mode ≡ 0) × (d .state .pos < length (x .ids)))
+    (T : Events P.trivia x (d .state) s ev ev₁) (H : Hands bounds x s (d .before) h (bufs ev₁ er sc) (bufs ev₂ er₂ sc₂)) (U : Tells x (h .state) (h .before) u (bufs ev₂ er₂ sc₂) (bufs ev₃ er₂ sc₂))
     (is : r .state ≡ settled (u .state)) (same : r .before ≡ u .before) (F : Forgot (u .state .first) (u .state .far) sc₂ sc₃) (long : length sc₃ ≡ length sc₂) where
   z : d .state .full ≡ 0
   z = ready .0
@@ -210,7 +211,7 @@ module _ {depth : ℕ} (x : Source) (d h u r : Tally) (s : Whole) (ev ev₁ ev�
   l : d .state .pos < length (x .ids)
   l = ready .2
 
-  module _ (L : Limits) (E R : ℕ) (a : P.State) (i : L .depth ≡ depth) (B : Between L E R x d (bufs ev er sc) a) where
+  module _ (L : Limits) (E R : ℕ) (a : P.State) (i : reach L ≡ bounds) (B : Between L E R x d (bufs ev er sc) a) where
     abbrev p : Past
     p = pastOf L E R x a
 
@@ -279,7 +280,7 @@ module _ {depth : ℕ} (x : Source) (d h u r : Tally) (s : Whole) (ev ev₁ ev�
         few zero f o b k = omega (arith, o refl, rows .lines .few)
         few (suc i) f o b k = omega (arith, rows .lines .few)
 
-  pub item-goes : Goes depth 1 x d r (bufs ev er sc) (bufs ev₃ er₂ sc₃)
+  pub item-goes : Goes bounds 1 x d r (bufs ev er sc) (bufs ev₃ er₂ sc₃)
   item-goes =
       record {
         does = λ L E R a i B. subst (λ (c : P.State). Between L E R x r (bufs ev₃ er₂ sc₃) c) (steps L E R a i B) (between L E R a i B);

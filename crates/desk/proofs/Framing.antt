@@ -32,6 +32,7 @@ use Rattle.desk.specs.declared.items.Desk.{Desk}
 use Rattle.desk.specs.Items.{Tally, tally, blank, clean, pastOf, Between, Goes, Settled}
 use Rattle.desk.proofs.Start.{reads}
 use Rattle.desk.specs.Framing.{reading, outcomeOf, Finished, Framed}
+use Rattle.grammar.specs.Table.{reach}
 
 -- zeros have no bit set
 zero-at : (n i : ℕ) → _≡_ {A = ℕ} (getD (replicate n 0) i 0) 0
@@ -187,10 +188,10 @@ module _ (L : P.Limits) (x : Source) (fuel : ℕ) (xs er₀ sc₀ l₀ : List �
       subst (λ (c : Tally). Wf x (bufs (midOf EVENT (length xs - EVENT) xs) er₀ sc₀) (c .state) × Settled (c .state)) (sym begins)
       (blank-wf x fuel (length xs - EVENT) (length er₀) (L .quote) (midOf EVENT (length xs - EVENT) xs) er₀ sc₀ (omega (arith, mid-len EVENT (length xs) xs (le-refl (length xs)))) (le-refl (length er₀)) i, (refl, refl))
 
-  pub frames : {depth : ℕ} {d : Tally} {t : Whole} {ev₁ ev₂ er sc : List ℕ} → sc₀ ≡ replicate (length sc₀) 0 → EVENT ≤ length xs → (E : ℕ) → length xs ≡ E → take EVENT xs ≡ event Sort.BEGIN k.SOURCE-FILE 0 (length (x .bytes)) 0 → L .depth ≡ depth → L .depth + 2 < 4294967296 →
-      Goes depth (length (x .ids)) x first d (bufs (midOf EVENT (length xs - EVENT) xs) er₀ sc₀) (bufs ev₁ er sc) → Put (event Sort.END k.SOURCE-FILE 0 (length (x .bytes)) 0) (d .state) t ev₁ ev₂ →
+  pub frames : {bounds : ℕ × Bool} {d : Tally} {t : Whole} {ev₁ ev₂ er sc : List ℕ} → sc₀ ≡ replicate (length sc₀) 0 → EVENT ≤ length xs → (E : ℕ) → length xs ≡ E → take EVENT xs ≡ event Sort.BEGIN k.SOURCE-FILE 0 (length (x .bytes)) 0 → reach L ≡ bounds → L .depth + 2 < 4294967296 →
+      Goes bounds (length (x .ids)) x first d (bufs (midOf EVENT (length xs - EVENT) xs) er₀ sc₀) (bufs ev₁ er sc) → Put (event Sort.END k.SOURCE-FILE 0 (length (x .bytes)) 0) (d .state) t ev₁ ev₂ →
       Framed L x fuel E (length er₀) (record { state = t; before = d .before }) (putMid EVENT (length xs - EVENT) xs ev₂) er
-  frames {depth} {d} {t} {ev₁} {ev₂} {er} {sc} none h E whole front deep low g put =
+  frames {bounds} {d} {t} {ev₁} {ev₂} {er} {sc} none h E whole front deep low g put =
       record {
         full = exceeded L x fuel (length xs - EVENT) (length er₀) B (g .wf) put ∙ ap (λ (n : ℕ). over n (length er₀) (moments L x (reading L x fuel))) room;
         finished = λ z. finished L x fuel (length xs - EVENT) (length er₀) B (g .wf) put low z (take EVENT xs) (postOf EVENT (length xs - EVENT) xs) front;
@@ -202,7 +203,7 @@ module _ (L : P.Limits) (x : Source) (fuel : ℕ) (xs er₀ sc₀ l₀ : List �
       B : Between L (length xs - EVENT + EVENT) (length er₀) x d (bufs ev₁ er sc) (reading L x fuel)
       B =
           reads L x fuel (length xs - EVENT) (length er₀) (midOf EVENT (length xs - EVENT) xs) er₀ sc₀ (λ i. ap (λ (l : List ℕ). bitAt l i) none ∙ no-bits (length sc₀) i) deep
-          (subst (λ (c : Tally). Goes depth (length (x .ids)) x c d (bufs (midOf EVENT (length xs - EVENT) xs) er₀ sc₀) (bufs ev₁ er sc)) begins g)
+          (subst (λ (c : Tally). Goes bounds (length (x .ids)) x c d (bufs (midOf EVENT (length xs - EVENT) xs) er₀ sc₀) (bufs ev₁ er sc)) begins g)
 
 -- outcomes by the code's mode
 pub done : (m : ℕ) → m < 2 → 0 ≡ outcomeOf m

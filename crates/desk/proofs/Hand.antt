@@ -28,6 +28,7 @@ use Rattle.notes.proofs.Pigeon.{few}
 use Rattle.desk.specs.Items.{Tally, since, at-hand, pastOf, Free, Strays, Hands}
 use Rattle.desk.proofs.Telling.{recorded-length}
 use Rattle.desk.proofs.Stray.{sticky-stray}
+use Rattle.grammar.specs.Table.{reach}
 
 -- what stands recorded is what the error events say
 pub heard : {p : Past} {x : Source} {s : Whole} {b : Bufs} {a : P.State} → Stands p x s b a → Stands (pastOf (p .limits) (p .event-room) (p .error-room) x a) x s b a
@@ -49,7 +50,7 @@ heard {p} {x} {s} {b} {a} t = record { over = t .over; means = λ z. let m = t .
 
 sticky-item : (L : Limits) (p : Past) (x : Source) (q : Prog) (a : P.State) → Sticky p x a (P.read-item L q a)
 unfolding P.read-item
-sticky-item L p x q a = sticky-exec p x (L .depth) q false a
+sticky-item L p x q a = sticky-exec p x (L .entrypoint) (L .depth) q false a
 
 pub sticky-hand : (L : Limits) (p : Past) (x : Source) (a : P.State) → Sticky p x a (at-hand L a)
 sticky-hand L p x a = go (P.sought P.item-keywords (a .rest))
@@ -93,9 +94,9 @@ apart-few : (n : ℕ) (es : List (ℕ × Choice)) → Apart n es → length es �
 apart-few n es a = let y = own-rows n es a in omega (arith, few (suc n) (rows es) (y .0) (y .1), rows-length es)
 
 -- where a room was exceeded before
-pub hand-stuck : {depth : ℕ} {x : Source} {s : Whole} {before : ℕ} {b : Bufs} → (s .full ≡ 0 → ⊥) → Wf x b s → Hands depth x s before (record { state = s; before = before }) b b
+pub hand-stuck : {bounds : ℕ × Bool} {x : Source} {s : Whole} {before : ℕ} {b : Bufs} → (s .full ≡ 0 → ⊥) → Wf x b s → Hands bounds x s before (record { state = s; before = before }) b b
 unfolding overOf
-hand-stuck {depth} {x} n w =
+hand-stuck {bounds} {x} n w =
     record {
       does = λ p a i t f. record { over = t .over ∙ sym (sticky-hand (p .limits) p x a (λ z. n (t .over ∙ z))); means = λ z. absurd (n z) };
       count = λ p a i t f z. absurd (n z);
@@ -111,11 +112,11 @@ module _ {x : Source} {s : Whole} {b : Bufs} (z : s .full ≡ 0) where
   hand-is : (n : Next) → P.sought P.item-keywords (drop (s .pos) (x .ids)) ≡ n → {p : Past} {a : P.State} → Stands p x s b a → P.item-at (p .limits) n a ≡ at-hand (p .limits) a
   hand-is n q {p} {a} t = ap (λ (k : Next). P.item-at (p .limits) k a) (sym (ap (P.sought P.item-keywords) (t .means z .rest) ∙ q))
 
-module _ {depth : ℕ} {x : Source} {s : Whole} {b : Bufs} (z : s .full ≡ 0) where
+module _ {bounds : ℕ × Bool} {x : Source} {s : Whole} {b : Bufs} (z : s .full ≡ 0) where
   -- n was read, as the definition does it
   hands : (n : Next) → P.sought P.item-keywords (drop (s .pos) (x .ids)) ≡ n → (d : Tally) (before : ℕ) {b′ : Bufs}
-      → ((p : Past) (a : P.State) → p .limits .depth ≡ depth → Stands p x s b a → Free p s before a → (l : List Rec) × Stands (since p l) x (d .state) b′ (P.item-at (p .limits) n a) × (d .state .full ≡ 0 → d .before ≡ length l) × (d .state .full ≡ 0 → d .before + length (P.item-at (p .limits) n a .chosen) ≤ before + (length (x .ids) - s .first) + 1))
-      → Wf x b′ (d .state) → d .state .first ≡ s .first → s .pos ≤ d .state .pos → Hands depth x s before d b b′
+      → ((p : Past) (a : P.State) → reach (p .limits) ≡ bounds → Stands p x s b a → Free p s before a → (l : List Rec) × Stands (since p l) x (d .state) b′ (P.item-at (p .limits) n a) × (d .state .full ≡ 0 → d .before ≡ length l) × (d .state .full ≡ 0 → d .before + length (P.item-at (p .limits) n a .chosen) ≤ before + (length (x .ids) - s .first) + 1))
+      → Wf x b′ (d .state) → d .state .first ≡ s .first → s .pos ≤ d .state .pos → Hands bounds x s before d b b′
   hands n q d before {b′} g w same h =
       record {
         does = λ p a i t f.
@@ -129,20 +130,20 @@ module _ {depth : ℕ} {x : Source} {s : Whole} {b : Bufs} (z : s .full ≡ 0) w
         ahead = h;
       }
 
-  pub hand-end : {before : ℕ} → length (x .ids) ≤ s .pos → Wf x b s → Hands depth x s before (record { state = s; before = before }) b b
+  pub hand-end : {before : ℕ} → length (x .ids) ≤ s .pos → Wf x b s → Hands bounds x s before (record { state = s; before = before }) b b
   hand-end {before} h w = hands end (at-end (x .ids) (s .pos) h) (record { state = s; before = before }) before (λ p a i t f. (p .records, t, (λ v. f z .1), λ v. omega (arith, ap length (f z .0)))) w refl (le-refl _)
 
   module _ (h : s .pos < length (x .ids)) where
-    pub hand-item : {before : ℕ} {r : Whole} {b′ : Bufs} → true ≡ isSome (pick P.item-keywords (getD (x .ids) (s .pos) 0)) → ((L : Limits) → L .depth ≡ depth → Did (P.read-item L (item-of (getD (x .ids) (s .pos) 0))) x s r b b′) → Hands depth x s before (record { state = r; before = before }) b b′
+    pub hand-item : {before : ℕ} {r : Whole} {b′ : Bufs} → true ≡ isSome (pick P.item-keywords (getD (x .ids) (s .pos) 0)) → ((L : Limits) → reach L ≡ bounds → Did (P.read-item L (item-of (getD (x .ids) (s .pos) 0))) x s r b b′) → Hands bounds x s before (record { state = r; before = before }) b b′
     hand-item {before} {r} e y =
         let i = getD (x .ids) (s .pos) 0 in
         let e′ = has-some P.item-keywords i e in
-        let any = y (record { depth = depth; quote = 0 }) refl in
+        let any = y (record { depth = bounds .0; quote = 0; entrypoint = bounds .1 }) refl in
         hands (hit i (drop (suc (s .pos)) (x .ids))) (at-row (x .ids) (s .pos) (some i) h (e′ ∙ ap some (own-kind i _ e′))) (record { state = r; before = before }) before
         (λ p a e t f. let u = y (p .limits) e in (p .records, u .does p a t, (λ v. f z .1), λ v. omega (arith, apart-few (length (x .ids) - r .first) (P.read-item (p .limits) (item-of i) a .chosen) (u .does p a t .means v .chosen .apart), u .first)))
         (any .wf) (any .first) (any .ahead)
 
-    pub hand-stray : {before : ℕ} {d : Tally} {b′ : Bufs} → false ≡ isSome (pick P.item-keywords (getD (x .ids) (s .pos) 0)) → Strays x s before d b b′ → Hands depth x s before d b b′
+    pub hand-stray : {before : ℕ} {d : Tally} {b′ : Bufs} → false ≡ isSome (pick P.item-keywords (getD (x .ids) (s .pos) 0)) → Strays x s before d b b′ → Hands bounds x s before d b b′
     hand-stray {before} {d} e y =
         hands other (at-row (x .ids) (s .pos) none h (lacks P.item-keywords (getD (x .ids) (s .pos) 0) e)) d before
         (λ p a i t f.

@@ -2,7 +2,7 @@
 use Prim.Native.Nat.{ℕ, _+_, _*_}
 use mathlib.Core.Path.{_≡_, refl, sym}
 use mathlib.Core.List.{List, []}
-use mathlib.Core.Bool.{false}
+use mathlib.Core.Bool.{Bool, false}
 use native.Mathlib.Omega.{arith}
 use lib.ListN.{length}
 use Rattle.shapes.specs.Shapes.{EVENT}
@@ -14,6 +14,7 @@ use Rattle.notes.specs.Bits.{bitAt}
 use Rattle.notes.specs.Means.{Bufs, bufs, Means, recorded, overOf}
 use Rattle.notes.proofs.Rooms.{exceeds-none}
 use Rattle.desk.specs.Items.{Tally, tally, blank, clean, pastOf, Between, Goes}
+use Rattle.grammar.specs.Table.{reach}
 
 module _ (L : Limits) (x : Source) (fuel evcap ercap : ℕ) (ev er sc : List ℕ) (none : (i : ℕ) → bitAt sc i ≡ false) where
   start-means : Means (pastOf L (evcap + EVENT) ercap x (P.start (x .ids) fuel)) x (tally (blank fuel evcap) (clean ercap (L .quote)) .state) (bufs ev er sc) (P.start (x .ids) fuel)
@@ -39,5 +40,5 @@ module _ (L : Limits) (x : Source) (fuel evcap ercap : ℕ) (ev er sc : List ℕ
         few = λ z y. ((λ o. refl), omega arith);
       }
 
-  pub reads : {depth : ℕ} {r : Tally} {b′ : Bufs} → L .depth ≡ depth → Goes depth (length (x .ids)) x (tally (blank fuel evcap) (clean ercap (L .quote))) r (bufs ev er sc) b′ → Between L (evcap + EVENT) ercap x r b′ (P.read L (x .ids) fuel)
+  pub reads : {bounds : ℕ × Bool} {r : Tally} {b′ : Bufs} → reach L ≡ bounds → Goes bounds (length (x .ids)) x (tally (blank fuel evcap) (clean ercap (L .quote))) r (bufs ev er sc) b′ → Between L (evcap + EVENT) ercap x r b′ (P.read L (x .ids) fuel)
   reads e g = g .does L (evcap + EVENT) ercap (P.start (x .ids) fuel) e starts

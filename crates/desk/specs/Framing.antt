@@ -17,7 +17,7 @@ use Rattle.desk.specs.declared.read.Reading.the-variants.{Refused, Answe
 
 -- the definition's limits, of the code's
 abbrev pub limitsOf : C.Limits → Limits
-limitsOf l = record { depth = l .depth; quote = l .quote }
+limitsOf l = record { depth = l .depth; quote = l .quote; entrypoint = l .entrypoint }
 
 -- "A refusal returns its number and zeros"; "An answer returns outcome, rows covered, counts of events and error records, fuel left"
 abbrev pub afterOf : D.Reading → List ℕ → List ℕ → List ℕ → After

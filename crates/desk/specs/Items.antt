@@ -19,6 +19,7 @@ use Rattle.notes.specs.Means.{Bufs, Past, Stands, recorded}
 use Rattle.notes.specs.Did.{Wf}
 use Rattle.steps.specs.Steps.{whole}
 use Rattle.desk.specs.declared.items.Desk.{Desk}
+use Rattle.grammar.specs.Table.{reach}
 
 -- the state as a whole, and how many error events stand written
 pub record Tally : Type 0 where
@@ -119,11 +120,11 @@ at-hand L a = P.item-at L (P.sought P.item-keywords (a .rest)) a
 abbrev pub pastOf : Limits → ℕ → ℕ → Source → P.State → Past
 pastOf L E R x a = record { limits = L; event-room = E; error-room = R; records = records L x (a .out) [] }
 
--- the row at hand was read, where so many nodes may be open; the errors that are to be written now are few
-pub record Hands (depth : ℕ) (x : Source) (s : Whole) (before : ℕ) (r : Tally) (b b′ : Bufs) : Type 0 where
-  pub does : (p : Past) (a : P.State) → p .limits .depth ≡ depth → Stands p x s b a → Free p s before a → let c = at-hand (p .limits) a in Stands (pastOf (p .limits) (p .event-room) (p .error-room) x c) x (r .state) b′ c
-  pub count : (p : Past) (a : P.State) → p .limits .depth ≡ depth → Stands p x s b a → Free p s before a → r .state .full ≡ 0 → r .before ≡ length (records (p .limits) x (at-hand (p .limits) a .out) [])
-  pub few : (p : Past) (a : P.State) → p .limits .depth ≡ depth → Stands p x s b a → Free p s before a → r .state .full ≡ 0 → r .before + length (at-hand (p .limits) a .chosen) ≤ before + (length (x .ids) - s .first) + 1
+-- the row at hand was read, by the limits that a line is read by; the errors that are to be written now are few
+pub record Hands (bounds : ℕ × Bool) (x : Source) (s : Whole) (before : ℕ) (r : Tally) (b b′ : Bufs) : Type 0 where
+  pub does : (p : Past) (a : P.State) → reach (p .limits) ≡ bounds → Stands p x s b a → Free p s before a → let c = at-hand (p .limits) a in Stands (pastOf (p .limits) (p .event-room) (p .error-room) x c) x (r .state) b′ c
+  pub count : (p : Past) (a : P.State) → reach (p .limits) ≡ bounds → Stands p x s b a → Free p s before a → r .state .full ≡ 0 → r .before ≡ length (records (p .limits) x (at-hand (p .limits) a .out) [])
+  pub few : (p : Past) (a : P.State) → reach (p .limits) ≡ bounds → Stands p x s b a → Free p s before a → r .state .full ≡ 0 → r .before + length (at-hand (p .limits) a .chosen) ≤ before + (length (x .ids) - s .first) + 1
   pub wf : Wf x b′ (r .state)
   pub room : r .state .full ≡ 0 → s .full ≡ 0
   pub first : r .state .first ≡ s .first
@@ -147,9 +148,9 @@ pub record Between (L : Limits) (E R : ℕ) (x : Source) (d : Tally) (b : Bufs) 
   pub count : d .state .full ≡ 0 → d .before ≡ length (records L x (a .out) [])
   pub few : d .state .full ≡ 0 → d .state .mode ≡ 0 → (d .state .pos ≡ 0 → d .before ≡ 0) × (d .before ≤ d .state .pos * 65536 + 1)
 
--- from between two items to between two items, n of them being read, where so many nodes may be open
-pub record Goes (depth n : ℕ) (x : Source) (d r : Tally) (b b′ : Bufs) : Type 0 where
-  pub does : (L : Limits) (E R : ℕ) (a : P.State) → L .depth ≡ depth → Between L E R x d b a → Between L E R x r b′ (P.items L n a)
+-- from between two items to between two items, n of them being read, by the limits that a line is read by
+pub record Goes (bounds : ℕ × Bool) (n : ℕ) (x : Source) (d r : Tally) (b b′ : Bufs) : Type 0 where
+  pub does : (L : Limits) (E R : ℕ) (a : P.State) → reach L ≡ bounds → Between L E R x d b a → Between L E R x r b′ (P.items L n a)
   pub wf : Wf x b′ (r .state)
   pub settles : Settled (r .state)
 

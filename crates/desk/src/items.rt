@@ -29,7 +29,7 @@ ghost use Rattle.notes.specs.Bits.{Forgot};
 ghost use Rattle.notes.specs.Means.{source, bufs, Lines, Rows};
 ghost use Rattle.notes.specs.Did.{Wf, Coded};
 ghost use Rattle.steps.specs.Steps.{whole, Tabled, Fits, Ready, Writes};
-ghost use Rattle.grammar.specs.Table.{Lends};
+ghost use Rattle.grammar.specs.Table.{allowed, Lends};
 ghost use Rattle.desk.specs.Items as Items;
 ghost use Rattle.desk.specs.Items.{tally, Flushed, Tells, Strays, Hands, Goes, Settled, settled, junk-node};
 
@@ -93,7 +93,7 @@ pub fn junk(
     ids: &[u32],
     ends: &[u32],
     events: &mut [u32],
-    sets: &[[u64; 2]; 55],
+    sets: &[[u64; 2]; 56],
 ) -> State
     requires { ⌜ Lines (now ids) (now ends) × Fits s (now events) × (s .pos ≤ length (now ids)) × Tabled (now sets) ⌝ }
     ensures { λ r. ⌜ Writes junk-node (now (ids .entry)) (now (ends .entry)) s r (now (events .entry)) (now (events .exit)) ⌝ }
@@ -115,7 +115,7 @@ pub fn stray(
     events: &mut [u32],
     errors: &mut [u32],
     notes: &mut [usize; 68],
-    sets: &[[u64; 2]; 55],
+    sets: &[[u64; 2]; 56],
 ) -> Desk
     requires { ⌜
         Ready (now ids) (now ends) s (now notes) (now events)
@@ -155,14 +155,14 @@ pub fn at_hand(
     scratch: &mut [u64],
     notes: &mut [usize; 68],
     table: &[u32; 288],
-    sets: &[[u64; 2]; 55],
+    sets: &[[u64; 2]; 56],
 ) -> Desk
     requires { ⌜
         Rows (source (now src) (now ids) (now ends))
         × Wf (source (now src) (now ids) (now ends)) (bufs (now events) (now errors) (now scratch)) (whole s (now notes))
         × Lends (now table) (now sets) ⌝ }
     ensures { λ r. ⌜
-        Hands depth (source (now (src .entry)) (now (ids .entry)) (now (ends .entry))) (whole s (now (notes .entry))) before
+        Hands (depth, allowed (now (table .entry))) (source (now (src .entry)) (now (ids .entry)) (now (ends .entry))) (whole s (now (notes .entry))) before
         (tally r (now (notes .exit))) (bufs (now (events .entry)) (now (errors .entry)) (now (scratch .entry)))
         (bufs (now (events .exit)) (now (errors .exit)) (now (scratch .exit))) ⌝ }
 {
@@ -258,7 +258,7 @@ pub fn item(
     scratch: &mut [u64],
     notes: &mut [usize; 68],
     table: &[u32; 288],
-    sets: &[[u64; 2]; 55],
+    sets: &[[u64; 2]; 56],
 ) -> Desk
     requires { ⌜
         Rows (source (now src) (now ids) (now ends))
@@ -266,7 +266,7 @@ pub fn item(
         × Settled (whole (d .state) (now notes))
         × Lends (now table) (now sets) ⌝ }
     ensures { λ r. ⌜
-        Goes depth 1 (source (now (src .entry)) (now (ids .entry)) (now (ends .entry))) (tally d (now (notes .entry)))
+        Goes (depth, allowed (now (table .entry))) 1 (source (now (src .entry)) (now (ids .entry)) (now (ends .entry))) (tally d (now (notes .entry)))
         (tally r (now (notes .exit))) (bufs (now (events .entry)) (now (errors .entry)) (now (scratch .entry)))
         (bufs (now (events .exit)) (now (errors .exit)) (now (scratch .exit))) ⌝ }
 {
@@ -305,7 +305,7 @@ pub fn items(
     scratch: &mut [u64],
     notes: &mut [usize; 68],
     table: &[u32; 288],
-    sets: &[[u64; 2]; 55],
+    sets: &[[u64; 2]; 56],
 ) -> Desk
     requires { ⌜
         Rows (source (now src) (now ids) (now ends))
@@ -313,7 +313,7 @@ pub fn items(
         × Settled (whole (d .state) (now notes))
         × Lends (now table) (now sets) ⌝ }
     ensures { λ r. ⌜
-        Goes depth (length (now (ids .entry))) (source (now (src .entry)) (now (ids .entry)) (now (ends .entry))) (tally d (now (notes .entry)))
+        Goes (depth, allowed (now (table .entry))) (length (now (ids .entry))) (source (now (src .entry)) (now (ids .entry)) (now (ends .entry))) (tally d (now (notes .entry)))
         (tally r (now (notes .exit))) (bufs (now (events .entry)) (now (errors .entry)) (now (scratch .entry)))
         (bufs (now (events .exit)) (now (errors .exit)) (now (scratch .exit))) ⌝ }
 {

@@ -3,6 +3,8 @@ use crate::items::Desk;
 use crate::items::items;
 use cells::clear;
 use cells::wipe;
+use grammar::parts::literal;
+use grammar::table::LITERAL;
 use grammar::table::ROWS;
 use kinds::SETS;
 use kinds::kind;
@@ -32,11 +34,12 @@ ghost use Rattle.desk.specs.Items as Items;
 ghost use Rattle.desk.specs.Items.{tally};
 ghost use Rattle.desk.specs.Framing.{limitsOf, Framed, afterOf, answering, outcomeOf};
 
-// How many nodes may be open besides SOURCE_FILE, and how long a found text may be to be quoted. Any values will do; each open node takes stack. A depth
-// of 16 bits keeps every event's depth within its cell.
+// How many nodes may be open besides SOURCE_FILE, how long a found text may be to be quoted, and whether entrypoint is a term. Any values will do; each
+// open node takes stack. A depth of 16 bits keeps every event's depth within its cell.
 pub struct Limits {
     pub depth: u16,
-    pub quote: usize,
+    pub quote: u8,
+    pub entrypoint: bool,
 }
 
 // Document 01's limits.
@@ -46,6 +49,7 @@ pub fn base() -> Limits
     Limits {
         depth: 1024,
         quote: 15,
+        entrypoint: true,
     }
 }
 
@@ -121,8 +125,9 @@ fn whole(
     events[DEPTH] = 0;
     let d = blank(fuel, events.len() - EVENT);
     notes[ERCAP] = errors.len();
-    notes[QUOTE] = limits.quote;
-    let table = ROWS;
+    notes[QUOTE] = limits.quote as usize;
+    let mut table = ROWS;
+    table[LITERAL] = literal(limits.entrypoint);
     let sets = SETS;
     let inner = &mut events[EVENT..];
     let r = items(

@@ -70,7 +70,7 @@ pub fn member(pair: [u64; 2], id: u32) -> bool
 }
 
 // Whether the set has a kind with the id, by a table of pairs that is lent: one that is named here would be laid out anew at each call.
-pub fn within(set: usize, id: u32, sets: &[[u64; 2]; 55]) -> bool
+pub fn within(set: usize, id: u32, sets: &[[u64; 2]; 56]) -> bool
     ensures { λ r. ⌜ r ≡ inPair (getD (now (sets .entry)) set []) id ⌝ }
 {
     let table = &sets[..];
@@ -90,7 +90,7 @@ struct Part {
 fn place(set: usize) -> Part
     ensures { λ r. ⌜ PartOf order (setOf set) (r .from) (r .to) ⌝ }
 {
-    if set < 55 {
+    if set < 56 {
         return Part {
             from: begins(set),
             to: begins(set + 1),

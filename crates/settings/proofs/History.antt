@@ -79,20 +79,22 @@ ranged-in n w e v h = go (inRange w) refl h
     go true i h = ap inRange (sym (ap (values-of w) h)) ∙ i
     go false i h = absurd (let z : _≡_ {A = ℕ} 0 1 = cc in omega arith)
 
-edition-in : (a b c d : Option ℕ) (e : ℕ) (v : Values) → editionOf a b c d ≡ some (e, v) → inRange v ≡ true
-edition-in none b c d e v h = absurd (let z : _≡_ {A = ℕ} 0 1 = cc in omega arith)
-edition-in (some w) none c d e v h = absurd (let z : _≡_ {A = ℕ} 0 1 = cc in omega arith)
-edition-in (some w) (some x) none d e v h = absurd (let z : _≡_ {A = ℕ} 0 1 = cc in omega arith)
-edition-in (some w) (some x) (some y) none e v h = absurd (let z : _≡_ {A = ℕ} 0 1 = cc in omega arith)
-edition-in (some w) (some x) (some y) (some z) e v h = ranged-in w (record { fuel = x; depth = y; quote = z }) e v h
+edition-in : (a b c d p : Option ℕ) (e : ℕ) (v : Values) → editionOf a b c d p ≡ some (e, v) → inRange v ≡ true
+edition-in none b c d p e v h = absurd (let z : _≡_ {A = ℕ} 0 1 = cc in omega arith)
+edition-in (some w) none c d p e v h = absurd (let z : _≡_ {A = ℕ} 0 1 = cc in omega arith)
+edition-in (some w) (some x) none d p e v h = absurd (let z : _≡_ {A = ℕ} 0 1 = cc in omega arith)
+edition-in (some w) (some x) (some y) none p e v h = absurd (let z : _≡_ {A = ℕ} 0 1 = cc in omega arith)
+edition-in (some w) (some x) (some y) (some z) none e v h = absurd (let z : _≡_ {A = ℕ} 0 1 = cc in omega arith)
+edition-in (some w) (some x) (some y) (some z) (some p) e v h = ranged-in w (record { fuel = x; depth = y; quote = z; entrypoint = p }) e v h
 
 line-in : (fs : List (List ℕ)) (e : ℕ) (v : Values) → lineOf fs ≡ some (e, v) → inRange v ≡ true
 line-in [] e v h = absurd (let z : _≡_ {A = ℕ} 0 1 = cc in omega arith)
 line-in (a ∷ []) e v h = absurd (let z : _≡_ {A = ℕ} 0 1 = cc in omega arith)
 line-in (a ∷ b ∷ []) e v h = absurd (let z : _≡_ {A = ℕ} 0 1 = cc in omega arith)
 line-in (a ∷ b ∷ c ∷ []) e v h = absurd (let z : _≡_ {A = ℕ} 0 1 = cc in omega arith)
-line-in (a ∷ b ∷ c ∷ d ∷ []) e v h = edition-in (number a) (number b) (number c) (number d) e v h
-line-in (a ∷ b ∷ c ∷ d ∷ f ∷ fs) e v h = absurd (let z : _≡_ {A = ℕ} 0 1 = cc in omega arith)
+line-in (a ∷ b ∷ c ∷ d ∷ []) e v h = edition-in (number a) (number b) (number c) (number d) (some 1) e v h
+line-in (a ∷ b ∷ c ∷ d ∷ p ∷ []) e v h = edition-in (number a) (number b) (number c) (number d) (number p) e v h
+line-in (a ∷ b ∷ c ∷ d ∷ p ∷ f ∷ fs) e v h = absurd (let z : _≡_ {A = ℕ} 0 1 = cc in omega arith)
 
 every : (n : ℕ) (ls : List (List ℕ)) (vs : List Values) → Rising n ls vs → Every vs
 every n ls [] r = tt

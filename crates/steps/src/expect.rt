@@ -43,7 +43,7 @@ impl State {
         ends: &[u32],
         events: &mut [u32],
         notes: &mut [usize; 68],
-        sets: &[[u64; 2]; 55],
+        sets: &[[u64; 2]; 56],
     ) -> Self
         requires { ⌜ Ready (now ids) (now ends) self (now notes) (now events) × (code < 58) × Tabled (now sets) ⌝ }
         ensures { λ r. ⌜
@@ -80,7 +80,7 @@ impl State {
     }
 
     // Whether the state is in good order and a row of the set stands next past trivia.
-    pub fn sees(self, set: usize, ids: &[u32], sets: &[[u64; 2]; 55]) -> bool
+    pub fn sees(self, set: usize, ids: &[u32], sets: &[[u64; 2]; 56]) -> bool
         requires { ⌜ (self .pos ≤ length (now ids)) × Tabled (now sets) ⌝ }
         ensures { λ r. ⌜ r ≡ ahead (setOf set) (now (ids .entry)) (whole self []) ⌝ }
     {
@@ -122,7 +122,7 @@ impl State {
         ends: &[u32],
         events: &mut [u32],
         notes: &mut [usize; 68],
-        sets: &[[u64; 2]; 55],
+        sets: &[[u64; 2]; 56],
     ) -> Self
         requires { ⌜ Ready (now ids) (now ends) self (now notes) (now events) × Tabled (now sets) ⌝ }
         ensures { λ r. ⌜
@@ -152,7 +152,7 @@ impl State {
         ids: &[u32],
         ends: &[u32],
         events: &mut [u32],
-        sets: &[[u64; 2]; 55],
+        sets: &[[u64; 2]; 56],
     ) -> Self
         requires { ⌜ Lines (now ids) (now ends) × Fits self (now events) × (self .pos ≤ length (now ids)) × Tabled (now sets) ⌝ }
         ensures { λ r. ⌜ Writes (P.skip-to (setOf set)) (now (ids .entry)) (now (ends .entry)) self r (now (events .entry)) (now (events .exit)) ⌝ }

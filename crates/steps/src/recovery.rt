@@ -96,7 +96,7 @@ impl State {
         events: &mut [u32],
         errors: &mut [u32],
         notes: &mut [usize; 68],
-        sets: &[[u64; 2]; 55],
+        sets: &[[u64; 2]; 56],
     ) -> Self
         requires { ⌜ Whence (now src) (now ids) (now ends) self (now notes) (now events) (now errors) × Tabled (now sets) ⌝ }
         ensures { λ r. ⌜
@@ -134,7 +134,7 @@ impl State {
         events: &mut [u32],
         errors: &mut [u32],
         notes: &mut [usize; 68],
-        sets: &[[u64; 2]; 55],
+        sets: &[[u64; 2]; 56],
     ) -> Self
         requires { ⌜ Whence (now src) (now ids) (now ends) self (now notes) (now events) (now errors) × (set < 55) × Tabled (now sets) ⌝ }
         ensures { λ r. ⌜

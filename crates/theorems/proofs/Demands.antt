@@ -62,7 +62,7 @@ one-outcome L d a b e f = e ∙ sym f
 
 -- DEMAND 2
 
-no-record-iff-accepted : (L : Limits) (d : Desk) (R : Reading) → answer L d ≡ given R → R .outcome ≡ 0 → (length (R .errors) ≡ 0) ↔ Accepts (d .ids)
+no-record-iff-accepted : (L : Limits) (d : Desk) (R : Reading) → answer L d ≡ given R → R .outcome ≡ 0 → (length (R .errors) ≡ 0) ↔ Accepts (L .entrypoint) (d .ids)
 no-record-iff-accepted L d R e z =
     let t : State = reading L d in
     let g = given-is L d R e .whole in
@@ -75,7 +75,7 @@ no-record-iff-accepted L d R e z =
 pub demand-2 : (L : Limits) (d : Desk)
     → let a : After = after L d in a .number ≡ 0
     → a .outcome ≡ 0
-    → (a .error-count ≡ 0) ↔ Accepts (d .ids)
+    → (a .error-count ≡ 0) ↔ Accepts (L .entrypoint) (d .ids)
 demand-2 L d n z =
     let g = answered L d n in
     let w : after L d ≡ left-by d (given (g .0)) = ap (left-by d) (g .1) in
@@ -87,10 +87,10 @@ demand-2 L d n z =
 pub demand-2-ford : (L : Limits) (d : Desk)
     → let a : After = after L d in a .number ≡ 0
     → a .outcome ≡ 0
-    → (a .error-count ≡ 0) ↔ ((n : ℕ) × Ford rules (star any-item) (strip (d .ids)) n (Res.yes []))
+    → (a .error-count ≡ 0) ↔ ((n : ℕ) × Ford (rules (L .entrypoint)) (star any-item) (strip (d .ids)) n (Res.yes []))
 demand-2-ford L d n z =
     let i = demand-2 L d n z in
-    let f = accepts-is-ford (strip (d .ids)) in
+    let f = accepts-is-ford (L .entrypoint) (strip (d .ids)) in
     ((λ e. f .0 (i .0 e)), λ a. i .1 (f .1 a))
 
 -- DEMAND 3: "Damage stays where it is."
@@ -114,7 +114,7 @@ pub demand-3-rule : (L : Limits) (d : Desk) (n : ℕ) (x r : List ℕ) (m : ℕ)
     → let s : State = standing L d n in let v : State = standing L d (n + 1) in Running (s .mode)
     → s .rest ≡ x ++ r
     → Solid x
-    → Ford rules (nt RULE-DECL) (strip (s .rest)) m (Res.yes (strip r))
+    → Ford (rules (L .entrypoint)) (nt RULE-DECL) (strip (s .rest)) m (Res.yes (strip r))
     → T (past (next item-keywords r))
     → Running (v .mode)
     → (v .rest ≡ r) × (recorded L d v ≡ recorded L d s) × ((w : List Entry) × (written d v ≡ written d s ++ w))
@@ -125,7 +125,7 @@ pub demand-3-statement : (L : Limits) (d : Desk) (n : ℕ) (x r : List ℕ) (m :
     → let s : State = standing L d n in let v : State = standing L d (n + 1) in Running (s .mode)
     → s .rest ≡ x ++ r
     → Solid x
-    → Ford rules any-statement (strip (s .rest)) m (Res.yes (strip r))
+    → Ford (rules (L .entrypoint)) any-statement (strip (s .rest)) m (Res.yes (strip r))
     → Running (v .mode)
     → (v .rest ≡ r) × (recorded L d v ≡ recorded L d s) × ((w : List Entry) × (written d v ≡ written d s ++ w))
 demand-3-statement = statement-behind
@@ -211,22 +211,22 @@ module _ (L : Limits) (d : Desk) (R : Reading) (e : answer L d ≡ given R) (z :
 -- WHAT THE DEFINITION IS
 
 -- "PEG means Ford, "Parsing Expression Grammars" (POPL 2004).": acceptance is his relation on the translated grammar, which has at most one result
-pub acceptance-is-one : (e : Exp) (r : List ℕ) (n m : ℕ) (x y : Res) → Ford rules e r n x → Ford rules e r m y → x ≡ y
-acceptance-is-one e r n m x y a b = det a m y b
+pub acceptance-is-one : (E : Bool) (e : Exp) (r : List ℕ) (n m : ℕ) (x y : Res) → Ford (rules E) e r n x → Ford (rules E) e r m y → x ≡ y
+acceptance-is-one E e r n m x y a b = det E a m y b
 
 -- and the translation is document 01's reading of the combinators: "`begin`, `end` and `recover` are left out, `cached` is its part, and `if_next` is
 -- its part where its token is next and nothing elsewhere"
-pub acceptance-is-ford : (p : Prog) (r : List ℕ) (x : Res) → Peg p r x ↔ ((n : ℕ) × Ford rules (ford p) r n x)
+pub acceptance-is-ford : {E : Bool} (p : Prog) (r : List ℕ) (x : Res) → Peg E p r x ↔ ((n : ℕ) × Ford (rules E) (ford p) r n x)
 acceptance-is-ford = peg-is-ford
 
 -- a repetition's bound is never what ends it: every larger one does the same
-pub repetition-unbounded : (d : ℕ) (a : Production) (p : Prog)
-    → Within (many p) (grammar a)
+pub repetition-unbounded : (E : Bool) (d : ℕ) (a : Production) (p : Prog)
+    → Within (many p) (grammar E a)
     → (s : State) (n : ℕ)
     → length (s .rest) < n
-    → let f : Reader = exec d (run d) p true in loop f n s ≡ loop f (suc (length (s .rest))) s
-repetition-unbounded = bound-never-ends
+    → let f : Reader = exec d (run E d) p true in loop f n s ≡ loop f (suc (length (s .rest))) s
+repetition-unbounded E = bound-never-ends E
 
 -- a node that is too deep has a body that does nothing, whatever its productions would do
-pub deep-node-idle : (d : ℕ) (call : Bool → Production → Reader) (o : Bool) (a : Production) (s : State) → run zero o a s ≡ nodes zero o (kind a) (exec d call (grammar a) o) s
-deep-node-idle = too-deep-idles
+pub deep-node-idle : (E : Bool) (d : ℕ) (call : Bool → Production → Reader) (o : Bool) (a : Production) (s : State) → run E zero o a s ≡ nodes zero o (kind a) (exec d call (grammar E a) o) s
+deep-node-idle E = too-deep-idles E

@@ -100,7 +100,7 @@ paid-trans s t u z p q = record { more = omega (arith, p .more, q .more); less =
 
 reads-paid : (L : Limits) (p : Prog) (s : State) → Paid s (read-item L p s)
 unfolding read-item
-reads-paid L p s = let q = exec-kept (stepped Spent spending) (L .depth) (run (L .depth)) (run-kept (stepped Spent spending) (L .depth)) p false s in record { more = q .more; less = q .less; exact = q .exact }
+reads-paid L p s = let q = exec-kept (stepped Spent spending) (L .depth) (run (L .entrypoint) (L .depth)) (run-kept (stepped Spent spending) (L .entrypoint) (L .depth)) p false s in record { more = q .more; less = q .less; exact = q .exact }
 
 pub again-free : (u : State) → ((again (flush u)) .fuel ≡ u .fuel) × ((again (flush u)) .begun ≡ u .begun)
 again-free u = go (u .mode) u

@@ -256,7 +256,7 @@ module _ (j : ℕ) (q : List Event) (b : List ℕ) (dr : List Draft) where
 
   reads-all : (L : Limits) (p : Prog) → All (read-item L p)
   unfolding read-item
-  reads-all L p = exec-kept halting (L .depth) (run (L .depth)) (run-kept halting (L .depth)) p false
+  reads-all L p = exec-kept halting (L .depth) (run (L .entrypoint) (L .depth)) (run-kept halting (L .entrypoint) (L .depth)) p false
 
   -- items
   end-ebb : (u : State) → Ebb u (again (flush u))

@@ -106,15 +106,15 @@ module _ (L : Limits) (d : Desk) (n : ℕ) where
         let G = given-is L d R e in
         let rows = rows-of d (G .unrefused) .0 in
         let D = damage-stays L (d .ids) (d .fuel) n m in
-        let E : ℕ = length (d .events) in
+        let Z : ℕ = length (d .events) in
         let F : ℕ = length (d .errors) in
         let whole : reading L d ≡ h 0 (s .out) (s .begun) (D .0 .before) (reading L rest) = D .1 ∙ ap (λ (l : List ℕ). h 0 (s .out) (s .begun) (D .0 .before) (read L l (s .fuel))) (sym rest-ids) in
-        let f = over-fits E F (moments L (source-of d) (reading L d)) (G .roomy) in
-        let g = subst (λ (t : State). Fits E F (moments L (source-of d) t)) whole f in
-        let g′ = subst (λ (x : Source). Fits E F (moments L x (h 0 (s .out) (s .begun) (D .0 .before) (reading L rest)))) (cut-whole d s sc ev er rows) g in
-        let a = fits-alone (front d s sc ev er rows) (take (rows-before d s) (d .ids)) (take (rows-before d s) (d .ends)) (cut-before d s sc ev er rows) (source-of rest) L E F (s .fuel) (s .out) (s .begun) (D .0 .before) g′ in
+        let f = over-fits Z F (moments L (source-of d) (reading L d)) (G .roomy) in
+        let g = subst (λ (t : State). Fits Z F (moments L (source-of d) t)) whole f in
+        let g′ = subst (λ (x : Source). Fits Z F (moments L x (h 0 (s .out) (s .begun) (D .0 .before) (reading L rest)))) (cut-whole d s sc ev er rows) g in
+        let a = fits-alone (front d s sc ev er rows) (take (rows-before d s) (d .ids)) (take (rows-before d s) (d .ends)) (cut-before d s sc ev er rows) (source-of rest) L Z F (s .fuel) (s .out) (s .begun) (D .0 .before) g′ in
         let ms = moments L (source-of rest) (reading L rest) in
-        is-given L rest (remaining-unrefused (G .unrefused) w) (fits-over (length ev) (length er) ms (fits-more E (length ev) F (length er) ms v u a))
+        is-given L rest (remaining-unrefused (G .unrefused) w) (fits-over (length ev) (length er) ms (fits-more Z (length ev) F (length er) ms v u a))
 
     pub continues : (R : Reading) → answer L d ≡ given R → Running (s .mode) → words (length (rest .ids)) ≤ length sc → length (d .events) ≤ length ev → length (d .errors) ≤ length er → (R′ : Reading) × (answer L rest ≡ given R′) × Continued L d s R R′
     continues R e m w v u = let a = remaining-answered R e m w v u in (rendered L (source-of rest) (reading L rest), a, continued R (rendered L (source-of rest) (reading L rest)) e m a)
@@ -144,7 +144,7 @@ module _ (L : Limits) (d : Desk) (n : ℕ) where
       at f k = let z = one-item m (f .0) (f .1) (e ∙ f .2) in subst (Stood r) (sym z) (stood (subst (λ (u : State). Running (u .mode)) z k))
 
   -- right behind an accepted rule
-  pub rule-behind : (x r : List ℕ) (m : ℕ) → Running (s .mode) → s .rest ≡ x ++ r → Solid x → Ford rules (nt RULE-DECL) (strip (s .rest)) m (Res.yes (strip r)) → T (past (next item-keywords r)) → let v : State = standing L d (n + 1) in Running (v .mode) → Stood r v
+  pub rule-behind : (x r : List ℕ) (m : ℕ) → Running (s .mode) → s .rest ≡ x ++ r → Solid x → Ford (rules (L .entrypoint)) (nt RULE-DECL) (strip (s .rest)) m (Res.yes (strip r)) → T (past (next item-keywords r)) → let v : State = standing L d (n + 1) in Running (v .mode) → Stood r v
   rule-behind x r _ m e q g p = behind x r m e q (rule-stands L s x r (fresh m) e q (from-ford (node RULE-DECL) g) (followed (next item-keywords r) refl p))
     where
       followed : (y : Next) → next item-keywords r ≡ y → T (past y) → Off (sought item-keywords (strip r)) → ⊥
@@ -153,7 +153,7 @@ module _ (L : Limits) (d : Desk) (n : ℕ) where
       followed (hit a is) z t o = subst Off (next-hit item-keywords r a is z) o
 
   -- right behind an accepted import or include
-  pub statement-behind : (x r : List ℕ) (m : ℕ) → Running (s .mode) → s .rest ≡ x ++ r → Solid x → Ford rules any-statement (strip (s .rest)) m (Res.yes (strip r)) → let v : State = standing L d (n + 1) in Running (v .mode) → Stood r v
+  pub statement-behind : (x r : List ℕ) (m : ℕ) → Running (s .mode) → s .rest ≡ x ++ r → Solid x → Ford (rules (L .entrypoint)) any-statement (strip (s .rest)) m (Res.yes (strip r)) → let v : State = standing L d (n + 1) in Running (v .mode) → Stood r v
   statement-behind x r _ m e q g = behind x r m e q (statement-stands L s x r (fresh m) e q (from-ford (node IMPORT-STMT / last (node INCLUDE-STMT)) g))
 
   -- right behind a junk run

@@ -5,12 +5,13 @@ use mathlib.Core.Path.{_≡_, refl, sym, _∙_}
 use native.Mathlib.Omega.{arith}
 use lib.ListN.{length}
 use Rattle.notes.specs.Means.{source, bufs}
+use Rattle.grammar.specs.Table.{allowed}
 use Rattle.desk.specs.Items.{tally, Goes}
 use Rattle.desk.proofs.Between.{items-none, idles, goes-as, goes-then}
 """
 N = "let N = length ({args} .ids .now) in let n = {loop} .n in let i = {loop} .inv in "
 ANS = {
-    "Inv-loop": "Goes depth (length ids - n) (source src ids ends) (tally d₀ notes₀) (tally d notes) (bufs events₀ errors₀ scratch₀) (bufs events errors scratch)"
+    "Inv-loop": "Goes (depth, allowed table) (length ids - n) (source src ids ends) (tally d₀ notes₀) (tally d notes) (bufs events₀ errors₀ scratch₀) (bufs events errors scratch)"
     " × (n ≤ length ids) × (length events ≡ length events₀) × (length errors ≡ length errors₀) × (length scratch ≡ length scratch₀)",
     "μ-loop": "n",
     "loop-holds": "(goes-as 0 (length ({args} .ids .now) - length ({args} .ids .now)) (omega arith) (items-none ({pre} .1) ({pre} .2)), omega arith, refl, refl, refl)",
