@@ -146,7 +146,7 @@ fn step(
     ends: &[u32],
     events: &mut [u32],
     errors: &mut [u32],
-    notes: &mut [usize; 68],
+    notes: &mut [usize; 69],
     sets: &[[u64; 2]; 55],
 ) -> State
     requires { ⌜ Whence (now src) (now ids) (now ends) s (now notes) (now events) (now errors) × (set < 55) × Tabled (now sets) ⌝ }
@@ -186,7 +186,7 @@ fn exec(
     events: &mut [u32],
     errors: &mut [u32],
     scratch: &mut [u64],
-    notes: &mut [usize; 68],
+    notes: &mut [usize; 69],
     table: &[u32; 288],
     sets: &[[u64; 2]; 55],
 ) -> State
@@ -376,7 +376,7 @@ fn node(
     events: &mut [u32],
     errors: &mut [u32],
     scratch: &mut [u64],
-    notes: &mut [usize; 68],
+    notes: &mut [usize; 69],
     table: &[u32; 288],
     sets: &[[u64; 2]; 55],
 ) -> State
@@ -451,7 +451,7 @@ fn cached(
     events: &mut [u32],
     errors: &mut [u32],
     scratch: &mut [u64],
-    notes: &mut [usize; 68],
+    notes: &mut [usize; 69],
     table: &[u32; 288],
     sets: &[[u64; 2]; 55],
 ) -> State
@@ -511,7 +511,7 @@ fn many(
     events: &mut [u32],
     errors: &mut [u32],
     scratch: &mut [u64],
-    notes: &mut [usize; 68],
+    notes: &mut [usize; 69],
     table: &[u32; 288],
     sets: &[[u64; 2]; 55],
 ) -> State
@@ -581,7 +581,7 @@ pub fn read_item(
     events: &mut [u32],
     errors: &mut [u32],
     scratch: &mut [u64],
-    notes: &mut [usize; 68],
+    notes: &mut [usize; 69],
     table: &[u32; 288],
     sets: &[[u64; 2]; 55],
 ) -> State

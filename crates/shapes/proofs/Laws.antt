@@ -4,7 +4,8 @@ use mathlib.Core.Path.{_≡_, refl, ap, ap₂, sym, _∙_}
 use mathlib.Core.Bool.{Bool, true, false}
 use mathlib.Core.List.{List, [], _∷_, _++_, append-assoc}
 use native.Mathlib.Omega.{arith}
-use native.Mathlib.Nat.{min-eq-left, min-eq-right, min-le-left, le-of-lt}
+use native.Mathlib.Numerals.{add-four}
+use native.Mathlib.Nat.{add-suc, min-eq-left, min-eq-right, min-le-left, le-of-lt}
 use borrow.Author.Tests.{ltb-true, ltb-false}
 use lib.Dec.{eqb, ltb}
 use lib.ListN.{length, getD, drop, replicate, length-append, drop-of-length-le}
@@ -21,6 +22,9 @@ flat-length (e ∷ es) = omega (arith, flat-length es)
 pub entries-flat : (es : List Entry) → entries (flat es) ≡ es
 entries-flat [] = refl
 entries-flat (e ∷ es) = ap (λ (l : List Entry). e ∷ l) (entries-flat es)
+
+pub add-head : (n : ℕ) → n + HEAD ≡ suc (suc (suc (suc (suc n))))
+add-head n = add-suc n 4 ∙ ap suc (add-four n)
 
 -- THE NEXT RECORD, of any list
 drop-least : (l : List ℕ) (n : ℕ) → drop (min (length l) n) l ≡ drop n l
