@@ -182,26 +182,26 @@ none-spelt names h = record { names = refl; spelt = record { few = omega arith; 
 -- the first i of the codes in a list of notes are spelled
 pub record Spelling (notes : List ℕ) (i : ℕ) (r : Names) : Type 0 where
   pub within : i ≤ getD notes 2 0
-  pub spells : Spells (spelled (take i (drop 10 notes))) r
+  pub spells : Spells (spelled (take i (drop 11 notes))) r
 
 pub spelling : (notes names : List ℕ) → length names ≡ 96 → Spelling notes 0 (namesFrom 0 names)
 spelling notes names h = record { within = omega arith; spells = none-spelt names h }
 
 module _ (notes : List ℕ) (w : Coded notes) (i : ℕ) (h : i < getD notes 2 0) where
-  at-code : getD (drop 10 notes) i 0 ≡ getD notes (10 + i) 0
-  at-code = getD-drop 10 notes i 0
+  at-code : getD (drop 11 notes) i 0 ≡ getD notes (11 + i) 0
+  at-code = getD-drop 11 notes i 0
 
-  pub code-in : 9 + i < length notes
-  code-in = omega (arith, w .few, w .long, length-drop 10 notes)
+  pub code-in : 10 + i < length notes
+  code-in = omega (arith, w .few, w .long, length-drop 11 notes)
 
-  pub code-below : getD notes (10 + i) 0 < 58
+  pub code-below : getD notes (11 + i) 0 < 58
   code-below =
-      let codes = drop 10 notes in
+      let codes = drop 11 notes in
       omega (arith, below-at (take (getD notes 2 0) codes) i (w .below) (omega (arith, length-take-le (getD notes 2 0) codes (omega (arith, w .few, w .long)))), getD-take (getD notes 2 0) codes i 0 h, at-code)
 
-  pub spelling-on : {r q : Names} → Spelling notes i r → Spells (P.join (take (r .count) (r .names)) (namesOf (getD notes (10 + i) 0))) q → Spelling notes (i + 1) q
+  pub spelling-on : {r q : Names} → Spelling notes i r → Spells (P.join (take (r .count) (r .names)) (namesOf (getD notes (11 + i) 0))) q → Spelling notes (i + 1) q
   spelling-on g y =
-      let more : take (i + 1) (drop 10 notes) ≡ take i (drop 10 notes) ++ (getD (drop 10 notes) i 0 ∷ []) = rw add-one (take-suc (drop 10 notes) i 0 (omega (arith, w .few, w .long))) in
+      let more : take (i + 1) (drop 11 notes) ≡ take i (drop 11 notes) ++ (getD (drop 11 notes) i 0 ∷ []) = rw add-one (take-suc (drop 11 notes) i 0 (omega (arith, w .few, w .long))) in
       record {
         within = omega arith;
         spells =
@@ -209,11 +209,11 @@ module _ (notes : List ℕ) (w : Coded notes) (i : ℕ) (h : i < getD notes 2 0)
               names =
                   y .names
                   ∙ ap₂ (λ (l : List ℕ) (c : ℕ). P.join l (namesOf c)) (g .spells .names) (sym at-code)
-                  ∙ sym (spelled-last [] (take i (drop 10 notes)) (getD (drop 10 notes) i 0))
+                  ∙ sym (spelled-last [] (take i (drop 11 notes)) (getD (drop 11 notes) i 0))
                   ∙ ap spelled (sym more);
               spelt = y .spelt;
             };
       }
 
-pub spelling-all : {notes : List ℕ} {i : ℕ} {r : Names} → Spelling notes i r → getD notes 2 0 ≤ i → Spells (spelled (take (getD notes 2 0) (drop 10 notes))) r
-spelling-all {notes} {i} {r} g h = let e : i ≡ getD notes 2 0 = omega (arith, g .within) in subst (λ (k : ℕ). Spells (spelled (take k (drop 10 notes))) r) e (g .spells)
+pub spelling-all : {notes : List ℕ} {i : ℕ} {r : Names} → Spelling notes i r → getD notes 2 0 ≤ i → Spells (spelled (take (getD notes 2 0) (drop 11 notes))) r
+spelling-all {notes} {i} {r} g h = let e : i ≡ getD notes 2 0 = omega (arith, g .within) in subst (λ (k : ℕ). Spells (spelled (take k (drop 11 notes))) r) e (g .spells)

@@ -89,7 +89,7 @@ again-running u = go (u .mode) u
 stray-said : (s : State) → bads (s .out) < bads ((stray-item s) .out)
 stray-said s = omega (arith, seek-bads rule-keywords (s .rest) (Event.opened (length (s .rest)) ∷ Event.bad (length (s .rest)) stray ∷ s .out))
 
-item-grows : (L : Limits) → (x : Next) (s : State) → bads (s .out) ≤ bads ((item-at L x s) .out)
+pub item-grows : (L : Limits) → (x : Next) (s : State) → bads (s .out) ≤ bads ((item-at L x s) .out)
 item-grows L end s = omega arith
 item-grows L other s = omega (arith, stray-said s)
 item-grows L (hit a is) s = omega (arith, reads-unsaid L (item-of a) s)

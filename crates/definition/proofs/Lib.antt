@@ -17,6 +17,7 @@ pub mod File
 pub mod Whole
 pub mod Takes
 pub mod Suffix
+pub mod Numbers
 pub mod Tidy
 pub mod Buffer
 pub mod Height

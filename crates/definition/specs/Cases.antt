@@ -52,7 +52,7 @@ stopped-early = (
     left = 0;
     events = 17;
     records = 1;
-    errors = 7 ∷ 16 ∷ 1 ∷ 2 ∷ k.META-KW ∷ k.STRINGS-KW ∷ [];
+    errors = 7 ∷ 16 ∷ 1 ∷ 1 ∷ 2 ∷ k.META-KW ∷ k.STRINGS-KW ∷ [];
   },
   1 ∷ k.SOURCE-FILE ∷ 0 ∷ 22 ∷ 0 ∷ 1 ∷ k.ERROR ∷ 0 ∷ 17 ∷ 1 ∷ 2 ∷ k.RULE-KW ∷ 0 ∷ 4 ∷ 2 ∷ 2 ∷ k.WHITESPACE ∷ 4 ∷ 5 ∷ 2
       ∷ 2 ∷ k.IDENT ∷ 5 ∷ 6 ∷ 2 ∷ 2 ∷ k.L-BRACE ∷ 6 ∷ 7 ∷ 2 ∷ 1 ∷ k.ERROR ∷ 7 ∷ 17 ∷ 2 ∷ 2 ∷ k.CONDITION-KW ∷ 7 ∷ 16 ∷ 3
@@ -73,7 +73,7 @@ no-condition = (
     left = 987;
     events = 18;
     records = 1;
-    errors = 17 ∷ 18 ∷ 1 ∷ 2 ∷ k.EXPRESSION ∷ k.IDENT ∷ [];
+    errors = 17 ∷ 18 ∷ 1 ∷ 1 ∷ 2 ∷ k.EXPRESSION ∷ k.IDENT ∷ [];
   },
   1 ∷ k.SOURCE-FILE ∷ 0 ∷ 18 ∷ 0 ∷ 1 ∷ k.RULE-DECL ∷ 0 ∷ 18 ∷ 1 ∷ 2 ∷ k.RULE-KW ∷ 0 ∷ 4 ∷ 2 ∷ 2 ∷ k.WHITESPACE ∷ 4 ∷ 5 ∷ 2
       ∷ 2 ∷ k.IDENT ∷ 5 ∷ 6 ∷ 2 ∷ 2 ∷ k.L-BRACE ∷ 6 ∷ 7 ∷ 2 ∷ 1 ∷ k.CONDITION-BLK ∷ 7 ∷ 17 ∷ 2 ∷ 2 ∷ k.CONDITION-KW ∷ 7 ∷ 16 ∷ 3
@@ -96,7 +96,7 @@ with-in-call = (
     left = 901;
     events = 46;
     records = 2;
-    errors = 42 ∷ 43 ∷ 1 ∷ 2 ∷ k.EXPRESSION ∷ k.IDENT ∷ 40 ∷ 42 ∷ 1 ∷ 4 ∷ k.OPERATOR ∷ k.COMMA ∷ k.R-PAREN ∷ k.IN-KW ∷ [];
+    errors = 42 ∷ 43 ∷ 1 ∷ 1 ∷ 2 ∷ k.EXPRESSION ∷ k.IDENT ∷ 40 ∷ 42 ∷ 1 ∷ 1 ∷ 4 ∷ k.OPERATOR ∷ k.COMMA ∷ k.R-PAREN ∷ k.IN-KW ∷ [];
   },
   1 ∷ k.SOURCE-FILE ∷ 0 ∷ 45 ∷ 0 ∷ 1 ∷ k.RULE-DECL ∷ 0 ∷ 45 ∷ 1 ∷ 2 ∷ k.RULE-KW ∷ 0 ∷ 4 ∷ 2 ∷ 2 ∷ k.WHITESPACE ∷ 4 ∷ 5 ∷ 2
       ∷ 2 ∷ k.IDENT ∷ 5 ∷ 6 ∷ 2 ∷ 2 ∷ k.L-BRACE ∷ 6 ∷ 7 ∷ 2 ∷ 1 ∷ k.CONDITION-BLK ∷ 7 ∷ 44 ∷ 2 ∷ 2 ∷ k.CONDITION-KW ∷ 7 ∷ 16 ∷ 3
@@ -127,9 +127,9 @@ exact-cache = (
     left = 99872;
     events = 92;
     records = 5;
-    errors = 36 ∷ 40 ∷ 1 ∷ 4 ∷ k.EXPRESSION ∷ k.IDENT ∷ k.COLON ∷ k.L-PAREN ∷ 48 ∷ 49 ∷ 1 ∷ 2 ∷ k.EXPRESSION ∷ k.IDENT ∷ 50 ∷ 51 ∷ 1 ∷ 2
-        ∷ k.EXPRESSION ∷ k.PERCENT ∷ 47 ∷ 48 ∷ 1 ∷ 5 ∷ k.L-PAREN ∷ k.EXPRESSION ∷ k.PERCENT ∷ k.OPERATOR ∷ k.OF-KW ∷ 51 ∷ 51 ∷ 3 ∷ 2
-        ∷ k.OPERATOR ∷ k.R-BRACE ∷ [];
+    errors = 36 ∷ 40 ∷ 1 ∷ 1 ∷ 4 ∷ k.EXPRESSION ∷ k.IDENT ∷ k.COLON ∷ k.L-PAREN ∷ 48 ∷ 49 ∷ 1 ∷ 1 ∷ 2 ∷ k.EXPRESSION ∷ k.IDENT ∷ 50 ∷ 51 ∷ 1 ∷ 1
+        ∷ 2 ∷ k.EXPRESSION ∷ k.PERCENT ∷ 47 ∷ 48 ∷ 1 ∷ 1 ∷ 5 ∷ k.L-PAREN ∷ k.EXPRESSION ∷ k.PERCENT ∷ k.OPERATOR ∷ k.OF-KW ∷ 51 ∷ 51 ∷ 3 ∷ 1
+        ∷ 2 ∷ k.OPERATOR ∷ k.R-BRACE ∷ [];
   },
   1 ∷ k.SOURCE-FILE ∷ 0 ∷ 51 ∷ 0 ∷ 1 ∷ k.ERROR ∷ 0 ∷ 51 ∷ 1 ∷ 2 ∷ k.RULE-KW ∷ 0 ∷ 4 ∷ 2 ∷ 2 ∷ k.WHITESPACE ∷ 4 ∷ 5 ∷ 2
       ∷ 2 ∷ k.IDENT ∷ 5 ∷ 6 ∷ 2 ∷ 2 ∷ k.L-BRACE ∷ 6 ∷ 7 ∷ 2 ∷ 1 ∷ k.CONDITION-BLK ∷ 7 ∷ 51 ∷ 2 ∷ 2 ∷ k.CONDITION-KW ∷ 7 ∷ 16 ∷ 3
@@ -169,7 +169,7 @@ stops-at-recover = (
     left = 0;
     events = 26;
     records = 1;
-    errors = 22 ∷ 23 ∷ 1 ∷ 2 ∷ k.OPERATOR ∷ k.R-BRACE ∷ [];
+    errors = 22 ∷ 23 ∷ 1 ∷ 1 ∷ 2 ∷ k.OPERATOR ∷ k.R-BRACE ∷ [];
   },
   1 ∷ k.SOURCE-FILE ∷ 0 ∷ 32 ∷ 0 ∷ 1 ∷ k.ERROR ∷ 0 ∷ 30 ∷ 1 ∷ 2 ∷ k.RULE-KW ∷ 0 ∷ 4 ∷ 2 ∷ 2 ∷ k.WHITESPACE ∷ 4 ∷ 5 ∷ 2
       ∷ 2 ∷ k.IDENT ∷ 5 ∷ 6 ∷ 2 ∷ 2 ∷ k.L-BRACE ∷ 6 ∷ 7 ∷ 2 ∷ 1 ∷ k.ERROR ∷ 7 ∷ 30 ∷ 2 ∷ 2 ∷ k.CONDITION-KW ∷ 7 ∷ 16 ∷ 3
@@ -192,7 +192,7 @@ all-rows-covered = (
     left = 0;
     events = 22;
     records = 1;
-    errors = 22 ∷ 23 ∷ 1 ∷ 5 ∷ k.GLOBAL-KW ∷ k.PRIVATE-KW ∷ k.RULE-KW ∷ k.IMPORT-KW ∷ k.INCLUDE-KW ∷ [];
+    errors = 22 ∷ 23 ∷ 1 ∷ 1 ∷ 5 ∷ k.GLOBAL-KW ∷ k.PRIVATE-KW ∷ k.RULE-KW ∷ k.IMPORT-KW ∷ k.INCLUDE-KW ∷ [];
   },
   1 ∷ k.SOURCE-FILE ∷ 0 ∷ 23 ∷ 0 ∷ 1 ∷ k.RULE-DECL ∷ 0 ∷ 22 ∷ 1 ∷ 2 ∷ k.RULE-KW ∷ 0 ∷ 4 ∷ 2 ∷ 2 ∷ k.WHITESPACE ∷ 4 ∷ 5 ∷ 2
       ∷ 2 ∷ k.IDENT ∷ 5 ∷ 6 ∷ 2 ∷ 2 ∷ k.L-BRACE ∷ 6 ∷ 7 ∷ 2 ∷ 1 ∷ k.CONDITION-BLK ∷ 7 ∷ 21 ∷ 2 ∷ 2 ∷ k.CONDITION-KW ∷ 7 ∷ 16 ∷ 3
@@ -215,7 +215,7 @@ for-in-failure = (
     left = 984;
     events = 30;
     records = 1;
-    errors = 26 ∷ 27 ∷ 1 ∷ 2 ∷ k.COMMA ∷ k.IN-KW ∷ [];
+    errors = 26 ∷ 27 ∷ 1 ∷ 1 ∷ 2 ∷ k.COMMA ∷ k.IN-KW ∷ [];
   },
   1 ∷ k.SOURCE-FILE ∷ 0 ∷ 35 ∷ 0 ∷ 1 ∷ k.RULE-DECL ∷ 0 ∷ 35 ∷ 1 ∷ 2 ∷ k.RULE-KW ∷ 0 ∷ 4 ∷ 2 ∷ 2 ∷ k.WHITESPACE ∷ 4 ∷ 5 ∷ 2
       ∷ 2 ∷ k.IDENT ∷ 5 ∷ 6 ∷ 2 ∷ 2 ∷ k.L-BRACE ∷ 6 ∷ 7 ∷ 2 ∷ 1 ∷ k.CONDITION-BLK ∷ 7 ∷ 34 ∷ 2 ∷ 2 ∷ k.CONDITION-KW ∷ 7 ∷ 16 ∷ 3
@@ -240,7 +240,7 @@ with-stray = (
     left = 982;
     events = 37;
     records = 1;
-    errors = 22 ∷ 23 ∷ 1 ∷ 3 ∷ k.IDENT ∷ k.COLON ∷ k.L-PAREN ∷ [];
+    errors = 22 ∷ 23 ∷ 1 ∷ 1 ∷ 3 ∷ k.IDENT ∷ k.COLON ∷ k.L-PAREN ∷ [];
   },
   1 ∷ k.SOURCE-FILE ∷ 0 ∷ 31 ∷ 0 ∷ 1 ∷ k.RULE-DECL ∷ 0 ∷ 31 ∷ 1 ∷ 2 ∷ k.RULE-KW ∷ 0 ∷ 4 ∷ 2 ∷ 2 ∷ k.WHITESPACE ∷ 4 ∷ 5 ∷ 2
       ∷ 2 ∷ k.IDENT ∷ 5 ∷ 6 ∷ 2 ∷ 2 ∷ k.L-BRACE ∷ 6 ∷ 7 ∷ 2 ∷ 1 ∷ k.CONDITION-BLK ∷ 7 ∷ 30 ∷ 2 ∷ 2 ∷ k.CONDITION-KW ∷ 7 ∷ 16 ∷ 3
@@ -387,7 +387,7 @@ two-damaged = (
     left = 973;
     events = 83;
     records = 2;
-    errors = 20 ∷ 21 ∷ 1 ∷ 2 ∷ k.EXPRESSION ∷ k.IDENT ∷ 55 ∷ 64 ∷ 1 ∷ 1 ∷ k.EQUAL ∷ [];
+    errors = 20 ∷ 21 ∷ 1 ∷ 1 ∷ 2 ∷ k.EXPRESSION ∷ k.IDENT ∷ 55 ∷ 64 ∷ 1 ∷ 2 ∷ 1 ∷ k.EQUAL ∷ [];
   },
   1 ∷ k.SOURCE-FILE ∷ 0 ∷ 97 ∷ 0 ∷ 1 ∷ k.RULE-DECL ∷ 0 ∷ 23 ∷ 1 ∷ 2 ∷ k.RULE-KW ∷ 0 ∷ 4 ∷ 2 ∷ 2 ∷ k.WHITESPACE ∷ 4 ∷ 5 ∷ 2
       ∷ 2 ∷ k.IDENT ∷ 5 ∷ 6 ∷ 2 ∷ 2 ∷ k.WHITESPACE ∷ 6 ∷ 7 ∷ 2 ∷ 2 ∷ k.L-BRACE ∷ 7 ∷ 8 ∷ 2 ∷ 2 ∷ k.WHITESPACE ∷ 8 ∷ 9 ∷ 2

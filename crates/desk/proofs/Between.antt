@@ -88,7 +88,7 @@ module _ (x : Source) (s : Whole) (ev er sc sc′ : List ℕ) (f : Forgot (s .fi
 -- the two ways through the end of an item, by the mode
 module _ (s : Whole) where
   abbrev rested : ℕ → Whole
-  rested m = record { pos = s .pos; fuel = s .fuel; mode = m; ev = s .ev; evcap = s .evcap; full = s .full; want = 0; unwant = 0; count = s .count; mask = s .mask; codes = s .codes; er = s .er; ercap = s .ercap; item = s .item; first = s .pos; far = s .pos; quote = s .quote }
+  rested m = record { pos = s .pos; fuel = s .fuel; mode = m; ev = s .ev; evcap = s .evcap; full = s .full; want = 0; unwant = 0; count = s .count; mask = s .mask; codes = s .codes; er = s .er; ercap = s .ercap; item = s .item; first = s .pos; far = s .pos; quote = s .quote; number = s .number }
 
   pub settles-failed : s .mode ≡ 1 → rested 0 ≡ settled s
   settles-failed e = ap (λ (c : Bool). rested (ifb c 0 (s .mode))) (sym (eq-eqb (s .mode) 1 e))

@@ -176,7 +176,7 @@ module _ (L : P.Limits) (x : Source) (fuel evcap R : ℕ) {d : Tally} {t : Whole
         }
 
 -- all items, from nothing on: xs are the events with the begin event, whose other cells are lent, and l₀ the list of notes
-module _ (L : P.Limits) (x : Source) (fuel : ℕ) (xs er₀ sc₀ l₀ : List ℕ) {d₀ : Desk} (e : d₀ ≡ blank fuel (length xs - EVENT)) (n : l₀ ≡ replicate 68 0) where
+module _ (L : P.Limits) (x : Source) (fuel : ℕ) (xs er₀ sc₀ l₀ : List ℕ) {d₀ : Desk} (e : d₀ ≡ blank fuel (length xs - EVENT)) (n : l₀ ≡ replicate 69 0) where
   abbrev first : Tally
   first = tally d₀ (set (set l₀ 5 (length er₀)) 9 (L .quote))
 

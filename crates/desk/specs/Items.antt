@@ -62,7 +62,7 @@ pub record Flushed (records : List ℕ) (before : ℕ) (s : Whole) (r : Tally) (
   pub counted : EVENT * r .before ≡ EVENT * before + length (notes (next-depth ev (s .ev)) before 0 records)
 
 abbrev pub withItem : ℕ → Whole → Whole
-withItem n s = record { pos = s .pos; fuel = s .fuel; mode = s .mode; ev = s .ev; evcap = s .evcap; full = s .full; want = s .want; unwant = s .unwant; count = s .count; mask = s .mask; codes = s .codes; er = s .er; ercap = s .ercap; item = n; first = s .first; far = s .far; quote = s .quote }
+withItem n s = record { pos = s .pos; fuel = s .fuel; mode = s .mode; ev = s .ev; evcap = s .evcap; full = s .full; want = s .want; unwant = s .unwant; count = s .count; mask = s .mask; codes = s .codes; er = s .er; ercap = s .ercap; item = n; first = s .first; far = s .far; quote = s .quote; number = s .number }
 
 -- "Pending errors .. are written as events": the chosen ones are written, and none is left
 abbrev pub tell : P.Reader
@@ -132,7 +132,7 @@ pub record Hands (bounds : ℕ × Bool) (x : Source) (s : Whole) (before : ℕ) 
 
 -- "between items it holds position, fuel and outputs only"
 abbrev pub settled : Whole → Whole
-settled s = record { pos = s .pos; fuel = s .fuel; mode = ifb (eqb (s .mode) 1) 0 (s .mode); ev = s .ev; evcap = s .evcap; full = s .full; want = 0; unwant = 0; count = s .count; mask = s .mask; codes = s .codes; er = s .er; ercap = s .ercap; item = s .item; first = s .pos; far = s .pos; quote = s .quote }
+settled s = record { pos = s .pos; fuel = s .fuel; mode = ifb (eqb (s .mode) 1) 0 (s .mode); ev = s .ev; evcap = s .evcap; full = s .full; want = 0; unwant = 0; count = s .count; mask = s .mask; codes = s .codes; er = s .er; ercap = s .ercap; item = s .item; first = s .pos; far = s .pos; quote = s .quote; number = s .number }
 
 abbrev pub Settled : Whole → Type 0
 Settled s = (s .item ≡ s .er) × (s .first ≡ s .pos)
@@ -160,4 +160,4 @@ blank fuel evcap = record { state = record { pos = 0; ev = 0; evcap = evcap; fue
 
 -- where nothing is noted but how many numbers of error records may be written, and how long a text may be to be quoted
 abbrev pub clean : ℕ → ℕ → List ℕ
-clean ercap quote = set (set (replicate 68 0) 5 ercap) 9 quote
+clean ercap quote = set (set (replicate 69 0) 5 ercap) 9 quote

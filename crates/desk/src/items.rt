@@ -72,7 +72,7 @@ pub fn tell(
     before: u32,
     errors: &[u32],
     events: &mut [u32],
-    notes: &mut [usize; 68],
+    notes: &mut [usize; 69],
 ) -> Desk
     requires { ⌜ Fits s (now events) × (itemOf (now notes) ≤ erOf (now notes)) × (erOf (now notes) ≤ length (now errors)) ⌝ }
     ensures { λ r. ⌜
@@ -114,7 +114,7 @@ pub fn stray(
     ends: &[u32],
     events: &mut [u32],
     errors: &mut [u32],
-    notes: &mut [usize; 68],
+    notes: &mut [usize; 69],
     sets: &[[u64; 2]; 56],
 ) -> Desk
     requires { ⌜
@@ -153,7 +153,7 @@ pub fn at_hand(
     events: &mut [u32],
     errors: &mut [u32],
     scratch: &mut [u64],
-    notes: &mut [usize; 68],
+    notes: &mut [usize; 69],
     table: &[u32; 288],
     sets: &[[u64; 2]; 56],
 ) -> Desk
@@ -204,7 +204,7 @@ pub fn at_hand(
 }
 
 // What an item leaves behind is given up, but for place, fuel and outputs.
-pub fn settle(d: Desk, scratch: &mut [u64], notes: &mut [usize; 68]) -> Desk
+pub fn settle(d: Desk, scratch: &mut [u64], notes: &mut [usize; 69]) -> Desk
     requires { ⌜ (2 * farOf (now notes) ≤ 64 * length (now scratch)) × Coded (now notes) ⌝ }
     ensures { λ r. ⌜
         (whole (r .state) (now (notes .exit)) ≡ settled (whole (d .state) (now (notes .entry))))
@@ -256,7 +256,7 @@ pub fn item(
     events: &mut [u32],
     errors: &mut [u32],
     scratch: &mut [u64],
-    notes: &mut [usize; 68],
+    notes: &mut [usize; 69],
     table: &[u32; 288],
     sets: &[[u64; 2]; 56],
 ) -> Desk
@@ -303,7 +303,7 @@ pub fn items(
     events: &mut [u32],
     errors: &mut [u32],
     scratch: &mut [u64],
-    notes: &mut [usize; 68],
+    notes: &mut [usize; 69],
     table: &[u32; 288],
     sets: &[[u64; 2]; 56],
 ) -> Desk

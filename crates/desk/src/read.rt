@@ -105,14 +105,14 @@ fn whole(
     scratch: &mut [u64],
     events: &mut [u32],
     errors: &mut [u32],
-    notes: &mut [usize; 68],
+    notes: &mut [usize; 69],
 ) -> Desk
     requires { ⌜
         Rows (source (now src) (now ids) (now ends))
         × (now scratch ≡ replicate (length (now scratch)) 0)
         × (2 * (length (now ids) + 1) ≤ 64 * length (now scratch))
         × (EVENT ≤ length (now events))
-        × (now notes ≡ replicate 68 0) ⌝ }
+        × (now notes ≡ replicate 69 0) ⌝ }
     ensures { λ r. ⌜
         Framed (limitsOf limits) (source (now (src .entry)) (now (ids .entry)) (now (ends .entry))) fuel (length (now (events .entry)))
         (length (now (errors .entry))) (tally r (now (notes .exit))) (now (events .exit)) (now (errors .exit)) ⌝ }
@@ -217,7 +217,7 @@ pub fn read(
         return spoilt(refusal::EVENTS, scratch, events, errors);
     }
     wipe(scratch);
-    let mut notes = [0usize; 68];
+    let mut notes = [0usize; 69];
     let d = whole(
         src,
         ids,

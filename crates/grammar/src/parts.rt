@@ -158,7 +158,7 @@ fn step(
     ends: &[u32],
     events: &mut [u32],
     errors: &mut [u32],
-    notes: &mut [usize; 68],
+    notes: &mut [usize; 69],
     sets: &[[u64; 2]; 56],
 ) -> State
     requires { ⌜ Whence (now src) (now ids) (now ends) s (now notes) (now events) (now errors) × (set < 55) × Tabled (now sets) ⌝ }
@@ -199,7 +199,7 @@ fn exec(
     events: &mut [u32],
     errors: &mut [u32],
     scratch: &mut [u64],
-    notes: &mut [usize; 68],
+    notes: &mut [usize; 69],
     table: &[u32; 288],
     sets: &[[u64; 2]; 56],
 ) -> State
@@ -389,7 +389,7 @@ fn node(
     events: &mut [u32],
     errors: &mut [u32],
     scratch: &mut [u64],
-    notes: &mut [usize; 68],
+    notes: &mut [usize; 69],
     table: &[u32; 288],
     sets: &[[u64; 2]; 56],
 ) -> State
@@ -464,7 +464,7 @@ fn cached(
     events: &mut [u32],
     errors: &mut [u32],
     scratch: &mut [u64],
-    notes: &mut [usize; 68],
+    notes: &mut [usize; 69],
     table: &[u32; 288],
     sets: &[[u64; 2]; 56],
 ) -> State
@@ -524,7 +524,7 @@ fn many(
     events: &mut [u32],
     errors: &mut [u32],
     scratch: &mut [u64],
-    notes: &mut [usize; 68],
+    notes: &mut [usize; 69],
     table: &[u32; 288],
     sets: &[[u64; 2]; 56],
 ) -> State
@@ -594,7 +594,7 @@ pub fn read_item(
     events: &mut [u32],
     errors: &mut [u32],
     scratch: &mut [u64],
-    notes: &mut [usize; 68],
+    notes: &mut [usize; 69],
     table: &[u32; 288],
     sets: &[[u64; 2]; 56],
 ) -> State

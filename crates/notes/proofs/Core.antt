@@ -139,14 +139,14 @@ put-of s u = record { is = refl; stuck = u .stuck; filled = u .filled; room = u 
 
 -- a state for any place: what holds of all that stand there is known of this one, where the code has none at hand
 abbrev pub blank : Whole
-blank = record { pos = 0; fuel = 0; mode = 0; ev = 0; evcap = 0; er = 0; ercap = 0; item = 0; first = 0; far = 0; quote = 0; want = 0; unwant = 0; full = 0; count = 0; mask = 0; codes = replicate 58 0 }
+blank = record { pos = 0; fuel = 0; mode = 0; ev = 0; evcap = 0; er = 0; ercap = 0; item = 0; first = 0; far = 0; quote = 0; number = 0; want = 0; unwant = 0; full = 0; count = 0; mask = 0; codes = replicate 58 0 }
 
 -- what is noted beside a well formed state is well formed
 pub sound : {n : ℕ} (l : List ℕ) (s : Whole) → Ok n (beside l s) → Sound n l
 sound l s w = (
   record { here = le-trans (w .0 .since) (w .0 .here); since = le-refl _; far-in = w .0 .far-in; want-in = w .0 .want-in; want-since = w .0 .want-since; unwant-in = w .0 .unwant-in; unwant-since = w .0 .unwant-since },
   w .1,
-  record { events = le-refl _; since = w .2 .since; errors = w .2 .errors },
+  record { events = le-refl _; since = w .2 .since; errors = w .2 .errors; numbered = w .2 .numbered },
 )
 
 -- the depth at which the next event stands
@@ -157,7 +157,7 @@ depth-is {p} {x} {s} {b} {a} w m =
 
 module _ {q : List ℕ} {s r : Whole} {ev ev′ : List ℕ} (u : Put q s r ev ev′) where
   pub ok-put : {n : ℕ} → Ok n s → Ok n r
-  ok-put {n} w = subst (λ (t : Whole). Ok n t) (sym (u .is)) (w .0, w .1, record { events = u .fits; since = w .2 .since; errors = w .2 .errors })
+  ok-put {n} w = subst (λ (t : Whole). Ok n t) (sym (u .is)) (w .0, w .1, record { events = u .fits; since = w .2 .since; errors = w .2 .errors; numbered = w .2 .numbered })
 
   pub caps-put : (r .evcap ≡ s .evcap) × (r .ercap ≡ s .ercap)
   caps-put = (ap (λ (t : Whole). t .evcap) (u .is), ap (λ (t : Whole). t .ercap) (u .is))

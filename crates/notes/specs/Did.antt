@@ -42,16 +42,17 @@ pub record Named (count mask : ℕ) (codes : List ℕ) : Type 0 where
 
 -- the same of the list of notes
 abbrev pub Coded : List ℕ → Type 0
-Coded l = Named (getD l 2 0) (getD l 3 0) (drop 10 l)
+Coded l = Named (getD l 2 0) (getD l 3 0) (drop 11 l)
 
-pub record Counted (ev evcap item er ercap : ℕ) : Type 0 where
+pub record Counted (ev evcap item er ercap number : ℕ) : Type 0 where
   pub events : ev ≤ evcap
   pub since : item ≤ er
   pub errors : er ≤ ercap
+  pub numbered : number ≤ 65536
 
 -- a state that is well formed among n rows; parts that a change leaves alone are the same by computing
 abbrev pub Ok : ℕ → Whole → Type 0
-Ok n s = Placed n (s .pos) (s .first) (s .far) (s .want) (s .unwant) × Named (s .count) (s .mask) (s .codes) × Counted (s .ev) (s .evcap) (s .item) (s .er) (s .ercap)
+Ok n s = Placed n (s .pos) (s .first) (s .far) (s .want) (s .unwant) × Named (s .count) (s .mask) (s .codes) × Counted (s .ev) (s .evcap) (s .item) (s .er) (s .ercap) (s .number)
 
 -- the same of the list of notes alone, at the item's first row
 abbrev pub Sound : ℕ → List ℕ → Type 0

@@ -43,23 +43,44 @@ entries (a ∷ b ∷ c ∷ d ∷ h ∷ l) = (a, b, c, d, h) ∷ entries l
 
 -- ERROR RECORDS
 
--- "An error record is start, end, form, count of names, then the names.": how many numbers stand before the names, and where those are that are looked up
+-- "An error record is start, end, form, count of names, then the names."; "Every error record gets the number of its item, from 1" (request (x)), behind
+-- the form: how many numbers stand before the names, and where those are that are looked up
 abbrev pub HEAD : ℕ
-HEAD = 4
+HEAD = 5
 
 abbrev pub FORM : ℕ
 FORM = 2
 
 abbrev pub COUNT : ℕ
-COUNT = 3
+COUNT = 4
 
--- behind the names, in form 9 alone, the place (request (vi))
+-- start, end, form and names; behind the names, in form 9 alone, the place (request (vi))
 abbrev pub Rec : Type 0
 Rec = ℕ × ℕ × ℕ × List ℕ × List ℕ
 
-abbrev pub flat-records : List Rec → List ℕ
+-- with the number of its item
+abbrev pub Owned : Type 0
+Owned = Rec × ℕ
+
+abbrev pub flat-records : List Owned → List ℕ
 flat-records [] = []
-flat-records (e ∷ es) = e .0 ∷ e .1 ∷ e .2 ∷ length (e .3) ∷ e .3 ++ (e .4 ++ flat-records es)
+flat-records (e ∷ es) = e .0 .0 ∷ e .0 .1 ∷ e .0 .2 ∷ e .1 ∷ length (e .0 .3) ∷ e .0 .3 ++ (e .0 .4 ++ flat-records es)
+
+-- records, each with its number; there are as many of these
+abbrev pub owned : List Rec → List ℕ → List Owned
+owned [] is = []
+owned (q ∷ l) [] = (q, 0) ∷ owned l []
+owned (q ∷ l) (i ∷ is) = (q, i) ∷ owned l is
+
+-- the records of one item
+abbrev pub of-item : ℕ → List Rec → List Owned
+of-item i [] = []
+of-item i (q ∷ l) = (q, i) ∷ of-item i l
+
+-- without their numbers
+abbrev pub bare : List Owned → List Rec
+bare [] = []
+bare (e ∷ es) = e .0 ∷ bare es
 
 -- how many numbers stand behind a record's count
 abbrev pub behind : ℕ → ℕ → ℕ

@@ -60,7 +60,7 @@ pub gone-ok : {n : ℕ} (s r : Whole) → Ok n s → r .first ≡ s .first → s
 gone-ok s r w first grows W = (
   record { here = w .0 .here; since = omega (arith, first, w .0 .since); far-in = W .0 .far-in; want-in = W .0 .want-in; want-since = W .0 .want-since; unwant-in = W .0 .unwant-in; unwant-since = W .0 .unwant-since },
   W .1,
-  record { events = le-trans grows (W .2 .events); since = W .2 .since; errors = W .2 .errors },
+  record { events = le-trans grows (W .2 .events); since = W .2 .since; errors = W .2 .errors; numbered = W .2 .numbered },
 )
 
 -- back to where s was, from r, which f reached; a mode may be set

@@ -253,11 +253,11 @@ skips {s = s} r p k u f = record { of = λ bytes l w. f bytes l (k .of bytes l w
 
 -- notes for any state: what holds whatever is noted is known of these, where the code has none at hand
 abbrev pub none-noted : List ℕ
-none-noted = replicate 68 0
+none-noted = replicate 69 0
 
 pub ok-none : (n : ℕ) (s : State) → s .pos ≤ n → s .ev ≤ s .evcap → Ok n (whole s none-noted)
 ok-none n s h k = (
   record { here = h; since = omega arith; far-in = omega arith; want-in = omega arith; want-since = λ z. absurd (z refl); unwant-in = omega arith; unwant-since = λ z. absurd (z refl) },
   none-named (replicate 58 0) refl,
-  record { events = k; since = le-refl _; errors = le-refl _ },
+  record { events = k; since = le-refl _; errors = le-refl _; numbered = omega arith },
 )

@@ -23,7 +23,7 @@ ghost use Rattle.steps.specs.Steps.{whole, Tabled, Fits, Ready, Writes, 
 
 impl State {
     // No row of the set stands at hand: names are entered, and the state fails.
-    fn miss(mut self, code: usize, at: usize, notes: &mut [usize; 68]) -> Self
+    fn miss(mut self, code: usize, at: usize, notes: &mut [usize; 69]) -> Self
         requires { ⌜ Coded (now notes) × (code < 58) × (at ≤ 65536) ⌝ }
         ensures { λ r. ⌜
             ((x : Source) → Ok (length (x .ids)) (whole self (now (notes .entry))) → Peeked (x .ids) (self .pos) at
@@ -42,7 +42,7 @@ impl State {
         ids: &[u32],
         ends: &[u32],
         events: &mut [u32],
-        notes: &mut [usize; 68],
+        notes: &mut [usize; 69],
         sets: &[[u64; 2]; 56],
     ) -> Self
         requires { ⌜ Ready (now ids) (now ends) self (now notes) (now events) × (code < 58) × Tabled (now sets) ⌝ }
@@ -96,7 +96,7 @@ impl State {
     }
 
     // Goes on without a part that begins with a row of the set, which does not stand there: its names are entered.
-    pub fn pass(self, set: usize, ids: &[u32], notes: &mut [usize; 68])
+    pub fn pass(self, set: usize, ids: &[u32], notes: &mut [usize; 69])
         requires { ⌜ (length (now ids) ≤ 65536) × (self .pos ≤ length (now ids)) × Coded (now notes) × (set < 55) ⌝ }
         ensures { λ _. ⌜
             ((bytes ends : List ℕ) → Ok (length (now (ids .entry))) (whole self (now (notes .entry)))
@@ -121,7 +121,7 @@ impl State {
         ids: &[u32],
         ends: &[u32],
         events: &mut [u32],
-        notes: &mut [usize; 68],
+        notes: &mut [usize; 69],
         sets: &[[u64; 2]; 56],
     ) -> Self
         requires { ⌜ Ready (now ids) (now ends) self (now notes) (now events) × Tabled (now sets) ⌝ }

@@ -48,6 +48,9 @@ module _ (x : Source) where
       let q : List Rec = junk-error x j r ∷ [] in
       records-leaves L j r (opened n ∷ bad n stray ∷ leaves g (j ++ r) o) [] ∙ records-leaves L g (j ++ r) o q ∙ records-keep x L o [] q
 
+  pub junk-bads : (g j r : List ℕ) (o : List Event) → let n : ℕ = length (j ++ r) in bads (closed kinds.ERROR n (length r) ∷ leaves j r (opened n ∷ bad n stray ∷ leaves g (j ++ r) o)) ≡ suc (bads o)
+  junk-bads g j r o = let n : ℕ = length (j ++ r) in bads-leaves j r (opened n ∷ bad n stray ∷ leaves g (j ++ r) o) ∙ ap suc (bads-leaves g (j ++ r) o)
+
   -- what has no error adds no record
   pub unrecorded : (L : Limits) (w o : List Event) (l : List Rec) → bads (w ++ o) ≡ bads o → records L x (w ++ o) l ≡ records L x o l
   unrecorded L [] o l e = refl

@@ -12,4 +12,5 @@ pub mod Least
 pub mod Bound
 pub mod Stops
 pub mod Remaining
+pub mod Owners
 pub mod Demands
