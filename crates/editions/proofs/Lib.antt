@@ -6,3 +6,4 @@ pub mod Rooms
 pub mod Scanning
 pub mod Judging
 pub mod Marks
+pub mod Back

@@ -51,18 +51,23 @@ free-digits m h (b ∷ t) e =
 pub free-decimal : (m : ℕ) → m < 48 → (n : ℕ) → Free m (decimal n)
 free-decimal m h n = free-digits m h (decimal n) (reads n .digits)
 
--- two texts that have no mark, one behind the other
+pub free-tail : (m c : ℕ) (t : List ℕ) → Free m (c ∷ t) → (eqb c m ≡ false) × Free m t
+free-tail m c t f = go (eqb c m) refl (parted m t) refl f
+  where
+    go : (b : Bool) → eqb c m ≡ b → (ps : List (List ℕ)) → parted m t ≡ ps → cond b ([] ∷ ps) (onto (c ∷ []) ps) ≡ (c ∷ t) ∷ []
+        → (eqb c m ≡ false) × Free m t
+    go true e ps i f = absurd (let z : _≡_ {A = ℕ} 0 1 = cc in omega arith)
+    go false e [] i f = absurd (one-piece (λ (qs : List (List ℕ)). qs ≡ [] → ⊥) (λ q qs x. let z : _≡_ {A = ℕ} 0 1 = cc in omega arith) m t i)
+    go false e (p ∷ ps) i f = let q : p ∷ ps ≡ t ∷ [] = cc in (e, i ∙ q)
+
+-- one behind the other, and the first of two
 pub free-append : (m : ℕ) (a b : List ℕ) → Free m a → Free m b → Free m (a ++ b)
 free-append m [] b e f = f
-free-append m (c ∷ a) b e f = go (eqb c m) refl e (λ i. free-append m a b i f)
-  where
-    go : (t : Bool) → eqb c m ≡ t → cond t ([] ∷ parted m a) (onto (c ∷ []) (parted m a)) ≡ (c ∷ a) ∷ [] → (Free m a → Free m (a ++ b)) → Free m (c ∷ (a ++ b))
-    go true i e g = absurd (one-piece (λ (ps : List (List ℕ)). [] ∷ ps ≡ (c ∷ a) ∷ [] → ⊥) (λ p ps k. let z : _≡_ {A = ℕ} 0 1 = cc in omega arith) m a e)
-    go false i e g = free-one m c (a ++ b) i (g (alone (parted m a) e))
-      where
-        alone : (ps : List (List ℕ)) → onto (c ∷ []) ps ≡ (c ∷ a) ∷ [] → ps ≡ a ∷ []
-        alone [] k = absurd (one-piece (λ (qs : List (List ℕ)). parted m a ≡ qs → ⊥) (λ q qs x. absurd tt) m a refl)
-        alone (p ∷ ps) k = cc
+free-append m (c ∷ a) b e f = let x = free-tail m c a e in free-one m c (a ++ b) (x .0) (free-append m a b (x .1) f)
+
+pub free-front : (m : ℕ) (a b : List ℕ) → Free m (a ++ b) → Free m a
+free-front m [] b f = refl
+free-front m (c ∷ a) b f = let x = free-tail m c (a ++ b) f in free-one m c a (x .0) (free-front m a b (x .1))
 
 -- LINES
 
@@ -109,15 +114,9 @@ ended-parted text ls e = sym (unparted-ended ls) ∙ ap (unparted 10) (sym e) �
 
 pub bare-free : (m : ℕ) (t : List ℕ) → Free m t → shed m t ≡ none
 bare-free m [] f = refl
-bare-free m (b ∷ bs) f = go (eqb b m) refl (parted m bs) refl f (λ i. bare-free m bs i)
-  where
-    go : (c : Bool) → eqb b m ≡ c → (ps : List (List ℕ)) → parted m bs ≡ ps → cond c ([] ∷ ps) (onto (b ∷ []) ps) ≡ (b ∷ bs) ∷ []
-        → (Free m bs → shed m bs ≡ none) → shedFrom m b bs (shed m bs) ≡ none
-    go true e ps i f g = absurd (let z : _≡_ {A = ℕ} 0 1 = cc in omega arith)
-    go false e [] i f g = absurd (one-piece (λ (qs : List (List ℕ)). qs ≡ [] → ⊥) (λ q qs x. let z : _≡_ {A = ℕ} 0 1 = cc in omega arith) m bs i)
-    go false e (p ∷ ps) i f g =
-        ap (shedFrom m b bs) (g (i ∙ cc))
-        ∙ ap (λ (c : Bool). cond c (some ([], bs)) none) e
+bare-free m (b ∷ bs) f =
+    let x = free-tail m b bs f in
+    ap (shedFrom m b bs) (bare-free m bs (x .1)) ∙ ap (λ (c : Bool). cond c (some ([], bs)) none) (x .0)
 
 pub shed-field : (m : ℕ) (a f : List ℕ) → shed m f ≡ none → shed m (a ++ (m ∷ f)) ≡ some (a, f)
 shed-field m [] f e = ap (shedFrom m m f) e ∙ ap (λ (c : Bool). cond c (some ([], f)) none) (eq-eqb m m refl)
