@@ -1,0 +1,5 @@
+pub mod Words
+pub mod Fields
+pub mod Sorts
+pub mod Editions
+pub mod Answer
