@@ -5,10 +5,10 @@ use crate::walk::{words, Found};
 use stableglow::{message, raw, Outcome, Reading, Refusal, Rows};
 use std::fs::File;
 use std::io::{self, Read};
-use std::path::Path;
+use std::path::{Path, PathBuf};
 
 pub struct Checked {
-    pub path: std::path::PathBuf,
+    pub path: PathBuf,
     pub source: Vec<u8>,
     pub verdict: Verdict,
 }
@@ -116,7 +116,8 @@ impl Checked {
 
     /// What a stop means. The item that a reading stops in is closed as it stands, which may read as an error.
     pub fn stop_words(&self, why: &str) -> String {
-        let errors = if self.told().is_empty() { "" } else { ", and an error there may come of that" };
+        let any = matches!(&self.verdict, Verdict::Read(_, reading) if !reading.errors.is_empty());
+        let errors = if any { ", and an error there may come of that" } else { "" };
         format!("{why}; what follows was not read{errors}")
     }
 
