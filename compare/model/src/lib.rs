@@ -12,7 +12,9 @@ mod reader;
 pub mod utf8;
 
 use common::kinds::IDS;
-use common::{counted, scratch_words, Merged, Question, Record, Reply, Side, Told, LENT, LENT_BYTE, LENT_WORD};
+use common::{
+    counted, scratch_words, Merged, Question, Record, Reply, Side, Told, LENT, LENT_BYTE, LENT_WORD,
+};
 
 pub struct Model;
 

@@ -99,7 +99,10 @@ pub fn same_lines(what: &str, ours: &str, theirs: &str) -> Result<(), String> {
 fn same_replies(question: &Question, library: &dyn Side) -> Result<(), String> {
     let (ours, theirs) = (Model.read(question), library.read(question));
     if ours != theirs {
-        if ours.refusal == 0 && theirs.refusal == 0 && theirs.answer[2] as usize * EVENT <= theirs.events.len() {
+        if ours.refusal == 0
+            && theirs.refusal == 0
+            && theirs.answer[2] as usize * EVENT <= theirs.events.len()
+        {
             same_events(&ours, &theirs)?;
         }
         let told = |r: &Reply| format!("refusal {} answer {:?}", r.refusal, r.answer);
