@@ -130,7 +130,7 @@ shed-sound m (b ∷ bs) a f e = go (shed m bs) refl e (λ c g i. shed-sound m bs
         → ((c g : List ℕ) → shed m bs ≡ some (c, g) → bs ≡ c ++ (m ∷ g)) → b ∷ bs ≡ a ++ (m ∷ f)
     go none i e k = here (eqb b m) refl e
       where
-        here : (t : Bool) → eqb b m ≡ t → cond t (some ([], bs)) none ≡ some (a, f) → b ∷ bs ≡ a ++ (m ∷ f)
+        here : (t : Bool) → eqb b m ≡ t → cond {A = Option (List ℕ × List ℕ)} t (some ([], bs)) none ≡ some (a, f) → b ∷ bs ≡ a ++ (m ∷ f)
         here true j e = let x : b ≡ m = eqb-true b m j in let y : [] ≡ a = cc in let z : bs ≡ f = cc in cc
         here false j e = absurd (let z : _≡_ {A = ℕ} 0 1 = cc in omega arith)
     go (some (c, g)) i e k = let x : bs ≡ c ++ (m ∷ g) = k c g i in let y : b ∷ c ≡ a = cc in let z : g ≡ f = cc in ap (λ (t : List ℕ). b ∷ t) x ∙ ap₂ (λ (s t : List ℕ). s ++ (m ∷ t)) y z
