@@ -100,9 +100,9 @@ module _ (c : ℕ) (fs gs : List (List ℕ)) (d : ℕ) where
 
       go : (b t e x r n f : Bool)
           → allowed (cond b (cond (node NODES KINDS fs) Sort.BEGIN 0) (cond t (cond (node 0 NODES fs) Sort.TOKEN 0) (cond e (cond (node NODES KINDS fs) Sort.END 0)
-            (cond x (cond (error fs) Sort.ERROR 0) (cond r (cond (plains 3 fs) RESULT 0) (cond n (cond (plains 1 fs) ALONE 0) (cond f (cond (plains 1 fs) ALONE 0) 0))))))) d ≡ true
+          (cond x (cond (error fs) Sort.ERROR 0) (cond r (cond (plains 3 fs) RESULT 0) (cond n (cond (plains 1 fs) ALONE 0) (cond f (cond (plains 1 fs) ALONE 0) 0))))))) d ≡ true
           → cond b (cond (node NODES KINDS gs) Sort.BEGIN 0) (cond t (cond (node 0 NODES gs) Sort.TOKEN 0) (cond e (cond (node NODES KINDS gs) Sort.END 0)
-            (cond x (cond (error gs) Sort.ERROR 0) (cond r (cond (plains 3 gs) RESULT 0) (cond n (cond (plains 1 gs) ALONE 0) (cond f (cond (plains 1 gs) ALONE 0) 0)))))) ≤ 4
+          (cond x (cond (error gs) Sort.ERROR 0) (cond r (cond (plains 3 gs) RESULT 0) (cond n (cond (plains 1 gs) ALONE 0) (cond f (cond (plains 1 gs) ALONE 0) 0)))))) ≤ 4
       go true t e x r n f h = low (node NODES KINDS gs) 1 (omega arith)
       go false true e x r n f h = low (node 0 NODES gs) 2 (omega arith)
       go false false true x r n f h = low (node NODES KINDS gs) 3 (omega arith)
@@ -265,7 +265,7 @@ but-of d a f r = go (eqb (sortOf (parted 9 a)) Sort.ERROR) refl
         subst (λ (n : ℕ). But (a ++ (9 ∷ f)) (a ++ (9 ∷ decimal n))) (error-field (sortOf (parted 9 a)) d s) (item a f s)
     go false i =
         let w : equal f (decimal (field (sortOf (parted 9 a)) d)) ≡ true =
-              sym (ap (λ (t : Bool). cond t (plain f) (equal f (decimal (field (sortOf (parted 9 a)) d)))) i) ∙ r in
+        sym (ap (λ (t : Bool). cond t (plain f) (equal f (decimal (field (sortOf (parted 9 a)) d)))) i) ∙ r in
         subst (λ (g : List ℕ). But (a ++ (9 ∷ f)) (a ++ (9 ∷ g))) (equal-same f (decimal (field (sortOf (parted 9 a)) d)) w) same
 
 down-up : (n d : ℕ) (l t : List ℕ) (b : Bool) (k : ℕ) → stepAt false n d l ≡ becomes b k t → Again n d l t b k
@@ -277,7 +277,7 @@ down-up n d l t b k e = go (eqb n 1) refl e
     event h a f i true true u v e =
         let w : t ≡ a = cc in
         let z : becomes false (opened (sortOf (parted 9 a)) d) (a ++ (9 ∷ decimal (field (sortOf (parted 9 a)) d)))
-              ≡ becomes b k (a ++ (9 ∷ decimal (field (sortOf (parted 9 a)) d))) = cc in
+        ≡ becomes b k (a ++ (9 ∷ decimal (field (sortOf (parted 9 a)) d))) = cc in
         record {
           line = a ++ (9 ∷ decimal (field (sortOf (parted 9 a)) d));
           step = ap (stepAt true n d) w ∙ event-up n d a h u ∙ z;

@@ -82,14 +82,14 @@ own-name n h = eqb-true (nameNumber (nameText n)) n (all-sound (λ n. eqb (nameN
 -- the first digit of a number from 1 on is not 0
 lead : (k n : ℕ) → n < k → 1 ≤ n → getD (decimal n) 0 0 ≡ 48 → ⊥
 lead zero n h p e = omega arith
-lead (suc k) n h p e = ⊎-elim one many (either n 10)
+lead (suc k) n h p e = ⊎-elim one (λ l. many l (lead k (n / 10))) (either n 10)
   where
     one : n < 10 → ⊥
     one l = omega (arith, e, ap (λ (t : List ℕ). getD t 0 0) (decimal-one n l))
 
-    many : 10 ≤ n → ⊥
-    many l =
-        lead k (n / 10) (omega arith) (omega arith)
+    many : 10 ≤ n → (n / 10 < k → 1 ≤ n / 10 → getD (decimal (n / 10)) 0 0 ≡ 48 → ⊥) → ⊥
+    many l f =
+        f (omega arith) (omega arith)
         (sym (List·getD-append (decimal (n / 10)) ((48 + n % 10) ∷ []) 0 0 (reads (n / 10) .some-digit))
         ∙ ap (λ (t : List ℕ). getD t 0 0) (decimal-more n l)
         ∙ e)
@@ -239,13 +239,12 @@ module _ (l : List ℕ) (r : Recorded l) where
 
   fields-free : (m : ℕ) → m < 44 → (m ≡ 32 → ⊥) → Each (Free m) (map decimal (getD l FORM 0 ∷ getD l 0 0 ∷ getD l 1 0 ∷ []) ++ (joined (map nameText (namesOf l)) ∷ placeOf l))
   unfolding placeOf
-  fields-free m h k = (
-    free-decimal m (omega arith) (getD l FORM 0),
-    free-decimal m (omega arith) (getD l 0 0),
-    free-decimal m (omega arith) (getD l 1 0),
-    joined-free m (ne-eqb 45 m (λ i. omega arith)) (ne-eqb 44 m (λ i. omega arith)) (map nameText (namesOf l)) (record-names-free m (omega arith) k),
-    go (eqb (getD l FORM 0) 9),
-  )
+  fields-free m h k =
+      (free-decimal m (omega arith) (getD l FORM 0),
+      (free-decimal m (omega arith) (getD l 0 0),
+      (free-decimal m (omega arith) (getD l 1 0),
+      (joined-free m (ne-eqb 45 m (λ i. omega arith)) (ne-eqb 44 m (λ i. omega arith)) (map nameText (namesOf l)) (record-names-free m (omega arith) k),
+      go (eqb (getD l FORM 0) 9)))))
     where
       go : (t : Bool) → Each (Free m) (cond t (decimal (getD l (HEAD + getD l COUNT 0) 0) ∷ []) [])
       go true = (free-decimal m (omega arith) (getD l (HEAD + getD l COUNT 0) 0), tt)
