@@ -52,18 +52,24 @@ fn write_front(room: &[u8], count: usize) {
     }
 }
 
-fn convert_text(up: bool, text: &[u8]) {
-    let mut room = [0u8; 1048576];
-    let converted = if up {
-        editions::up(text, &mut room)
-    } else {
-        editions::down(text, &mut room)
-    };
+fn answer(converted: Converted, room: &[u8], edition: &[u8]) {
     match converted {
-        Converted::Stray(line) => say_stray(line, if up { b"1" } else { b"2" }),
+        Converted::Stray(line) => say_stray(line, edition),
         Converted::Full => say(b"convert: the listing has no room\n"),
-        Converted::Text(count) => write_front(&room, count),
+        Converted::Text(count) => write_front(room, count),
     }
+}
+
+fn convert_up(text: &[u8]) {
+    let mut room = [0u8; 1048576];
+    let converted = editions::up(text, &mut room);
+    answer(converted, &room, b"1");
+}
+
+fn convert_down(text: &[u8]) {
+    let mut room = [0u8; 1048576];
+    let converted = editions::down(text, &mut room);
+    answer(converted, &room, b"2");
 }
 
 fn convert_within(up: bool, size: usize, text: &[u8])
@@ -73,7 +79,11 @@ fn convert_within(up: bool, size: usize, text: &[u8])
         say(b"convert: the listing has more than 524,288 bytes\n");
         return;
     }
-    convert_text(up, &text[..size]);
+    if up {
+        convert_up(&text[..size]);
+        return;
+    }
+    convert_down(&text[..size]);
 }
 
 fn convert_input(up: bool) {

@@ -95,15 +95,14 @@ module _ (c : ℕ) (fs gs : List (List ℕ)) (d : ℕ) where
       low false n h = omega arith
 
       never : (t : Bool) (n : ℕ) → 4 < n → {A : Type 0} → allowed (cond t n 0) d ≡ true → A
-      unfolding allowed
       never true n h e = absurd (let x = ne-eqb n 0 (λ i. omega arith) in let y = lt-ltb 4 n h in let z : _≡_ {A = ℕ} 0 1 = cc in omega arith)
       never false n h e = absurd (let z : _≡_ {A = ℕ} 0 1 = cc in omega arith)
 
       go : (b t e x r n f : Bool)
           → allowed (cond b (cond (node NODES KINDS fs) Sort.BEGIN 0) (cond t (cond (node 0 NODES fs) Sort.TOKEN 0) (cond e (cond (node NODES KINDS fs) Sort.END 0)
-            (cond x (cond (error fs) Sort.ERROR 0) (cond r (cond (plains 3 fs) RESULT 0) (cond n (cond (plains 1 fs) ALONE 0) (cond f (cond (plains 1 fs) ALONE 0) 0))))))) d ≡ true
+          (cond x (cond (error fs) Sort.ERROR 0) (cond r (cond (plains 3 fs) RESULT 0) (cond n (cond (plains 1 fs) ALONE 0) (cond f (cond (plains 1 fs) ALONE 0) 0))))))) d ≡ true
           → cond b (cond (node NODES KINDS gs) Sort.BEGIN 0) (cond t (cond (node 0 NODES gs) Sort.TOKEN 0) (cond e (cond (node NODES KINDS gs) Sort.END 0)
-            (cond x (cond (error gs) Sort.ERROR 0) (cond r (cond (plains 3 gs) RESULT 0) (cond n (cond (plains 1 gs) ALONE 0) (cond f (cond (plains 1 gs) ALONE 0) 0)))))) ≤ 4
+          (cond x (cond (error gs) Sort.ERROR 0) (cond r (cond (plains 3 gs) RESULT 0) (cond n (cond (plains 1 gs) ALONE 0) (cond f (cond (plains 1 gs) ALONE 0) 0)))))) ≤ 4
       go true t e x r n f h = low (node NODES KINDS gs) 1 (omega arith)
       go false true e x r n f h = low (node 0 NODES gs) 2 (omega arith)
       go false false true x r n f h = low (node NODES KINDS gs) 3 (omega arith)
@@ -170,10 +169,10 @@ module _ (n d : ℕ) (l f : List ℕ) (event : allowed (sortOf (parted 9 l)) d �
 
 -- the field that is written is the right one
 own-right : (s d : ℕ) → right s d (decimal (field s d)) ≡ true
+unfolding right field plain decimal
 own-right s d = go (eqb s Sort.ERROR) refl
   where
     go : (t : Bool) → eqb s Sort.ERROR ≡ t → right s d (decimal (field s d)) ≡ true
-    unfolding right field plain decimal
     go true e = ap (λ (s : ℕ). right s d (decimal (field s d))) (eqb-true s Sort.ERROR e)
     go false e = ap (λ (t : Bool). cond t (plain (decimal (field s d))) (equal (decimal (field s d)) (decimal (field s d)))) e ∙ equal-self (decimal (field s d))
 
@@ -195,7 +194,7 @@ head-back up l t b k e = go (equal l (headText (from up))) refl e
     go false i e = absurd (let z : _≡_ {A = ℕ} 0 1 = cc in omega arith)
 
 up-down : (n d : ℕ) (l t : List ℕ) (b : Bool) (k : ℕ) → stepAt true n d l ≡ becomes b k t → stepAt false n d t ≡ becomes b k l
-unfolding stepAt
+unfolding stepAt upStep
 up-down n d l t b k e = go (eqb n 1) refl e
   where
     events : (n ≡ 1 → ⊥) → (x : Bool) → allowed (sortOf (parted 9 l)) d ≡ x
@@ -213,7 +212,6 @@ up-down n d l t b k e = go (eqb n 1) refl e
 
     rest : (n ≡ 1 → ⊥) → (x : Bool) → ends (sortOf (parted 9 l)) n d ≡ x → cond x (becomes true 0 l) (upStep d l) ≡ becomes b k t
         → cond (ends (sortOf (parted 9 t)) n d) (becomes true 0 t) (downStep d t) ≡ becomes b k l
-    unfolding upStep stepAt
     rest h true i e =
         let w : t ≡ l = cc in
         let v : becomes true 0 l ≡ becomes b k l = cc in
@@ -230,6 +228,22 @@ up-down n d l t b k e = go (eqb n 1) refl e
     go true i e = head-back true l t b k e
     go false i e = rest (eqb-false n 1 i) (ends (sortOf (parted 9 l)) n d) refl e
 
+-- an event of edition 1, which is not the first line, gets its field
+pub event-up : (n d : ℕ) (a : List ℕ) → (n ≡ 1 → ⊥) → allowed (sortOf (parted 9 a)) d ≡ true
+    → stepAt true n d a ≡ becomes false (opened (sortOf (parted 9 a)) d) (a ++ (9 ∷ decimal (field (sortOf (parted 9 a)) d)))
+unfolding stepAt upStep
+event-up n d a h u =
+    ap (λ (x : Bool). cond x (headStep true a) (cond (ends (sortOf (parted 9 a)) n d) (becomes true 0 a) (upStep d a))) (ne-eqb n 1 h)
+    ∙ ap (λ (x : Bool). cond x (becomes true 0 a) (upStep d a)) (goes-on (sortOf (parted 9 a)) n d (event-most (sortOf (parted 9 a)) d u))
+    ∙ ap (λ (x : Bool). cond x (becomes false (opened (sortOf (parted 9 a)) d) (a ++ (9 ∷ decimal (field (sortOf (parted 9 a)) d)))) stray) u
+
+-- a line that ends the listing stays as it is
+pub end-up : (n d : ℕ) (l : List ℕ) → (n ≡ 1 → ⊥) → ends (sortOf (parted 9 l)) n d ≡ true → stepAt true n d l ≡ becomes true 0 l
+unfolding stepAt
+end-up n d l h i =
+    ap (λ (x : Bool). cond x (headStep true l) (cond (ends (sortOf (parted 9 l)) n d) (becomes true 0 l) (upStep d l))) (ne-eqb n 1 h)
+    ∙ ap (λ (x : Bool). cond x (becomes true 0 l) (upStep d l)) i
+
 -- the same line, but for the item of an error, which is then 0
 pub data But : List ℕ → List ℕ → Type 0 where
   same : {l : List ℕ} → But l l
@@ -242,37 +256,31 @@ record Again (n d : ℕ) (l t : List ℕ) (b : Bool) (k : ℕ) : Type 0 where
 
 -- the line before its last field has this sort, and the field is right
 but-of : (d : ℕ) (a f : List ℕ) → right (sortOf (parted 9 a)) d f ≡ true → But (a ++ (9 ∷ f)) (a ++ (9 ∷ decimal (field (sortOf (parted 9 a)) d)))
+unfolding right
 but-of d a f r = go (eqb (sortOf (parted 9 a)) Sort.ERROR) refl
   where
     go : (t : Bool) → eqb (sortOf (parted 9 a)) Sort.ERROR ≡ t → But (a ++ (9 ∷ f)) (a ++ (9 ∷ decimal (field (sortOf (parted 9 a)) d)))
-    unfolding right
     go true i =
         let s : sortOf (parted 9 a) ≡ Sort.ERROR = eqb-true (sortOf (parted 9 a)) Sort.ERROR i in
         subst (λ (n : ℕ). But (a ++ (9 ∷ f)) (a ++ (9 ∷ decimal n))) (error-field (sortOf (parted 9 a)) d s) (item a f s)
     go false i =
         let w : equal f (decimal (field (sortOf (parted 9 a)) d)) ≡ true =
-              sym (ap (λ (t : Bool). cond t (plain f) (equal f (decimal (field (sortOf (parted 9 a)) d)))) i) ∙ r in
+        sym (ap (λ (t : Bool). cond t (plain f) (equal f (decimal (field (sortOf (parted 9 a)) d)))) i) ∙ r in
         subst (λ (g : List ℕ). But (a ++ (9 ∷ f)) (a ++ (9 ∷ g))) (equal-same f (decimal (field (sortOf (parted 9 a)) d)) w) same
 
 down-up : (n d : ℕ) (l t : List ℕ) (b : Bool) (k : ℕ) → stepAt false n d l ≡ becomes b k t → Again n d l t b k
-unfolding stepAt
+unfolding stepAt downStep
 down-up n d l t b k e = go (eqb n 1) refl e
   where
     event : (n ≡ 1 → ⊥) → (a f : List ℕ) → shed 9 l ≡ some (a, f) → (x y : Bool) → allowed (sortOf (parted 9 a)) d ≡ x → right (sortOf (parted 9 a)) d f ≡ y
         → cond (x && y) (becomes false (opened (sortOf (parted 9 a)) d) a) stray ≡ becomes b k t → Again n d l t b k
-    unfolding stepAt upStep
     event h a f i true true u v e =
         let w : t ≡ a = cc in
         let z : becomes false (opened (sortOf (parted 9 a)) d) (a ++ (9 ∷ decimal (field (sortOf (parted 9 a)) d)))
-              ≡ becomes b k (a ++ (9 ∷ decimal (field (sortOf (parted 9 a)) d))) = cc in
+        ≡ becomes b k (a ++ (9 ∷ decimal (field (sortOf (parted 9 a)) d))) = cc in
         record {
           line = a ++ (9 ∷ decimal (field (sortOf (parted 9 a)) d));
-          step =
-              ap (stepAt true n d) w
-              ∙ ap (λ (x : Bool). cond x (headStep true a) (cond (ends (sortOf (parted 9 a)) n d) (becomes true 0 a) (upStep d a))) (ne-eqb n 1 h)
-              ∙ ap (λ (x : Bool). cond x (becomes true 0 a) (upStep d a)) (goes-on (sortOf (parted 9 a)) n d (event-most (sortOf (parted 9 a)) d u))
-              ∙ ap (λ (x : Bool). cond x (becomes false (opened (sortOf (parted 9 a)) d) (a ++ (9 ∷ decimal (field (sortOf (parted 9 a)) d)))) stray) u
-              ∙ z;
+          step = ap (stepAt true n d) w ∙ event-up n d a h u ∙ z;
           but = subst (λ (m : List ℕ). But m (a ++ (9 ∷ decimal (field (sortOf (parted 9 a)) d)))) (sym (shed-sound 9 l a f i)) (but-of d a f v);
         }
     event h a f i true false u v e = absurd (let z : _≡_ {A = ℕ} 0 1 = cc in omega arith)
@@ -283,24 +291,18 @@ down-up n d l t b k e = go (eqb n 1) refl e
     tabs h (some (a, f)) i e = event h a f i (allowed (sortOf (parted 9 a)) d) (right (sortOf (parted 9 a)) d f) refl refl e
 
     rest : (n ≡ 1 → ⊥) → (x : Bool) → ends (sortOf (parted 9 l)) n d ≡ x → cond x (becomes true 0 l) (downStep d l) ≡ becomes b k t → Again n d l t b k
-    unfolding stepAt downStep
     rest h true i e =
         let w : t ≡ l = cc in
         let z : becomes true 0 l ≡ becomes b k l = cc in
         record {
           line = l;
-          step =
-              ap (stepAt true n d) w
-              ∙ ap (λ (x : Bool). cond x (headStep true l) (cond (ends (sortOf (parted 9 l)) n d) (becomes true 0 l) (upStep d l))) (ne-eqb n 1 h)
-              ∙ ap (λ (x : Bool). cond x (becomes true 0 l) (upStep d l)) i
-              ∙ z;
+          step = ap (stepAt true n d) w ∙ end-up n d l h i ∙ z;
           but = same;
         }
     rest h false i e = tabs h (shed 9 l) refl e
 
     go : (x : Bool) → eqb n 1 ≡ x → cond x (headStep false l) (cond (ends (sortOf (parted 9 l)) n d) (becomes true 0 l) (downStep d l)) ≡ becomes b k t
         → Again n d l t b k
-    unfolding stepAt
     go true i e =
         record {
           line = l;
@@ -379,7 +381,7 @@ flip-down (more {n = n} {d = d} {k = k} {l = l} {t = t} e g) =
     let r = flip-down g in
     record { all = a .line ∷ r .all; goes = more (a .step) (r .goes); buts = one-more (a .but) (r .buts) }
 
-remade : (up : Bool) (ls ts : List (List ℕ)) → Each (Free 10) ls → Goes up 1 0 ls ts → madeOf up (ended ls) ≡ lines ts
+pub remade : (up : Bool) (ls ts : List (List ℕ)) → Each (Free 10) ls → Goes up 1 0 ls ts → madeOf up (ended ls) ≡ lines ts
 unfolding madeOf
 remade up ls ts f g = ap (made up 1 0) (parted-ended ls f) ∙ makes g
 

@@ -65,11 +65,13 @@ module _ {up : Bool} {text : List ℕ} {room : ℕ} {t : Taken} {n d at : ℕ} (
         grown : two ≡ takenOf room (length (ended (g .passed ++ (outText o (part at to text) ∷ []))))
         grown =
             let long : length (ended (g .passed)) + o .keep + tail ≡ length (ended (g .passed ++ (outText o (part at to text) ∷ []))) =
-                  omega (arith,
-                  ended-length (g .passed) (outText o (part at to text)) [],
-                  out-length o (part at to text),
-                  length-take-le (o .keep) (part at to text) (subst (λ (r : Step). keptOf r ≤ length (part at to text)) i k),
-                  b) in
+            omega (
+              arith,
+              ended-length (g .passed) (outText o (part at to text)) [],
+              out-length o (part at to text),
+              length-take-le (o .keep) (part at to text) (subst (λ (r : Step). keptOf r ≤ length (part at to text)) i k),
+              b,
+            ) in
             c (length (ended (g .passed)) + o .keep) (a (length (ended (g .passed))) (g .held))
             ∙ ap (takenOf room) long
 
@@ -151,12 +153,14 @@ module _ {up : Bool} {text : List ℕ} {n d at : ℕ} {before after : List ℕ} 
         line-fits =
             let all = line-in in (
               subst (λ (r : Step). keptOf r ≤ length (part at to text)) i k,
-              omega (arith,
-              ended-length (g .passed) (outText o (part at to text)) (all .others),
-              ap (λ (ls : List (List ℕ)). length (ended ls)) (all .is),
-              w .within,
-              g .as-long,
-              g .put .count),
+              omega (
+                arith,
+                ended-length (g .passed) (outText o (part at to text)) (all .others),
+                ap (λ (ls : List (List ℕ)). length (ended ls)) (all .is),
+                w .within,
+                g .as-long,
+                g .put .count,
+              ),
             )
 
         module _ {last : List ℕ} {s : ℕ} (q : Put (outText o (part at to text) ++ (10 ∷ [])) end after last s) where

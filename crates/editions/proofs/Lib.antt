@@ -7,3 +7,4 @@ pub mod Scanning
 pub mod Judging
 pub mod Marks
 pub mod Back
+pub mod Could

@@ -122,15 +122,25 @@ pub shed-field : (m : ℕ) (a f : List ℕ) → shed m f ≡ none → shed m (a 
 shed-field m [] f e = ap (shedFrom m m f) e ∙ ap (λ (c : Bool). cond c (some ([], f)) none) (eq-eqb m m refl)
 shed-field m (b ∷ a) f e = ap (shedFrom m b (a ++ (m ∷ f))) (shed-field m a f e)
 
+-- what the two parts are
+unfoldable front-of : Option (List ℕ × List ℕ) → List ℕ
+front-of none = []
+front-of (some s) = s .0
+
+unfoldable field-of : Option (List ℕ × List ℕ) → List ℕ
+field-of none = []
+field-of (some s) = s .1
+
 pub shed-sound : (m : ℕ) (l a f : List ℕ) → shed m l ≡ some (a, f) → l ≡ a ++ (m ∷ f)
+unfolding front-of field-of
 shed-sound m [] a f e = absurd (let z : _≡_ {A = ℕ} 0 1 = cc in omega arith)
 shed-sound m (b ∷ bs) a f e = go (shed m bs) refl e (λ c g i. shed-sound m bs c g i)
   where
+    here : (t : Bool) → eqb b m ≡ t → cond {A = Option (List ℕ × List ℕ)} t (some ([], bs)) none ≡ some (a, f) → b ∷ bs ≡ a ++ (m ∷ f)
+    here true j e = ap (λ (c : ℕ). c ∷ bs) (eqb-true b m j) ∙ ap₂ (λ (s t : List ℕ). s ++ (m ∷ t)) (ap front-of e) (ap field-of e)
+    here false j e = absurd (let z : _≡_ {A = ℕ} 0 1 = cc in omega arith)
+
     go : (o : Option (List ℕ × List ℕ)) → shed m bs ≡ o → shedFrom m b bs o ≡ some (a, f)
         → ((c g : List ℕ) → shed m bs ≡ some (c, g) → bs ≡ c ++ (m ∷ g)) → b ∷ bs ≡ a ++ (m ∷ f)
     go none i e k = here (eqb b m) refl e
-      where
-        here : (t : Bool) → eqb b m ≡ t → cond t (some ([], bs)) none ≡ some (a, f) → b ∷ bs ≡ a ++ (m ∷ f)
-        here true j e = let x : b ≡ m = eqb-true b m j in let y : [] ≡ a = cc in let z : bs ≡ f = cc in cc
-        here false j e = absurd (let z : _≡_ {A = ℕ} 0 1 = cc in omega arith)
-    go (some (c, g)) i e k = let x : bs ≡ c ++ (m ∷ g) = k c g i in let y : b ∷ c ≡ a = cc in let z : g ≡ f = cc in ap (λ (t : List ℕ). b ∷ t) x ∙ ap₂ (λ (s t : List ℕ). s ++ (m ∷ t)) y z
+    go (some (c, g)) i e k = ap (λ (t : List ℕ). b ∷ t) (k c g i) ∙ ap₂ (λ (s t : List ℕ). s ++ (m ∷ t)) (ap front-of e) (ap field-of e)

@@ -3,3 +3,4 @@ pub mod Fields
 pub mod Sorts
 pub mod Editions
 pub mod Answer
+pub mod Program

@@ -136,7 +136,8 @@ fn lines() {
 }
 
 fn upwards() {
-    up(b"L\t1\n\
+    up(
+        b"L\t1\n\
           B\tSOURCE_FILE\t0\t22\n\
           X\t1\t7\t16\tMETA_KW,STRINGS_KW\n\
           X\t9\t3\t5\t-\t4\n\
@@ -147,7 +148,8 @@ fn upwards() {
           T\tBITWISE_OR\t4\t5\n\
           E\tRULE_DECL\t0\t22\n\
           E\tSOURCE_FILE\t0\t22\n\
-          R\t0\t8\t4294967295\n");
+          R\t0\t8\t4294967295\n",
+    );
     up(b"L\t1\nN\t7\n");
     up(b"L\t1\nF\t4\n");
     up(b"L\t1\nR\t0\t0\t0\n");
@@ -188,7 +190,8 @@ fn not_edition_1() {
 }
 
 fn downwards() {
-    down(b"L\t2\n\
+    down(
+        b"L\t2\n\
           B\tSOURCE_FILE\t0\t22\t0\n\
           X\t1\t7\t16\tMETA_KW,STRINGS_KW\t0\n\
           X\t9\t3\t5\t-\t4\t0\n\
@@ -199,7 +202,8 @@ fn downwards() {
           T\tBITWISE_OR\t4\t5\t2\n\
           E\tRULE_DECL\t0\t22\t1\n\
           E\tSOURCE_FILE\t0\t22\t0\n\
-          R\t0\t8\t4294967295\n");
+          R\t0\t8\t4294967295\n",
+    );
     down(b"L\t2\nN\t7\n");
     down(b"L\t2\nF\t4\n");
     down(b"L\t2\nX\t4\t0\t1\t-\t17\nR\t0\t0\t0\n");
