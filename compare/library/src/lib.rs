@@ -1,6 +1,6 @@
 //! Stableglow itself, through its C face.
 
-use common::{Cut, Merged, Question, Reply, Side, Told, LENT, LENT_BYTE, LENT_WORD};
+use common::{Cut, Limits, Merged, Question, Reply, Side, Told, LENT, LENT_BYTE, LENT_WORD, TODAY};
 
 extern "C" {
     fn stableglow_read(
@@ -12,6 +12,9 @@ extern "C" {
         starts_len: usize,
         ends: *const u32,
         ends_len: usize,
+        settings: *const u8,
+        settings_len: usize,
+        edition: u32,
         fuel: u32,
         scratch: *mut u64,
         scratch_len: usize,
@@ -60,8 +63,19 @@ pub struct Lent<'a> {
     pub errors: &'a mut [u32],
 }
 
+/// The settings text, the edition and the fuel of the call that give the question's limits and fuel: edition 1, or one that has its own fuel, so that
+/// the call's must not be looked at.
+fn edition(q: &Question) -> (String, u32, u32) {
+    let Limits { depth, quote, entrypoint } = q.limits;
+    if q.limits == TODAY {
+        return (String::new(), 1, q.fuel);
+    }
+    (format!("2\t0\t1\t0\n3\t{}\t{depth}\t{quote}\t{}\n", q.fuel, u32::from(entrypoint)), 3, !q.fuel)
+}
+
 /// Reads a question's rows into lent buffers, whatever rooms the question names.
 pub fn read_into(q: &Question, lent: Lent, answer: &mut [u32; 5]) -> u32 {
+    let (settings, edition, fuel) = edition(q);
     // SAFETY: every pointer comes with the length of the slice that it was taken from, the slices do
     // not overlap, and the answer has the five cells that the face writes.
     unsafe {
@@ -74,7 +88,10 @@ pub fn read_into(q: &Question, lent: Lent, answer: &mut [u32; 5]) -> u32 {
             q.starts.len(),
             q.ends.as_ptr(),
             q.ends.len(),
-            q.fuel,
+            settings.as_ptr(),
+            settings.len(),
+            edition,
+            fuel,
             lent.scratch.as_mut_ptr(),
             lent.scratch.len(),
             lent.events.as_mut_ptr(),
