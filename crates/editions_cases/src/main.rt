@@ -73,7 +73,15 @@ fn tell(reading: Reading, scratch: &[u64; 3], events: &[u32; 1024], errors: &[u3
     }
 }
 
-fn read(text: &[u8], edition: u32, fuel: u32, src: &[u8], ids: &[u32], starts: &[u32], ends: &[u32]) {
+fn read(
+    text: &[u8],
+    edition: u32,
+    fuel: u32,
+    src: &[u8],
+    ids: &[u32],
+    starts: &[u32],
+    ends: &[u32],
+) {
     let mut scratch = [5u64; 3];
     let mut events = [5u32; 1024];
     let mut errors = [5u32; 64];
@@ -133,8 +141,20 @@ fn ask_editions(s: &[u8]) {
     ask(b"edition 0:", s, 0, 5, rule);
     ask(b"edition 8:", s, 8, 5, rule);
     ask(b"edition 2, no settings:", b"", 2, 5, rule);
-    ask(b"edition 1, a gap:", b"2\t5\t9\t9\n4\t5\t9\t9\n", 1, 5, rule);
-    ask(b"edition 8, a fourth value of 2:", b"2\t5\t9\t9\t2\n", 8, 5, rule);
+    ask(
+        b"edition 1, a gap:",
+        b"2\t5\t9\t9\n4\t5\t9\t9\n",
+        1,
+        5,
+        rule,
+    );
+    ask(
+        b"edition 8, a fourth value of 2:",
+        b"2\t5\t9\t9\t2\n",
+        8,
+        5,
+        rule,
+    );
 }
 
 // Rows that do not tile are refused before an edition that is not there, and behind a line that does not read.
@@ -170,7 +190,8 @@ fn ask_entrypoint(s: &[u8]) {
 
 // Edition 2: one open node; 3 and 4: no text and 255 bytes are quoted; 5: no entrypoint; 6, a line of three values: entrypoint; 7: fuel 4.
 fn main() {
-    let s = b"2\t99\t1\t15\n3\t99\t1024\t0\n4\t99\t1024\t255\t1\n5\t99\t1024\t15\t0\n6\t99\t1024\t15\n7\t4\t1024\t15\n";
+    let s =
+        b"2\t99\t1\t15\n3\t99\t1024\t0\n4\t99\t1024\t255\t1\n5\t99\t1024\t15\t0\n6\t99\t1024\t15\n7\t4\t1024\t15\n";
     ask_editions(s);
     ask_untiled();
     ask_quoted(s);

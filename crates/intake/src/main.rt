@@ -395,7 +395,15 @@ fn answer(
     }
 }
 
-fn answer_within(t: Taken, text: &[u8], edition: u32, source: &[u8], ids: &[u32], starts: &[u32], ends: &[u32])
+fn answer_within(
+    t: Taken,
+    text: &[u8],
+    edition: u32,
+    source: &[u8],
+    ids: &[u32],
+    starts: &[u32],
+    ends: &[u32],
+)
     requires { ⌜ (65536 ≤ length (now source)) × (4096 ≤ length (now ids)) × (4096 ≤ length (now starts)) × (4096 ≤ length (now ends)) ⌝ }
 {
     let size = t.size;

@@ -23,7 +23,7 @@ LONG = f"length-event {BEGIN}"
 ANS = {
     "slice-write-events-2": "simp length-set (omega (arith, {pre} .3))",
     "slice-write-events-3": "simp length-set (omega (arith, {pre} .3))",
-    "items-requires": (f"let w = opens {OPENED} ({{pre}} .2) in ({{pre}} .0, w .0, w .1, (laid _ ({{literal}} .ensures) .0, refl))", "idOf words"),
+    "items-requires": (f"let w = opens {OPENED} ({{pre}} .2) in ({{pre}} .0, w .0, w .1, (laid ({{args}} .limits .entrypoint) ({{literal}} .ensures) .0, refl))", "idOf words"),
     "same-length-2": f"same-len-mid EVENT (length (stored {BEGIN}) - EVENT) (stored {BEGIN}) ({{put}} .last .1 .1 .1 .1 .1 .0) ({{put}} .kept .1 .1 .1 .1 .1 .0 ∙ {{items}} .kept .1 .1 .1 .1 .1 .0) ∙ {LONG}",
-    "returns": f"frames {OPENED} ({{pre}} .1) (omega (arith, {{pre}} .3, {LONG})) _ ({LONG}) (take-event {BEGIN} ({{pre}} .3)) (ap (λ (e : Bool). ({{args}} .limits .depth, e)) (sym (laid _ ({{literal}} .ensures) .1))) ({{items}} .ensures) ({{put}} .ensures ({{items}} .last .1 .1 .1 .1 .1 .1 .1 .1 .0))",
+    "returns": f"frames {OPENED} ({{pre}} .1) (omega (arith, {{pre}} .3, {LONG})) _ ({LONG}) (take-event {BEGIN} ({{pre}} .3)) (ap (λ (e : Bool). ({{args}} .limits .depth, e)) (sym (laid ({{args}} .limits .entrypoint) ({{literal}} .ensures) .1))) ({{items}} .ensures) ({{put}} .ensures ({{items}} .last .1 .1 .1 .1 .1 .1 .1 .1 .0))",
 }

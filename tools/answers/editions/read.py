@@ -24,10 +24,10 @@ def told(place):
     return f"ap (λ (r : Reply). under r {DESK}) {chosen(place)}"
 
 
-VALUES = "({values} .given .0)"
+VALUES = "({values} .given .0 .0)"
 ANS = {
     "returns": told("line"),
-    "returns-2": f"ap {AFTER} ({{unknown}} .ensures ({{args}} .fuel) ({{args}} .scratch .now) ({{args}} .events .now) ({{args}} .errors .now) refl) ∙ " + told("enum-unknown"),
+    "returns-2": f"ap {AFTER} ({{unknown}} .ensures ({{args}} .fuel) ({{args}} .scratch .now) ({{args}} .events .now) ({{args}} .errors .now) refl) ∙ " + told("enum-told"),
     "limits-requires": f"chosen-fits ({{args}} .text .now) ({{args}} .edition) ({{args}} .fuel) {VALUES} (omega (arith, {{fits}} .fuel)) (sym {chosen('values')})",
     "returns-3": f"ap {AFTER} ({{read}} .ensures ∙ ap (λ (L : Limits). after L (fuelled ({VALUES} .fuel) {DESK})) ({{limits}} .ensures)) ∙ " + told("values"),
 }

@@ -14,6 +14,6 @@ def told(place):
 
 
 ANS = {
-    "returns": f"line-told ({{line}} .given .0) {LEFT} ∙ " + told("line"),
-    "returns-2": f"{{tell}} .ensures {LEFT} ∙ " + told("reading"),
+    "returns": f"line-told ({{named}} .given .0 .0) {LEFT} ∙ " + told("named"),
+    "returns-2": f"{{tell}} .ensures {LEFT} ∙ " + told("named2"),
 }

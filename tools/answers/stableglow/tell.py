@@ -11,4 +11,4 @@ def told(place):
     return f"λ ev er sc. ap (λ (m : Reading). readFace (record {{ line = 0; after = afterOf m ev er sc }})) (sym ({{{place}}} .given .1))"
 
 
-ANS = {"returns": told("number"), "returns-2": told("outcome")}
+ANS = {"returns": told("reading"), "returns-2": told("reading2")}
