@@ -1,7 +1,7 @@
 // Reads the rows of one file from standard input, and writes what the reader and the merger make of them (document 01, "Small files"), by edition 1 or by
 // the edition that the arguments name: --settings FILE --edition N.
 use desk::read::Reading;
-use editions::Named;
+use reading::Named;
 use libc::STDERR_FILENO;
 use libc::STDIN_FILENO;
 use libc::STDOUT_FILENO;
@@ -377,7 +377,7 @@ fn answer(
     let mut scratch = [0u64; 129];
     let mut events = [0u32; 16384];
     let mut errors = [0u32; 16384];
-    let named = editions::read(
+    let named = reading::read(
         text,
         edition,
         source,

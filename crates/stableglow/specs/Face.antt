@@ -3,7 +3,7 @@ use Prim.Native.Nat.{ℕ, zero, suc, _%_, _^_}
 use mathlib.Core.Path.{_≡_}
 use mathlib.Core.List.{List, [], _∷_}
 use Rattle.definition.specs.Answer.{After}
-use Rattle.editions.specs.Reading.{Outcome}
+use Rattle.reading.specs.Reading.{Outcome}
 use Rattle.definition.specs.Merge.{Returned}
 use Rattle.outline.specs.Rules as o
 use Rattle.outline.specs.Returning.{returning}

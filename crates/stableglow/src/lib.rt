@@ -1,7 +1,7 @@
 // The public face: what C and Rust link.
 use cutter::Cut;
 use desk::read::Reading;
-use editions::Named;
+use reading::Named;
 use merger::Merged;
 use messages::Written;
 use outline::Listed;
@@ -10,7 +10,7 @@ ghost use mathlib.Core.Path.{_≡_};
 ghost use Prim.Native.Nat.{ℕ};
 ghost use mathlib.Core.List.{List};
 ghost use Rattle.desk.specs.Framing.{afterOf};
-ghost use Rattle.editions.specs.Reading.{reading};
+ghost use Rattle.reading.specs.Reading.{reading};
 ghost use Rattle.definition.specs.Merge.{merging};
 ghost use Rattle.outline.specs.Rules.{ruling};
 ghost use Rattle.outline.specs.Outline.{outlining};
@@ -93,7 +93,7 @@ pub extern "C" fn stableglow_read(
         (desk (now (source .entry)) (now (ids .entry)) (now (starts .entry)) (now (ends .entry)) fuel (now (scratch .entry))
         (now (events .entry)) (now (errors .entry)))) ⌝ }
 {
-    let named = editions::read(
+    let named = reading::read(
         settings,
         edition,
         source,

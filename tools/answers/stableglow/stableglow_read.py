@@ -1,8 +1,8 @@
 WHERE = "stableglow_read"
 USES = """-- The C face of the reader by editions: the line of 19, or the reading's numbers.
 use mathlib.Core.Path.{sym, ap, _∙_}
-use Rattle.editions.specs.declared.Named.{Named}
-use Rattle.editions.specs.Reading.{outcomeOf}
+use Rattle.reading.specs.declared.Named.{Named}
+use Rattle.reading.specs.Reading.{outcomeOf}
 use Rattle.stableglow.specs.Face.{readFace, readFaced}
 use Rattle.stableglow.proofs.Lines.{line-told}
 """

@@ -11,7 +11,7 @@ ghost use Prim.Native.Nat.{ℕ, _≤_};
 ghost use lib.ListN.{length};
 ghost use Rattle.refusals.specs.Judge.{desk};
 ghost use Rattle.desk.specs.Framing.{limitsOf, afterOf};
-ghost use Rattle.editions.specs.Reading.{limitsIn, unknown-to, reading, outcomeOf};
+ghost use Rattle.reading.specs.Reading.{limitsIn, unknown-to, reading, outcomeOf};
 
 pub enum Named {
     // Refusal 19, with the number of the settings line, from 1; nothing was judged.

@@ -5,7 +5,7 @@ use mathlib.Core.List.{List, [], _∷_, _++_}
 use mathlib.Core.Bool.{Bool, true, false}
 use Rattle.shapes.specs.Refusal as Refusal
 use Rattle.definition.specs.Answer.{Desk, grounds, first-of, refusal}
-use Rattle.editions.specs.Reading.{lent, unknown-to}
+use Rattle.reading.specs.Reading.{lent, unknown-to}
 
 -- no ground has number 0
 abbrev Positive : List (Bool × ℕ) → Type 0

@@ -1,7 +1,7 @@
 // Runs readings by settings editions over rule text; `stdout` has what document 02 and docs/DECISIONS.md ask for.
 use cutter::Cut;
 use desk::read::Reading;
-use editions::Named;
+use reading::Named;
 use libc::STDOUT_FILENO;
 use shapes::record::next_record;
 
@@ -85,7 +85,7 @@ fn read(
     let mut scratch = [5u64; 3];
     let mut events = [5u32; 1024];
     let mut errors = [5u32; 64];
-    let named = editions::read(
+    let named = reading::read(
         text,
         edition,
         src,

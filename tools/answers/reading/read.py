@@ -9,7 +9,7 @@ use Rattle.settings.specs.Settings.{Reply}
 use Rattle.settings.specs.Answer.{replyOf}
 use Rattle.settings.specs.declared.lines.Chosen.{Chosen}
 use Rattle.settings.proofs.History.{chosen-fits}
-use Rattle.editions.specs.Reading.{Outcome, under, fuelled}
+use Rattle.reading.specs.Reading.{Outcome, under, fuelled}
 """
 DESK = "(desk ({args} .src .now) ({args} .ids .now) ({args} .starts .now) ({args} .ends .now) ({args} .fuel) ({args} .scratch .now) ({args} .events .now) ({args} .errors .now))"
 AFTER = "(λ (a : After). record { line = 0; after = a })"

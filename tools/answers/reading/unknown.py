@@ -1,7 +1,7 @@
 WHERE = "unknown"
 USES = """-- 18 behind the refusals before it.
 use Rattle.refusals.specs.Judge.{desk}
-use Rattle.editions.proofs.Naming.{refused-before, refused-last}
+use Rattle.reading.proofs.Naming.{refused-before, refused-last}
 """
 LAW = "({judged} .ensures fuel sc ev er h)"
 DESK = "(desk ({args} .src .now) ({args} .ids .now) ({args} .starts .now) ({args} .ends .now) fuel sc ev er)"

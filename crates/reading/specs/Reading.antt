@@ -10,8 +10,8 @@ use Rattle.definition.specs.Answer.{Desk, grounds, first-of, After, refusing, a
 use Rattle.desk.specs.Framing.{afterOf}
 use Rattle.settings.specs.Settings.{Reply, choice}
 use Rattle.settings.specs.declared.lines.Values.{Values}
-use Rattle.editions.specs.declared.Named.{Named}
-use Rattle.editions.specs.declared.Named.the-variants.{BadLine, Read}
+use Rattle.reading.specs.declared.Named.{Named}
+use Rattle.reading.specs.declared.Named.the-variants.{BadLine, Read}
 
 -- an edition's limits: "the depth limit", "the length above which found text is left out", and "1 for allowed"
 abbrev pub limitsIn : Values → Limits
