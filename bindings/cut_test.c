@@ -44,7 +44,7 @@ int main(void) {
     uint32_t events[80] = {0}, errors[16] = {0}, answer[5] = {0};
     uint64_t scratch[1] = {0};
     expect("a rule", cut(rule, 22, ROOM, ROOM, ROOM) == 0 && rows(8, rule_ids, rule_ends));
-    expect("its rows read", stableglow_read((const uint8_t *)rule, 22, ids, count, starts, count, ends, count, 5, scratch, 1, events,
+    expect("its rows read", stableglow_read((const uint8_t *)rule, 22, ids, count, starts, count, ends, count, NULL, 0, 1, 5, scratch, 1, events,
                                             80, errors, 16, answer) == 0 && answer[0] == 0 && answer[1] == 8 && answer[3] == 0);
     expect("room exact", cut(rule, 22, 8, 8, 8) == 0 && rows(8, rule_ids, rule_ends));
     expect("no room for ids", cut(rule, 22, 7, ROOM, ROOM) == 13 && as_lent());

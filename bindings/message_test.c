@@ -35,7 +35,7 @@ int main(void) {
     uint32_t ids[ROWS], starts[ROWS], ends[ROWS], count, events[EVENT_ROOM], errors[ERROR_ROOM], answer[5];
     uint64_t scratch[1];
     expect("cut", stableglow_cut((const uint8_t *)source, 23, ids, ROWS, starts, ROWS, ends, ROWS, &count) == 0);
-    expect("read", stableglow_read((const uint8_t *)source, 23, ids, count, starts, count, ends, count, 5, scratch, 1, events, EVENT_ROOM,
+    expect("read", stableglow_read((const uint8_t *)source, 23, ids, count, starts, count, ends, count, NULL, 0, 1, 5, scratch, 1, events, EVENT_ROOM,
                                    errors, ERROR_ROOM, answer) == 0 && answer[3] == 2);
     told("junk", source, errors, ERROR_ROOM, ROOM, 0, "expecting import statement or rule definition");
     told("end of file", source, errors + 4, ERROR_ROOM - 4, ROOM, 0, "expecting operator or `}`, found end of file");

@@ -56,7 +56,7 @@ int main(void) {
     const uint8_t *source = (const uint8_t *)SOURCE;
     size_t length = strlen(SOURCE), n, m;
     expect("rows", stableglow_cut(source, length, ids, ROWS, starts, ROWS, ends, ROWS, &rows) == 0);
-    expect("read", stableglow_read(source, length, ids, rows, starts, rows, ends, rows, 100, scratch, 4, events, EVENTS, errors, ROWS,
+    expect("read", stableglow_read(source, length, ids, rows, starts, rows, ends, rows, NULL, 0, 1, 100, scratch, 4, events, EVENTS, errors, ROWS,
                                    answer) == 0 && answer[0] == 0 && answer[3] == 1);
     n = STABLEGLOW_EVENT * answer[2];
     expect("merged", stableglow_merge(events, n, merged, EVENTS, &merged_count) == 0);

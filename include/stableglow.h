@@ -22,21 +22,26 @@ extern "C" {
 uint32_t stableglow_cut(const uint8_t *source, size_t source_len, uint32_t *ids, size_t ids_len, uint32_t *starts,
                         size_t starts_len, uint32_t *ends, size_t ends_len, uint32_t *count);
 
-/* Reads rows of tokens (ids, starts and ends, as long as each other) over their source into events and error records.
+/* Reads rows of tokens (ids, starts and ends, as long as each other) over their source into events and error records, by an edition of the
+   settings text: one line an edition, from 2 on without gaps, its number, fuel, depth (1 to 1,024), quote length (0 to 255) and 1 or 0 for
+   whether entrypoint is a term, tabs between and a line feed behind; where the last is missing it is 1. Edition 1 has no line, so that the
+   text may be empty: the fuel argument, 1,024, 15 and 1. A later edition has its own fuel, and the argument is not looked at.
    Returns 0 and writes outcome (0 done, 1 out of fuel, 2 too deep), rows covered, count of events, count of error records
    and fuel left to answer[0..4], the events (STABLEGLOW_EVENT numbers each) and the error records from the first cell of their lists on,
    and zeros past them and into scratch. An error record is start, end, form, count of names, then the names; form 9 (text that is
    not UTF-8) has the count 0 and then one number more, the place in the source of the first byte that cannot begin or continue a
    character, or of the first byte of a character that is cut short.
    Or returns a refusal's number and five zeros in answer: 1 too long, 2 lists that differ in length, 3 an unknown id, 4 rows
-   that do not tile the source, 6 too little scratch, (2 x (rows + 1) + 63) / 64 words are enough: each leaves the lists as
-   they were lent (5 is not used). 7 and 8: the events or the records exceeded their room: the lists are all zero.
+   that do not tile the source, 6 too little scratch, (2 x (rows + 1) + 63) / 64 words are enough, 18 an edition that is not there:
+   each leaves the lists as they were lent (5 is not used). 19, before all of these: a settings line that does not read, has a value
+   outside its range or a number out of turn; answer[0] then holds the number of the first such line, from 1, and the lists are as lent. 7 and 8: the events or the records exceeded their room: the lists are all zero.
    An empty list of errors means that every item was accepted only where the outcome is 0.
    The lists must not overlap. */
 uint32_t stableglow_read(const uint8_t *source, size_t source_len, const uint32_t *ids, size_t ids_len,
-                         const uint32_t *starts, size_t starts_len, const uint32_t *ends, size_t ends_len, uint32_t fuel,
-                         uint64_t *scratch, size_t scratch_len, uint32_t *events, size_t events_len, uint32_t *errors,
-                         size_t errors_len, uint32_t answer[5]);
+                         const uint32_t *starts, size_t starts_len, const uint32_t *ends, size_t ends_len,
+                         const uint8_t *settings, size_t settings_len, uint32_t edition, uint32_t fuel, uint64_t *scratch,
+                         size_t scratch_len, uint32_t *events, size_t events_len, uint32_t *errors, size_t errors_len,
+                         uint32_t answer[5]);
 
 /* Joins neighbouring ERROR nodes of an event list into the room. Every event that is left keeps its depth.
    Returns 0 and writes the count of events to *count, the finished list to the room and zeros past it;

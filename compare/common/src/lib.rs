@@ -25,6 +25,18 @@ pub const TOKEN: u32 = 2;
 pub const END: u32 = 3;
 pub const ERROR: u32 = 4;
 
+/// What a settings edition gives besides fuel: nodes that may be open besides SOURCE_FILE, bytes of found text that are still shown, and
+/// whether entrypoint is a term.
+#[derive(Clone, Copy, Debug, PartialEq, Eq, Hash)]
+pub struct Limits {
+    pub depth: usize,
+    pub quote: usize,
+    pub entrypoint: bool,
+}
+
+/// Edition 1's.
+pub const TODAY: Limits = Limits { depth: 1_024, quote: 15, entrypoint: true };
+
 /// One call of the reader. The lists may differ in length or fail to tile: that is for the refusals to say.
 #[derive(Clone, Debug, PartialEq, Eq, Hash)]
 pub struct Question {
@@ -33,6 +45,7 @@ pub struct Question {
     pub starts: Vec<u32>,
     pub ends: Vec<u32>,
     pub fuel: u32,
+    pub limits: Limits,
     /// Words of scratch, then numbers of room for events and for error records.
     pub scratch: usize,
     pub event_room: usize,
@@ -55,7 +68,7 @@ impl Question {
         let scratch = scratch_words(ids.len());
         let event_room = EVENT * (64 * (ids.len() + 1)).max(16_384);
         let error_room = (32 * (ids.len() + 1)).max(4_096);
-        Self { source, ids, starts, ends, fuel, scratch, event_room, error_room }
+        Self { source, ids, starts, ends, fuel, limits: TODAY, scratch, event_room, error_room }
     }
 
     /// The rows with their texts, if the lists are equally long and lie in the source.

@@ -1,11 +1,22 @@
 //! Stableglow itself, through the raw layer of its Rust crate: every room is lent as the question names it.
 
-use common::{Cut, Merged, Question, Reply, Side, Told, LENT, LENT_BYTE, LENT_WORD};
+use common::{Cut, Limits, Merged, Question, Reply, Side, Told, LENT, LENT_BYTE, LENT_WORD, TODAY};
 pub use stableglow::raw::{cut as cut_into, merge as merge_into, Lent};
+
+/// The settings text, the edition and the fuel of the call that give the question's limits and fuel: edition 1, or one that has its own fuel, so that
+/// the call's must not be looked at.
+fn edition(q: &Question) -> (String, u32, u32) {
+    let Limits { depth, quote, entrypoint } = q.limits;
+    if q.limits == TODAY {
+        return (String::new(), 1, q.fuel);
+    }
+    (format!("2\t0\t1\t0\n3\t{}\t{depth}\t{quote}\t{}\n", q.fuel, u32::from(entrypoint)), 3, !q.fuel)
+}
 
 /// Reads a question's rows into lent buffers, whatever rooms the question names.
 pub fn read_into(q: &Question, lent: Lent, answer: &mut [u32; 5]) -> u32 {
-    stableglow::raw::read(&q.source, [&q.ids, &q.starts, &q.ends], q.fuel, lent, answer)
+    let (settings, edition, fuel) = edition(q);
+    stableglow::raw::read(&q.source, [&q.ids, &q.starts, &q.ends], settings.as_bytes(), edition, fuel, lent, answer)
 }
 
 /// Cuts a source into lists with room for so many rows each.

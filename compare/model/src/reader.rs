@@ -6,10 +6,6 @@ use common::kinds::{id, is_trivia, kind, ID_OF_KIND};
 use common::{Question, Record, BEGIN, END, ERROR, EVENT, TOKEN};
 use std::collections::{BTreeMap, BTreeSet, HashSet};
 
-/// Nodes that may be open besides SOURCE_FILE, and bytes of found text that are still shown.
-const DEPTH: usize = 1_024;
-const QUOTE: usize = 15;
-
 #[derive(Clone, Copy, PartialEq, Eq)]
 enum State {
     Ok,
@@ -151,7 +147,7 @@ impl<'a> Reader<'a> {
             self.set(State::OutOfFuel);
         } else {
             self.fuel -= 1;
-            if self.open == DEPTH {
+            if self.open == self.question.limits.depth {
                 self.set(State::TooDeep);
             }
         }
@@ -346,7 +342,7 @@ impl<'a> Reader<'a> {
         } else if text.is_empty() {
             (3, names)
         } else {
-            (if text.len() > QUOTE { 2 } else { 1 }, names)
+            (if text.len() > self.question.limits.quote { 2 } else { 1 }, names)
         }
     }
 
@@ -369,7 +365,8 @@ impl<'a> Reader<'a> {
 
     fn kind_in(&self, set: Set, row: usize) -> Option<u32> {
         let id = *self.question.ids.get(row)?;
-        set.iter().copied().find(|k| ID_OF_KIND[*k as usize] == id)
+        let allowed = |k: u32| self.question.limits.entrypoint || k != kind::ENTRYPOINT_KW;
+        set.iter().copied().find(|k| ID_OF_KIND[*k as usize] == id && allowed(*k))
     }
 
     fn trivia(&mut self) {

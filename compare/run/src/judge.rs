@@ -1,14 +1,17 @@
 //! Puts one question to every side and compares.
 
 use crate::messages;
+use common::kinds::id;
 use common::listing::listing;
-use common::{events_of, reading_of, strip_empty_errors, Question, Reading, Reply, Side, EVENT};
+use common::{events_of, reading_of, strip_empty_errors, Limits, Question, Reading, Reply, Side, EVENT, TODAY};
 use model::{utf8, Model};
 use std::panic::{catch_unwind, AssertUnwindSafe};
 
 /// What is worth counting about a case on which all sides agree.
 pub struct Seen {
     pub refusal: u32,
+    /// Whether the Rust was asked.
+    pub with_rust: bool,
     pub outcome: u32,
     pub forms: Vec<u32>,
     /// Whether a row has a text that only one side takes for UTF-8, or another bad byte.
@@ -27,13 +30,17 @@ pub fn judge(question: &Question, library: Option<&dyn Side>) -> Result<Seen, St
         Ok(reading) => reading,
     };
     let stripped = stripped(&ours);
-    same_as_rust(question, &stripped, library)?;
-    let accepted = model::peg::accepts(&question.ids);
+    let with_rust = rust_has(question);
+    if with_rust {
+        same_as_rust(question, &stripped, library)?;
+    }
+    let accepted = model::peg::accepts(&question.ids, question.limits.entrypoint);
     if ours.outcome == 0 && accepted != ours.records.is_empty() {
         return Err(format!("the PEG accepts: {accepted}; error records: {}", ours.records.len()));
     }
     Ok(Seen {
         refusal: 0,
+        with_rust,
         outcome: ours.outcome,
         forms: ours.records.iter().map(|r| r.form).collect(),
         outside_utf8: !same_utf8(question),
@@ -43,7 +50,14 @@ pub fn judge(question: &Question, library: Option<&dyn Side>) -> Result<Seen, St
 }
 
 fn refused(refusal: u32) -> Seen {
-    Seen { refusal, outcome: 0, forms: vec![], outside_utf8: false, accepted: false, has_empty_errors: false }
+    Seen { refusal, with_rust: false, outcome: 0, forms: vec![], outside_utf8: false, accepted: false, has_empty_errors: false }
+}
+
+/// The Rust shows found text of 15 bytes and no more, and has entrypoint: other editions are the model's alone, those without entrypoint on
+/// sources that have such a row.
+fn rust_has(question: &Question) -> bool {
+    let Limits { quote, entrypoint, .. } = question.limits;
+    quote == TODAY.quote && (entrypoint || !question.ids.contains(&id::ENTRYPOINT_KW))
 }
 
 /// The Rust is never too deep. But too deep acts as out of fuel does, so with one begin step less than

@@ -120,14 +120,14 @@ module _ (L : Limits) (d : Desk) {o c e k f : ℕ} {ev er sc : List ℕ} (p : Pr
   read-orderly = subst (λ (l : List ℕ). Orderly (marks (entries l))) (sym read-list) (read-in-order L d (read-given .0) (read-given .1))
 
   -- DEMAND 2: "If the reader was not stopped, the error list is empty exactly when the PEG accepts every item."
-  pub read-accepts : o ≡ 0 → (k ≡ 0) ↔ Accepts (d .ids)
+  pub read-accepts : o ≡ 0 → (k ≡ 0) ↔ Accepts (L .entrypoint) (d .ids)
   read-accepts z =
       let i = theorems.demand-2 L d zero-number (sym (ap (λ (a : After). a .outcome) p) ∙ z) in
       let q : k ≡ (after L d) .error-count = ap (λ (a : After). a .error-count) p in
       ((λ h. i .0 (sym q ∙ h)), λ h. q ∙ i .1 h)
 
   -- and as one parsing expression of Ford's
-  pub read-accepts-ford : o ≡ 0 → (k ≡ 0) ↔ ((n : ℕ) × Ford rules (star any-item) (strip (d .ids)) n (Res.yes []))
+  pub read-accepts-ford : o ≡ 0 → (k ≡ 0) ↔ ((n : ℕ) × Ford (rules (L .entrypoint)) (star any-item) (strip (d .ids)) n (Res.yes []))
   read-accepts-ford z =
       let i = theorems.demand-2-ford L d zero-number (sym (ap (λ (a : After). a .outcome) p) ∙ z) in
       let q : k ≡ (after L d) .error-count = ap (λ (a : After). a .error-count) p in

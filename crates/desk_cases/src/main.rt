@@ -598,14 +598,18 @@ fn text(name: &[u8], src: &[u8], end: u32) {
 }
 
 // The same by other limits than document 01's.
-fn limited(name: &[u8], src: &[u8], end: u32, depth: u16, quote: usize) {
+fn limited(name: &[u8], src: &[u8], end: u32, depth: u16, quote: u8) {
     let ids = [37, 0, 80];
     let starts = [0, 4, 5];
     let ends = [4, 5, end];
     let mut scratch = [5u64; 1];
     let mut events = [5u32; 160];
     let mut errors = [5u32; 32];
-    let limits = Limits { depth, quote };
+    let limits = Limits {
+        depth,
+        quote,
+        entrypoint: true,
+    };
     let r = read(
         src,
         &ids,
