@@ -199,7 +199,7 @@ fn a_file_that_may_not_be_read() {
     let program = folder.0.join("stableglow");
     fs::copy(env!("CARGO_BIN_EXE_stableglow"), &program).unwrap();
     for shut in ["shut.yar", "shut"] {
-        fs::set_permissions(folder.0.join(shut), fs::Permissions::from_mode(0)).unwrap();
+        fs::set_permissions(folder.0.join(shut), fs::Permissions::from_mode(0o000)).unwrap();
     }
     let mut command = at(&program);
     command.args(["check", "."]).current_dir(&folder.0);
