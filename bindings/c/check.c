@@ -6,7 +6,7 @@
 #include "../../include/stableglow.h"
 
 /* What stands where in the lists that the reader writes. */
-enum { EVENT = 4, RECORD_FORM = 2, RECORD_COUNT = 3, RECORD_HEAD = 4, PLACED = 9, RULE = 8, FUEL = 1000000, MOST = 1048577 };
+enum { EVENT = 5, RECORD_FORM = 2, RECORD_COUNT = 4, RECORD_HEAD = 5, PLACED = 9, RULE = 8, FUEL = 1000000, MOST = 1048577 };
 
 static void *room(size_t count, size_t size) {
     void *cells = calloc(count + 1, size);
@@ -63,7 +63,7 @@ static int check(const char *path, const uint8_t *source, size_t length) {
     size_t words = (2 * ((size_t)rows + 1) + 63) / 64, event_room = EVENT * (3 * (size_t)rows + 64), error_room = rows + 256;
     uint64_t *scratch = room(words, sizeof *scratch);
     uint32_t *events = room(event_room, sizeof *events), *errors = room(error_room, sizeof *errors);
-    while ((refusal = stableglow_read(source, length, ids, rows, starts, rows, ends, rows, FUEL, scratch, words, events, event_room, errors,
+    while ((refusal = stableglow_read(source, length, ids, rows, starts, rows, ends, rows, NULL, 0, 1, FUEL, scratch, words, events, event_room, errors,
                                       error_room, answer)) != 0) {
         if (refusal == 7) {
             free(events);

@@ -8,14 +8,14 @@ import sys
 from collections import namedtuple
 
 # What stands where in the lists: numbers of an event, of an error record before its names, of a listed rule, of a node.
-EVENT, HEAD, RULE, NODE = 4, 4, 8, 4
-START, END, FORM, COUNT = 0, 1, 2, 3
+EVENT, HEAD, RULE, NODE = 5, 5, 8, 4
+START, END, FORM, ITEM, COUNT = 0, 1, 2, 3, 4
 PLACED = 9  # the form whose records have a place behind their names
 MOST_BYTES = 1_048_576
 
 Rows = namedtuple("Rows", "ids starts ends")
 Reading = namedtuple("Reading", "outcome rows fuel events errors")
-ErrorRecord = namedtuple("ErrorRecord", "form start end names place numbers")
+ErrorRecord = namedtuple("ErrorRecord", "form start end item names place numbers")
 Rule = namedtuple("Rule", "name_start name_end start end meta patterns tags damaged")
 Node = namedtuple("Node", "kind start end depth")
 
@@ -69,13 +69,14 @@ class Stableglow:
             raise Refusal(number)
         return Rows(*(_numbers(one[: count.value]) for one in lists))
 
-    def read(self, source, rows, fuel=1_000_000):
+    def read(self, source, rows, fuel=1_000_000, settings=b"", edition=1):
+        """By an edition of the settings text; edition 1 has the fuel given here, a later one its own."""
         scratch = (ctypes.c_uint64 * ((2 * (len(rows.ids) + 1) + 63) // 64))()
         event_room, error_room = EVENT * (3 * len(rows.ids) + 64), len(rows.ids) + 256
         while True:
             events, errors = (ctypes.c_uint32 * event_room)(), (ctypes.c_uint32 * error_room)()
             answer = (ctypes.c_uint32 * 5)()
-            lent = (ctypes.c_uint32(fuel), scratch, events, errors, ctypes.byref(answer))
+            lent = (settings, ctypes.c_uint32(edition), ctypes.c_uint32(fuel), scratch, events, errors, ctypes.byref(answer))
             number = self._call("read", source, *rows, *lent)
             if number == 0:
                 outcome, covered, count, records, left = answer
@@ -113,7 +114,7 @@ def _records(numbers, count):
         names = numbers[at + HEAD : at + HEAD + head[COUNT]]
         end = at + HEAD + head[COUNT] + (head[FORM] == PLACED)
         place = numbers[end - 1] if head[FORM] == PLACED else None
-        records.append(ErrorRecord(head[FORM], head[START], head[END], names, place, _numbers(numbers[at:end])))
+        records.append(ErrorRecord(head[FORM], head[START], head[END], head[ITEM], names, place, _numbers(numbers[at:end])))
         at = end
     return records
 

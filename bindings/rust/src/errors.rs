@@ -16,8 +16,8 @@ pub struct ErrorRecord {
     pub names: Vec<Name>,
     /// Of text that is not UTF-8: where the byte is that cannot begin or continue a character.
     pub place: Option<u32>,
-    /// The number of its item, from 1; `None` while the library's records do not have it.
-    pub item: Option<u32>,
+    /// The number of its item in the file, from 1: a rule, an import or include line, or rows that begin none.
+    pub item: u32,
 }
 
 /// The ten forms of an error, by their numbers.
@@ -80,9 +80,7 @@ impl ErrorRecord {
         numbers[record::END] = self.end;
         numbers[record::FORM] = self.form.number();
         numbers[record::COUNT] = self.names.len() as u32;
-        if let Some(at) = record::ITEM {
-            numbers[at] = self.item.unwrap_or(0);
-        }
+        numbers[record::ITEM] = self.item;
         numbers.extend(self.names.iter().map(|name| name.0));
         numbers.extend(self.place);
         numbers
@@ -97,7 +95,7 @@ impl ErrorRecord {
             end: head[record::END],
             names: names.iter().copied().map(Name).collect(),
             place: place.first().copied(),
-            item: record::ITEM.map(|at| head[at]),
+            item: head[record::ITEM],
         }
     }
 

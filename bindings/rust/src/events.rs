@@ -16,8 +16,7 @@ pub struct Event {
     pub start: u32,
     /// Where it ends.
     pub end: u32,
-    /// How many nodes are open around it: 0 for both events of `SOURCE_FILE`. It is counted from the list's start
-    /// while events do not store it.
+    /// How many nodes are open around it: 0 for both events of `SOURCE_FILE`.
     pub depth: u32,
 }
 
@@ -58,13 +57,11 @@ impl Events {
 
     /// The events in their order.
     pub fn iter(&self) -> impl Iterator<Item = Event> + '_ {
-        let mut open = 0;
-        self.0.chunks_exact(event::SIZE).map(move |numbers| {
-            let kind = kind(numbers);
-            open -= u32::from(matches!(kind, EventKind::End(_)));
-            let depth = event::DEPTH.map_or(open, |at| numbers[at]);
-            open += u32::from(matches!(kind, EventKind::Begin(_)));
-            Event { kind, start: numbers[event::START], end: numbers[event::END], depth }
+        self.0.chunks_exact(event::SIZE).map(|numbers| Event {
+            kind: kind(numbers),
+            start: numbers[event::START],
+            end: numbers[event::END],
+            depth: numbers[event::DEPTH],
         })
     }
 }

@@ -77,14 +77,18 @@ impl Rows {
 /// How to read.
 #[derive(Clone, Debug, PartialEq, Eq)]
 pub struct Options {
-    /// Each node that is begun costs one, also in branches that are taken back.
+    /// Each node that is begun costs one, also in branches that are taken back. Edition 1's; a later edition has its own.
     pub fuel: u32,
+    /// The text of the settings: a line for each edition from 2 on (README). Edition 1 needs none.
+    pub settings: Vec<u8>,
+    /// Which edition the reading goes by.
+    pub edition: u32,
 }
 
 impl Options {
-    /// The default with this fuel.
+    /// Edition 1 with this fuel.
     pub fn with_fuel(fuel: u32) -> Self {
-        Self { fuel }
+        Self { fuel, settings: Vec::new(), edition: 1 }
     }
 }
 
@@ -101,7 +105,7 @@ pub enum Outcome {
     Done,
     /// The fuel ran out, and the rest was not read.
     OutOfFuel,
-    /// More than 1,024 nodes were to be open, and the rest was not read.
+    /// More nodes were to be open than the edition allows, 1,024 in edition 1, and the rest was not read.
     TooDeep,
 }
 
@@ -160,10 +164,11 @@ pub fn read(source: &[u8], rows: &Rows, options: &Options) -> Result<Reading, Re
         let (mut events, mut errors) = (vec![0; event_room], vec![0; error_room]);
         let mut answer = [0; 5];
         let lent = raw::Lent { scratch: &mut scratch, events: &mut events, errors: &mut errors };
-        match raw::read(source, lists, options.fuel, lent, &mut answer) {
+        match raw::read(source, lists, &options.settings, options.edition, options.fuel, lent, &mut answer) {
             0 => return Ok(answered(answer, events, &errors)),
             7 => event_room *= 2,
             8 => error_room *= 2,
+            19 => return Err(Refusal::SettingsLine(answer[0])),
             number => return Err(Refusal::of(number)),
         }
     }

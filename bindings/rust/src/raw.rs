@@ -10,9 +10,9 @@ pub mod event {
     pub const KIND: usize = 1;
     pub const START: usize = 2;
     pub const END: usize = 3;
-    /// Where the depth stands; while events have none, it is counted.
-    pub const DEPTH: Option<usize> = None;
-    pub const SIZE: usize = 4;
+    /// How many nodes are open around it.
+    pub const DEPTH: usize = 4;
+    pub const SIZE: usize = 5;
 }
 
 /// An error record's numbers. Behind the head stand the names, and in form 9 the place of the bad byte.
@@ -20,11 +20,11 @@ pub mod record {
     pub const START: usize = 0;
     pub const END: usize = 1;
     pub const FORM: usize = 2;
-    /// Where the item's number stands, once records have it.
-    pub const ITEM: Option<usize> = None;
+    /// The number of its item, from 1.
+    pub const ITEM: usize = 3;
     /// How many names.
-    pub const COUNT: usize = 3;
-    pub const HEAD: usize = 4;
+    pub const COUNT: usize = 4;
+    pub const HEAD: usize = 5;
     /// The form whose records have a place.
     pub const PLACED: u32 = 9;
 }
@@ -74,6 +74,9 @@ extern "C" {
         starts_len: usize,
         ends: *const u32,
         ends_len: usize,
+        settings: *const u8,
+        settings_len: usize,
+        edition: u32,
         fuel: u32,
         scratch: *mut u64,
         scratch_len: usize,
@@ -152,8 +155,16 @@ pub fn cut(source: &[u8], [ids, starts, ends]: [&mut [u32]; 3], count: &mut u32)
     }
 }
 
-/// Reads rows over their source.
-pub fn read(source: &[u8], [ids, starts, ends]: Lists, fuel: u32, lent: Lent, answer: &mut Answer) -> u32 {
+/// Reads rows over their source, by an edition of the settings text.
+pub fn read(
+    source: &[u8],
+    [ids, starts, ends]: Lists,
+    settings: &[u8],
+    edition: u32,
+    fuel: u32,
+    lent: Lent,
+    answer: &mut Answer,
+) -> u32 {
     unsafe {
         stableglow_read(
             source.as_ptr(),
@@ -164,6 +175,9 @@ pub fn read(source: &[u8], [ids, starts, ends]: Lists, fuel: u32, lent: Lent, an
             starts.len(),
             ends.as_ptr(),
             ends.len(),
+            settings.as_ptr(),
+            settings.len(),
+            edition,
             fuel,
             lent.scratch.as_mut_ptr(),
             lent.scratch.len(),

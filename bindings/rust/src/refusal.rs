@@ -22,11 +22,15 @@ pub enum Refusal {
     NotRecord,
     /// 15: events that do not nest, or the outline of an event that opens no node.
     NotNested,
+    /// 18: an edition that the settings text does not have.
+    UnknownEdition,
+    /// 19: a line of the settings text, by its number from 1, that does not read, has a value outside its range or a number out of turn.
+    SettingsLine(u32),
     /// Any other number.
     Other(u32),
 }
 
-const NUMBERED: [(u32, Refusal, &str); 8] = [
+const NUMBERED: [(u32, Refusal, &str); 9] = [
     (1, Refusal::TooLong, "over 1,048,576 bytes, or over 65,536 rows"),
     (2, Refusal::Lengths, "ids, starts and ends that differ in length"),
     (3, Refusal::UnknownId, "an id that is none"),
@@ -35,6 +39,7 @@ const NUMBERED: [(u32, Refusal, &str); 8] = [
     (10, Refusal::OpenError, "an ERROR end with none open, or a begin never closed"),
     (11, Refusal::NotRecord, "an error record that does not read"),
     (15, Refusal::NotNested, "events that do not nest, or no node opened at the index"),
+    (18, Refusal::UnknownEdition, "an edition that the settings do not have"),
 ];
 
 impl Refusal {
@@ -47,6 +52,7 @@ impl Refusal {
     pub fn number(self) -> u32 {
         match self {
             Self::Other(number) => number,
+            Self::SettingsLine(_) => 19,
             _ => self.row().map_or(0, |row| row.0),
         }
     }
@@ -60,7 +66,10 @@ impl fmt::Display for Refusal {
     fn fmt(&self, f: &mut fmt::Formatter) -> fmt::Result {
         match self.row() {
             Some(row) => write!(f, "refusal {}: {}", row.0, row.2),
-            None => write!(f, "refusal {}", self.number()),
+            None => match self {
+                Self::SettingsLine(line) => write!(f, "refusal 19: line {line} of the settings does not read"),
+                _ => write!(f, "refusal {}", self.number()),
+            },
         }
     }
 }

@@ -31,7 +31,7 @@ fn a_reading_that_stops_is_not_accepted() {
         end: 16,
         names: vec![Name::META_KW, Name::STRINGS_KW],
         place: None,
-        item: None,
+        item: 1,
     };
     assert_eq!(reading.errors, [record]);
     // P5
@@ -124,7 +124,7 @@ fn buffers_grow() {
 
     let names = (Name::ALL_KW.0..=Name::XOR_KW.0).map(Name).collect();
     let record =
-        ErrorRecord { form: Form::ExpectingOther, start: 0, end: 4, names, place: None, item: Some(1) };
+        ErrorRecord { form: Form::ExpectingOther, start: 0, end: 4, names, place: None, item: 1 };
     let text = message(heads.as_bytes(), &record).unwrap();
     assert!(text.len() > 256);
     assert!(
