@@ -74,7 +74,7 @@ fn spot(object: Object, spot: Spot) -> Object {
 fn file(checked: &Checked) -> String {
     let lines = checked.lines();
     let error = |told: crate::verdict::Told| {
-        let object = Object::new().with("form", told.form.number()).text("message", &told.text);
+        let object = Object::new().with("form", told.form.number()).with("item", told.item).text("message", &told.text);
         let object = spot(object, lines.spot(told.start));
         object.with("start", told.start).with("end", told.end).end()
     };

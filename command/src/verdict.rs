@@ -97,7 +97,7 @@ impl Checked {
                 None => (record.start, record.end),
             };
             let text = message(&self.source, record).unwrap_or_else(|refusal| refusal.to_string());
-            Told { form: record.form, start: start as usize, end: end as usize, text }
+            Told { form: record.form, item: record.item, start: start as usize, end: end as usize, text }
         };
         reading.errors.iter().map(told).collect()
     }
@@ -129,6 +129,8 @@ impl Checked {
 /// An error as it is told: its form, the part of the source that is shown, and the library's message.
 pub struct Told {
     pub form: stableglow::Form,
+    /// The number of its item in the file, from 1.
+    pub item: u32,
     pub start: usize,
     pub end: usize,
     pub text: String,

@@ -376,7 +376,7 @@ end SOURCE_FILE 0..3
 fn json_of_check() {
     let folder = Folder::new().with("d.yar", format!("@ {R}")).with("a.yar", R);
     let told = r#"{"path":"a.yar","status":"accepted","errors":[]}
-{"path":"d.yar","status":"errors","errors":[{"form":10,"message":"expecting import statement or rule definition","line":1,"column":1,"start":0,"end":1}]}
+{"path":"d.yar","status":"errors","errors":[{"form":10,"item":1,"message":"expecting import statement or rule definition","line":1,"column":1,"start":0,"end":1}]}
 {"path":"nowhere","status":"unread","reason":"No such file or directory","errors":[]}
 {"summary":{"files":3,"accepted":1,"errors":1,"stopped":0,"refused":0,"unread":1}}
 "#;
