@@ -6,13 +6,13 @@
 // SETTINGS is the name of a file of settings text, `-` where there is none; the fuel is that of edition 1. A file is read with the limits and rooms of
 // `intake`, so that its answer is the desk's. What keeps it from that it says on standard error.
 use cutter::Cut;
-use desk::read::Limits;
 use desk::read::Reading;
 use libc::STDERR_FILENO;
 use libc::STDIN_FILENO;
 use libc::STDOUT_FILENO;
 use listing::Number;
 use listing::piece_end;
+use reading::Named;
 use replay::Answer;
 use replay::Fate;
 use replay::File;
@@ -21,7 +21,6 @@ use replay::Replayed;
 use replay::Tally;
 use replay::Written;
 use settings::Chosen;
-use settings::Values;
 use shapes::outcome;
 use shapes::refusal;
 ghost use Prim.Native.Nat.{_≤_};
@@ -161,38 +160,20 @@ fn ended(number: u32, errors: u32) -> Answer {
     }
 }
 
-// The rooms are those of `intake`, and the scratch what its rows ask for.
-fn read_under(source: &[u8], ids: &[u32], starts: &[u32], ends: &[u32], values: Values) -> Answer {
-    let mut scratch = [0u64; 129];
-    let mut events = [0u32; 16384];
-    let mut errors = [0u32; 16384];
-    let limits = Limits {
-        depth: values.depth as usize,
-        quote: values.quote as usize,
-    };
-    let reading = desk::read::read(
-        source,
-        ids,
-        starts,
-        ends,
-        values.fuel,
-        limits,
-        &mut scratch,
-        &mut events,
-        &mut errors,
-    );
+fn answered(reading: Reading) -> Answer {
     match reading {
         Reading::Refused(number) => Answer::Refused(number),
         Reading::Answered {
             outcome,
             covered: _,
             events: _,
-            errors: count,
+            errors,
             left: _,
-        } => ended(outcome, count),
+        } => ended(outcome, errors),
     }
 }
 
+// The rooms are those of `intake`, and the scratch what its rows ask for.
 fn read_rows(
     source: &[u8],
     ids: &[u32],
@@ -201,15 +182,29 @@ fn read_rows(
     settings: &[u8],
     asked: Asked,
 ) -> Answer {
-    match settings::choose(settings, asked.edition, asked.fuel) {
-        Chosen::BadLine(_) => Answer::Refused(refusal::SETTINGS),
-        Chosen::Unknown => Answer::Refused(refusal::EDITION),
-        Chosen::Named(values) => read_under(source, ids, starts, ends, values),
+    let mut scratch = [0u64; 129];
+    let mut events = [0u32; 16384];
+    let mut errors = [0u32; 16384];
+    let named = reading::read(
+        settings,
+        asked.edition,
+        source,
+        ids,
+        starts,
+        ends,
+        asked.fuel,
+        &mut scratch,
+        &mut events,
+        &mut errors,
+    );
+    match named {
+        Named::BadLine(_) => Answer::Refused(refusal::SETTINGS),
+        Named::Read(reading) => answered(reading),
     }
 }
 
 // The answer to a rule text under an edition. Refusal 18 stands behind 1 to 6, of which rows that were cut can only have 1.
-fn reading(source: &[u8], settings: &[u8], asked: Asked) -> Answer {
+fn answer_to(source: &[u8], settings: &[u8], asked: Asked) -> Answer {
     if MOST_BYTES < source.len() {
         return Answer::Refused(refusal::LONG);
     }
@@ -247,7 +242,7 @@ fn record_file(name: &[u8], settings: &[u8], asked: Asked) {
             say(b"\n");
         }
         Source::Bytes(kept, size) => {
-            let answer = reading(first(&source, kept), settings, asked);
+            let answer = answer_to(first(&source, kept), settings, asked);
             write_entry(name, size, asked.edition, answer);
         }
     }

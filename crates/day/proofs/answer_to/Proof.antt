@@ -1,12 +1,12 @@
 -- Written from tools/answers/day/reading.py, digest 9e5279f336eb.
--- `reading` is safe: there are no more rows than the lists have room for.
+-- `answer_to` is safe: there are no more rows than the lists have room for.
 use native.Mathlib.Omega.{arith}
 use lib.ListN.{length-take}
 use borrow.Author.Needs.{needs}
-use Rattle.day.proofs.reading.Statement.{statement}
-use Rattle.day.proofs.reading.Tie as tie
-use Rattle.day.proofs.reading.Reads as reads
-use Rattle.day.proofs.reading.Lts as lts
+use Rattle.day.proofs.answer_to.Statement.{statement}
+use Rattle.day.proofs.answer_to.Tie as tie
+use Rattle.day.proofs.answer_to.Reads as reads
+use Rattle.day.proofs.answer_to.Lts as lts
 use Rattle.cutter.proofs.cut.Reads as cut-reads
 use Rattle.day.proofs.read_rows.Reads as read-rows-reads
 
@@ -64,8 +64,8 @@ returns-3 c = search needs
 returns-4 : tie.Need-returns-4
 returns-4 c = search needs
 
-pub reading-spec : {M : Type 1} → statement M
-reading-spec =
+pub answer-to-spec : {M : Type 1} → statement M
+answer-to-spec =
     tie.close
     (tie.spec
     returns
