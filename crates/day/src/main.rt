@@ -269,7 +269,7 @@ fn fate_of(name: &[u8], size: u32, settings: &[u8], asked: Asked) -> Fate {
             if now != size {
                 return Fate::Changed;
             }
-            Fate::Read(reading(first(&source, kept), settings, asked))
+            Fate::Read(answer_to(first(&source, kept), settings, asked))
         }
     }
 }

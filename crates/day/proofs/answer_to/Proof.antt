@@ -1,4 +1,4 @@
--- Written from tools/answers/day/reading.py, digest 9e5279f336eb.
+-- Written from tools/answers/day/answer_to.py, digest 530f2438c663.
 -- `answer_to` is safe: there are no more rows than the lists have room for.
 use native.Mathlib.Omega.{arith}
 use lib.ListN.{length-take}

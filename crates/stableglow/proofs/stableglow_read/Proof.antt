@@ -1,4 +1,4 @@
--- Written from tools/answers/stableglow/stableglow_read.py, digest 6078a52222b8.
+-- Written from tools/answers/stableglow/stableglow_read.py, digest 7e4cbfdcdd9c.
 -- The C face of the reader: each case of the enum in numbers.
 use mathlib.Core.Path.{sym, ap, _∙_}
 use Rattle.definition.specs.Run.{Limits}

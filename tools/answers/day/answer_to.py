@@ -1,5 +1,5 @@
-WHERE = "reading"
-USES = """-- `reading` is safe: there are no more rows than the lists have room for.
+WHERE = "answer_to"
+USES = """-- `answer_to` is safe: there are no more rows than the lists have room for.
 use native.Mathlib.Omega.{arith}
 use lib.ListN.{length-take}
 """
