@@ -51,12 +51,12 @@ int main(void) {
     expect("P2 with room exact", read_rows(8, 5, 72) == 0 && answered(0, 8, 18, 0, 0) && events[72] == LENT);
     expect("P2 with four numbers less", read_rows(8, 5, 68) == 7 && answered(0, 0, 0, 0, 0) && events[0] == 0 && events[67] == 0);
     expect("P4", read_rows(8, 1, EVENT_ROOM) == 0 && answered(1, 0, 6, 0, 0));
-    const uint32_t end_of_file[] = {21, 21, 3, 2, 83, 67};
+    const uint32_t end_of_file[] = {21, 21, 3, 1, 2, 83, 67};
     expect("P6", read_rows(7, 5, EVENT_ROOM) == 0 && answered(0, 7, answer[2], 1, 0) && memcmp(errors, end_of_file, sizeof end_of_file) == 0);
     expect("no room at all", read_rows(8, 5, 0) == 7 && answered(0, 0, 0, 0, 0) && events[0] == LENT && errors[0] == 0 && scratch[0] == 0);
-    const uint32_t bad_byte[] = {5, 8, 9, 0, 6, LENT};
-    expect("form 9 with room exact", read_bad(5) == 0 && answered(0, 3, 10, 1, 6) && memcmp(errors, bad_byte, sizeof bad_byte) == 0);
-    expect("form 9 with one number less", read_bad(4) == 8 && answered(0, 0, 0, 0, 0) && errors[3] == 0 && errors[4] == LENT);
+    const uint32_t bad_byte[] = {5, 8, 9, 1, 0, 6, LENT};
+    expect("form 9 with room exact", read_bad(6) == 0 && answered(0, 3, 10, 1, 6) && memcmp(errors, bad_byte, sizeof bad_byte) == 0);
+    expect("form 9 with one number less", read_bad(5) == 8 && answered(0, 0, 0, 0, 0) && errors[4] == 0 && errors[5] == LENT);
     puts(failed ? "0 passed, 1 failed" : "1 passed, 0 failed");
     return failed;
 }

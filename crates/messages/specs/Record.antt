@@ -1,6 +1,6 @@
 -- An error record as numbers, and which records read (refusal 11).
--- "An error record is start, end, form, count of names, then the names."; in form 9 the place stands behind them (request (vi)). Where its numbers stand
--- is said here and in src/record.rt alone: with request (x) `head` is 5 and `count-at` 4, and nothing else here moves.
+-- "An error record is start, end, form, count of names, then the names."; behind the form its item's number (request (x)), in form 9 the place behind the
+-- names (request (vi)). Where its numbers stand is said here and in src/record.rt alone.
 use Prim.Native.Nat.{ℕ, zero, suc, _+_, _-_}
 use mathlib.Core.List.{List, [], _∷_}
 use mathlib.Core.Bool.{Bool, true, false, cond, not, _&&_, _||_}
@@ -10,10 +10,10 @@ use Rattle.utf8.specs.Utf8.{utf8}
 
 -- how many numbers stand before the names, and which of them is the count
 abbrev pub head : ℕ
-head = 4
+head = 5
 
 abbrev pub count-at : ℕ
-count-at = 3
+count-at = 4
 
 abbrev pub start : List ℕ → ℕ
 start r = getD r 0 0

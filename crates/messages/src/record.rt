@@ -11,9 +11,9 @@ pub const END: usize = 1;
 pub const FORM: usize = 2;
 
 // Which number is the count of names, and how many numbers stand before the names.
-pub const COUNT: usize = 3;
+pub const COUNT: usize = 4;
 
-pub const HEAD: usize = 4;
+pub const HEAD: usize = 5;
 
 // How many numbers stand behind the names of a record of form 9.
 const PLACES: usize = 1;
