@@ -4,7 +4,7 @@
 
 #include "../include/stableglow.h"
 
-enum { LENT = 77, ROOM = 64, ROWS = 16, EVENT_ROOM = 160, ERROR_ROOM = 32 };
+enum { LENT = 77, ROOM = 64, ROWS = 16, EVENT_ROOM = 40 * STABLEGLOW_EVENT, ERROR_ROOM = 32 };
 
 static int failed = 0;
 

@@ -4,7 +4,7 @@
 
 #include "../include/stableglow.h"
 
-enum { LENT = 77, ROWS = 8, EVENT_ROOM = 80, ERROR_ROOM = 16 };
+enum { LENT = 77, ROWS = 8, EVENT_ROOM = 20 * STABLEGLOW_EVENT, ERROR_ROOM = 16 };
 
 static const char SOURCE[] = "rule a{condition:true}";
 /* RULE_KW, WHITESPACE, IDENT, L_BRACE, CONDITION_KW, COLON, TRUE_KW, R_BRACE */
@@ -48,9 +48,11 @@ static uint32_t read_bad(size_t error_room) {
 
 int main(void) {
     expect("P2", read_rows(8, 5, EVENT_ROOM) == 0 && answered(0, 8, 18, 0, 0) && scratch[0] == 0 && errors[0] == 0);
-    expect("P2 with room exact", read_rows(8, 5, 72) == 0 && answered(0, 8, 18, 0, 0) && events[72] == LENT);
-    expect("P2 with four numbers less", read_rows(8, 5, 68) == 7 && answered(0, 0, 0, 0, 0) && events[0] == 0 && events[67] == 0);
+    expect("P2 with room exact", read_rows(8, 5, 90) == 0 && answered(0, 8, 18, 0, 0) && events[90] == LENT);
+    expect("P2 with five numbers less", read_rows(8, 5, 85) == 7 && answered(0, 0, 0, 0, 0) && events[0] == 0 && events[84] == 0);
     expect("P4", read_rows(8, 1, EVENT_ROOM) == 0 && answered(1, 0, 6, 0, 0));
+    const uint32_t depths[] = {0, 1, 2, 2, 1, 0};
+    for (size_t i = 0; i < 6; i++) expect("depths of P4", events[STABLEGLOW_EVENT * i + 4] == depths[i]);
     const uint32_t end_of_file[] = {21, 21, 3, 1, 2, 83, 67};
     expect("P6", read_rows(7, 5, EVENT_ROOM) == 0 && answered(0, 7, answer[2], 1, 0) && memcmp(errors, end_of_file, sizeof end_of_file) == 0);
     expect("no room at all", read_rows(8, 5, 0) == 7 && answered(0, 0, 0, 0, 0) && events[0] == LENT && errors[0] == 0 && scratch[0] == 0);

@@ -9,6 +9,10 @@
 extern "C" {
 #endif
 
+/* An event's numbers: sort (1 begin, 2 token, 3 end, 4 error), kind or error record index (from 0), start, end, and depth, the count of nodes
+   open around it: 0 for SOURCE_FILE, the same for a begin and its end. */
+#define STABLEGLOW_EVENT 5
+
 /* Cuts rule text into rows of tokens: the n-th row's id, start and end go to the n-th cell of each list. Rows tile the source.
    Returns 0 and writes the count of rows to *count; cells behind the last row stay as they were lent. Or returns 1 (the source has
    over 1,048,576 bytes) or 13 (a list is shorter than the rows needed), with 0 in *count and the lists as they were lent.
@@ -20,7 +24,7 @@ uint32_t stableglow_cut(const uint8_t *source, size_t source_len, uint32_t *ids,
 
 /* Reads rows of tokens (ids, starts and ends, as long as each other) over their source into events and error records.
    Returns 0 and writes outcome (0 done, 1 out of fuel, 2 too deep), rows covered, count of events, count of error records
-   and fuel left to answer[0..4], the events (four numbers each) and the error records from the first cell of their lists on,
+   and fuel left to answer[0..4], the events (STABLEGLOW_EVENT numbers each) and the error records from the first cell of their lists on,
    and zeros past them and into scratch. An error record is start, end, form, the number of its item (from 1; junk at item position is an
    item too), count of names, then the names; form 9 (text that is not UTF-8) has the count 0 and then one number more, the place in the
    source of the first byte that cannot begin or continue a character, or of the first byte of a character that is cut short. Item numbers
@@ -35,10 +39,11 @@ uint32_t stableglow_read(const uint8_t *source, size_t source_len, const uint32_
                          uint64_t *scratch, size_t scratch_len, uint32_t *events, size_t events_len, uint32_t *errors,
                          size_t errors_len, uint32_t answer[5]);
 
-/* Joins neighbouring ERROR nodes of an event list (four numbers an event) into the room.
+/* Joins neighbouring ERROR nodes of an event list into the room. Every event that is left keeps its depth.
    Returns 0 and writes the count of events to *count, the finished list to the room and zeros past it;
-   or returns 9 (not a list of events), 10 (an ERROR end or begin without its other) or 7 (no room),
-   with 0 in *count and the room as it was lent. The count has 32 bits; one that needs more takes a list of 64 GiB.
+   or returns 9 (not a list of events: numbers that are no multiple of STABLEGLOW_EVENT, a sort outside 1..4, a depth that is not the
+   counted one, or a place with more ends than begins before it), 10 (an ERROR end or begin without its other) or 7 (no room),
+   with 0 in *count and the room as it was lent. The count has 32 bits; one that needs more takes a list of 80 GiB.
    The two lists must not overlap. */
 uint32_t stableglow_merge(const uint32_t *events, size_t events_len, uint32_t *room, size_t room_len, uint32_t *count);
 
@@ -57,9 +62,9 @@ uint32_t stableglow_message(const uint8_t *source, size_t source_len, const uint
    their begins: name start, name end, start, end, counts of META_DEF nodes, PATTERN_DEF nodes and IDENT rows in RULE_TAGS inside it, and 1
    where an ERROR node lies inside it, else 0. A rule that closed as ERROR is none; a name used twice is listed twice.
    Returns 0 and writes the count of rules to *count and zeros past the list;
-   or returns 9 (not a list of events), 15 (the events do not nest, or more than 1,026 nodes are open, or a rule has no name) or 14 (no room),
-   with 0 in *count and the room as it was lent. What the reader wrote, merged or not, is never refused 9 or 15: hand on as many events as
-   it counted. The two lists must not overlap. */
+   or returns 9 (not a list of events, as stableglow_merge has it), 15 (the events do not nest, or more than 1,026 nodes are open, or a rule
+   has no name) or 14 (no room), with 0 in *count and the room as it was lent. What the reader wrote, merged or not, is never refused 9 or
+   15: hand on as many events as it counted. The two lists must not overlap. */
 uint32_t stableglow_rules(const uint32_t *events, size_t events_len, uint32_t *room, size_t room_len, uint32_t *count);
 
 /* Lists the nodes below the one that the event at index `at` (from 0) opens, to a depth, into the room: kind, start, end and depth of each,

@@ -15,7 +15,10 @@ pub mod kinds {
 
 use kinds::kind;
 
-pub type Event = [u32; 4];
+/// Sort, kind or record index, start, end, and the count of nodes open around it.
+pub type Event = [u32; EVENT];
+
+pub const EVENT: usize = 5;
 
 pub const BEGIN: u32 = 1;
 pub const TOKEN: u32 = 2;
@@ -50,7 +53,7 @@ impl Question {
         source.shrink_to_fit();
         [&mut ids, &mut starts, &mut ends].into_iter().for_each(Vec::shrink_to_fit);
         let scratch = scratch_words(ids.len());
-        let event_room = 4 * (64 * (ids.len() + 1)).max(16_384);
+        let event_room = EVENT * (64 * (ids.len() + 1)).max(16_384);
         let error_room = (32 * (ids.len() + 1)).max(4_096);
         Self { source, ids, starts, ends, fuel, scratch, event_room, error_room }
     }
@@ -152,7 +155,19 @@ impl Record {
 }
 
 pub fn events_of(numbers: &[u32]) -> Vec<Event> {
-    numbers.chunks_exact(4).map(|e| [e[0], e[1], e[2], e[3]]).collect()
+    numbers.chunks_exact(EVENT).map(|e| e.try_into().unwrap()).collect()
+}
+
+/// Events with their depths, counted from the start of the list. An end with none open is at depth 0.
+pub fn counted(events: impl IntoIterator<Item = [u32; EVENT - 1]>) -> Vec<Event> {
+    let mut open = 0u32;
+    let mut deep = |[sort, what, start, end]: [u32; EVENT - 1]| {
+        open = open.saturating_sub(u32::from(sort == END));
+        let event = [sort, what, start, end, open];
+        open += u32::from(sort == BEGIN);
+        event
+    };
+    events.into_iter().map(&mut deep).collect()
 }
 
 /// Takes `count` error records out of the numbers that hold them.
@@ -182,12 +197,12 @@ pub fn reading_of(side: &dyn Side, question: &Question) -> Result<Reading, u32> 
         return Err(reply.refusal);
     }
     let [outcome, rows, events, errors, fuel] = reply.answer;
-    let raw = &reply.events[..4 * events as usize];
+    let raw = &reply.events[..EVENT * events as usize];
     let merged = side.merge(raw, raw.len());
     assert_eq!(merged.refusal, 0, "the merger refuses what the reader wrote");
     Ok(Reading {
         raw: events_of(raw),
-        merged: events_of(&merged.room[..4 * merged.count as usize]),
+        merged: events_of(&merged.room[..EVENT * merged.count as usize]),
         records: records_of(&reply.errors, errors as usize),
         outcome,
         rows,

@@ -3,7 +3,7 @@
 use crate::grammar::{Part, Set, IMPORT_STMT, INCLUDE_STMT, RULE_DECL};
 use crate::utf8;
 use common::kinds::{id, is_trivia, kind, ID_OF_KIND};
-use common::{Event, Question, Record, BEGIN, END, ERROR, TOKEN};
+use common::{Question, Record, BEGIN, END, ERROR, EVENT, TOKEN};
 use std::collections::{BTreeMap, BTreeSet, HashSet};
 
 /// Nodes that may be open besides SOURCE_FILE, and bytes of found text that are still shown.
@@ -33,7 +33,7 @@ pub struct Reader<'a> {
     cache: HashSet<(usize, u32)>,
     expected: BTreeMap<usize, Vec<u32>>,
     unexpected: BTreeSet<usize>,
-    pub events: Vec<Event>,
+    pub events: Vec<[u32; EVENT - 1]>,
     pub records: Vec<Record>,
     /// Records from here on are pending: chosen, and not yet written as events.
     settled: usize,
@@ -416,9 +416,9 @@ impl<'a> Reader<'a> {
         }
     }
 
-    fn write(&mut self, event: Event) {
+    fn write(&mut self, event: [u32; EVENT - 1]) {
         self.events.push(event);
-        if self.full == 0 && 4 * self.events.len() > self.question.event_room {
+        if self.full == 0 && EVENT * self.events.len() > self.question.event_room {
             self.full = 7;
         }
     }

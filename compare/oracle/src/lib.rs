@@ -13,7 +13,7 @@ pub mod tokenizer {
     pub use crate::stand_in::{Token, TokenId, Tokenizer};
 }
 
-use common::{BEGIN, END, ERROR, Event, Question, Reading, Record, TOKEN};
+use common::{BEGIN, END, ERROR, Event, Question, Reading, Record, TOKEN, counted};
 use cst::error_merger::ErrorMerger;
 
 /// What the probe saw of one reading.
@@ -83,7 +83,7 @@ fn tokens(question: &Question) -> Vec<tokenizer::Token> {
 
 /// The Rust's merger on any list; an error keeps its index as its message.
 pub fn merge(events: &[Event]) -> Vec<Event> {
-    let given = events.iter().map(|[sort, what, start, end]| {
+    let given = events.iter().map(|[sort, what, start, end, _]| {
         let span = Span(*start..*end);
         let kind = || stand_in::SyntaxKind::ALL[*what as usize];
         match *sort {
@@ -119,6 +119,7 @@ fn with_records(events: impl Iterator<Item = cst::Event>, source: &[u8]) -> (Vec
     (events, records)
 }
 
+/// The Rust tells no depth: it is counted.
 fn numbers(
     events: impl Iterator<Item = cst::Event>,
     mut index: impl FnMut(&str, &Span) -> u32,
@@ -132,5 +133,5 @@ fn numbers(
         };
         [sort, what, span.0.start, span.0.end]
     };
-    events.map(number).collect()
+    counted(events.map(number))
 }

@@ -2,7 +2,7 @@
 
 use crate::messages;
 use common::listing::listing;
-use common::{events_of, reading_of, strip_empty_errors, Question, Reading, Reply, Side};
+use common::{events_of, reading_of, strip_empty_errors, Question, Reading, Reply, Side, EVENT};
 use model::{utf8, Model};
 use std::panic::{catch_unwind, AssertUnwindSafe};
 
@@ -99,7 +99,10 @@ pub fn same_lines(what: &str, ours: &str, theirs: &str) -> Result<(), String> {
 fn same_replies(question: &Question, library: &dyn Side) -> Result<(), String> {
     let (ours, theirs) = (Model.read(question), library.read(question));
     if ours != theirs {
-        if ours.refusal == 0 && theirs.refusal == 0 && theirs.answer[2] as usize * 4 <= theirs.events.len() {
+        if ours.refusal == 0
+            && theirs.refusal == 0
+            && theirs.answer[2] as usize * EVENT <= theirs.events.len()
+        {
             same_events(&ours, &theirs)?;
         }
         let told = |r: &Reply| format!("refusal {} answer {:?}", r.refusal, r.answer);
@@ -111,14 +114,14 @@ fn same_replies(question: &Question, library: &dyn Side) -> Result<(), String> {
             told(&theirs)
         ));
     }
-    let events = &ours.events[..4 * ours.answer[2] as usize];
+    let events = &ours.events[..EVENT * ours.answer[2] as usize];
     same_merges(events, events.len(), library)?;
-    same_merges(events, events.len().saturating_sub(4), library)
+    same_merges(events, events.len().saturating_sub(EVENT), library)
 }
 
 fn same_events(ours: &Reply, theirs: &Reply) -> Result<(), String> {
     let lines = |reply: &Reply| {
-        let events = events_of(&reply.events[..4 * reply.answer[2] as usize]);
+        let events = events_of(&reply.events[..EVENT * reply.answer[2] as usize]);
         events.iter().map(|e| format!("{e:?}\n")).collect::<String>()
     };
     same_lines("library, events", &lines(ours), &lines(theirs))
