@@ -55,12 +55,12 @@ int main(void) {
     expect("P4", read_rows(8, 1, EVENT_ROOM) == 0 && answered(1, 0, 6, 0, 0));
     const uint32_t depths[] = {0, 1, 2, 2, 1, 0};
     for (size_t i = 0; i < 6; i++) expect("depths of P4", events[STABLEGLOW_EVENT * i + 4] == depths[i]);
-    const uint32_t end_of_file[] = {21, 21, 3, 2, 83, 67};
+    const uint32_t end_of_file[] = {21, 21, 3, 1, 2, 83, 67};
     expect("P6", read_rows(7, 5, EVENT_ROOM) == 0 && answered(0, 7, answer[2], 1, 0) && memcmp(errors, end_of_file, sizeof end_of_file) == 0);
     expect("no room at all", read_rows(8, 5, 0) == 7 && answered(0, 0, 0, 0, 0) && events[0] == LENT && errors[0] == 0 && scratch[0] == 0);
-    const uint32_t bad_byte[] = {5, 8, 9, 0, 6, LENT};
-    expect("form 9 with room exact", read_bad(5) == 0 && answered(0, 3, 10, 1, 6) && memcmp(errors, bad_byte, sizeof bad_byte) == 0);
-    expect("form 9 with one number less", read_bad(4) == 8 && answered(0, 0, 0, 0, 0) && errors[3] == 0 && errors[4] == LENT);
+    const uint32_t bad_byte[] = {5, 8, 9, 1, 0, 6, LENT};
+    expect("form 9 with room exact", read_bad(6) == 0 && answered(0, 3, 10, 1, 6) && memcmp(errors, bad_byte, sizeof bad_byte) == 0);
+    expect("form 9 with one number less", read_bad(5) == 8 && answered(0, 0, 0, 0, 0) && errors[4] == 0 && errors[5] == LENT);
     /* edition 2 has fuel 5, 3 has 4 and one open node, 4 has 9 */
     const char settings[] = "2\t5\t1024\t15\n3\t4\t1\t15\n4\t9\t1024\t15\t0\n";
     expect("an edition's own fuel", read_edition(settings, 2, 8, 1, EVENT_ROOM) == 0 && answered(0, 8, 18, 0, 0));

@@ -28,9 +28,10 @@ uint32_t stableglow_cut(const uint8_t *source, size_t source_len, uint32_t *ids,
    text may be empty: the fuel argument, 1,024, 15 and 1. A later edition has its own fuel, and the argument is not looked at.
    Returns 0 and writes outcome (0 done, 1 out of fuel, 2 too deep), rows covered, count of events, count of error records
    and fuel left to answer[0..4], the events (STABLEGLOW_EVENT numbers each) and the error records from the first cell of their lists on,
-   and zeros past them and into scratch. An error record is start, end, form, count of names, then the names; form 9 (text that is
-   not UTF-8) has the count 0 and then one number more, the place in the source of the first byte that cannot begin or continue a
-   character, or of the first byte of a character that is cut short.
+   and zeros past them and into scratch. An error record is start, end, form, the number of its item (from 1; junk at item position is an
+   item too), count of names, then the names; form 9 (text that is not UTF-8) has the count 0 and then one number more, the place in the
+   source of the first byte that cannot begin or continue a character, or of the first byte of a character that is cut short. Item numbers
+   never fall.
    Or returns a refusal's number and five zeros in answer: 1 too long, 2 lists that differ in length, 3 an unknown id, 4 rows
    that do not tile the source, 6 too little scratch, (2 x (rows + 1) + 63) / 64 words are enough, 18 an edition that is not there:
    each leaves the lists as they were lent (5 is not used). 19, before all of these: a settings line that does not read, has a value
@@ -52,8 +53,8 @@ uint32_t stableglow_read(const uint8_t *source, size_t source_len, const uint32_
 uint32_t stableglow_merge(const uint32_t *events, size_t events_len, uint32_t *room, size_t room_len, uint32_t *count);
 
 /* Writes the message of the error record that the numbers begin with, as text for people (UTF-8), into the room. The record is one that
-   stableglow_read wrote for this source: start, end, form, count of names, names, and in form 9 the place. Numbers behind the record are
-   not looked at.
+   stableglow_read wrote for this source: start, end, form, item, count of names, names, and in form 9 the place. The item, and numbers behind
+   the record, are not looked at.
    Returns 0 and writes the count of bytes to *length, the text to the front of the room and zeros behind it; or returns 11 (a record
    that does not read: cut short; a span that is none in the source; a form outside 1..10; a count that its form does not have; a number
    that is no name, or one twice; quoted text that is empty or not UTF-8; form 3 with a span that is not empty) or 12 (the text has no

@@ -134,15 +134,15 @@ module _ (m : ℕ) (c : Choice) where
 -- the records of the item at hand
 module _ {x : Source} {p : Past} {first er ercap item quote number : ℕ} {errors : List ℕ} {es : List (ℕ × Choice)} (k : Chosen x p first er ercap item quote number errors es) (i : item ≤ er) (l : er ≤ length errors) where
   -- what stands fits
-  fitting : er ≤ ercap → _≡_ {A = ℕ} 0 (ifb (ltb ercap (length (flat-records (p .records ++ of-item number (recorded (p .limits) x es))))) 8 0)
-  fitting f = ap (λ (b : Bool). ifb b 8 0) (sym (le-ltb ercap (length (flat-records (p .records ++ of-item number (recorded (p .limits) x es)))) (omega (arith, ap length (k .is), length-take-le er errors l))))
+  fitting : er ≤ ercap → _≡_ {A = ℕ} 0 (ifb (ltb ercap (length (flat-records (p .records ++ of-item (p .number) (recorded (p .limits) x es))))) 8 0)
+  fitting f = ap (λ (b : Bool). ifb b 8 0) (sym (le-ltb ercap (length (flat-records (p .records ++ of-item (p .number) (recorded (p .limits) x es)))) (omega (arith, ap length (k .is), length-take-le er errors l))))
 
-  item-part : take (er - item) (drop item errors) ≡ flat-records (of-item number (recorded (p .limits) x es))
+  item-part : take (er - item) (drop item errors) ≡ flat-records (of-item (p .number) (recorded (p .limits) x es))
   item-part =
       let e : item + (er - item) ≡ er = omega arith in
       sym (drop-at (take item errors) (take (er - item) (drop item errors)) item (length-take-le item errors (omega arith)))
-      ∙ ap (drop item) (sym (take-add item (er - item) errors) ∙ ap (λ (j : ℕ). take j errors) e ∙ k .is ∙ flat-append (p .records) (of-item number (recorded (p .limits) x es)))
-      ∙ drop-at (flat-records (p .records)) (flat-records (of-item number (recorded (p .limits) x es))) item (sym (k .since))
+      ∙ ap (drop item) (sym (take-add item (er - item) errors) ∙ ap (λ (j : ℕ). take j errors) e ∙ k .is ∙ flat-append (p .records) (of-item (p .number) (recorded (p .limits) x es)))
+      ∙ drop-at (flat-records (p .records)) (flat-records (of-item (p .number) (recorded (p .limits) x es))) item (sym (k .since))
 
 -- AN ERROR AT A ROW
 same-numbers : {a b f o c a′ b′ f′ : ℕ} {ms ns : List ℕ} → a ≡ a′ → b ≡ b′ → f ≡ f′ → ms ≡ ns → c ≡ length ms → a ∷ b ∷ f ∷ o ∷ c ∷ ms ≡ a′ ∷ b′ ∷ f′ ∷ o ∷ length ns ∷ ns ++ []
@@ -172,7 +172,7 @@ module _ {x : Source} (w : Rows x) (at : ℕ) (h : at ≤ length (x .ids)) (s : 
         (t
         ∙ ap₂ (λ (i j : ℕ). scan i j 0 (part s er)) begins stops
         ∙ ap (scan (starts-at x (row x at)) (ends-at x (row x at)) 0) (item-part k (c .since) (le-trans (c .errors) l))
-        ∙ scan-recorded w (row x at) (omega arith) (p .limits) (s .number) (length (x .ids) - s .first) (omega arith) es (k .apart))
+        ∙ scan-recorded w (row x at) (omega arith) (p .limits) (p .number) (length (x .ids) - s .first) (omega arith) es (k .apart))
 
     added : (v : Choice) → P.add (row x at) v es ≡ elim y [ true ↦ es | false ↦ es ++ ((row x at, v) ∷ []) ]
     added v = ap (λ (q : Bool). elim q [ true ↦ es | false ↦ es ++ ((row x at, v) ∷ []) ]) pending-is
@@ -182,7 +182,7 @@ module _ {x : Source} (w : Rows x) (at : ℕ) (h : at ≤ length (x .ids)) (s : 
   chose-none v t =
       record {
         is = refl;
-        filled = λ p es k. fitting k (c .since) (le-trans (c .errors) l) (c .errors) ∙ ap (λ (q : List (ℕ × Choice)). ifb (ltb (s .ercap) (length (flat-records (p .records ++ of-item (s .number) (recorded (p .limits) x q))))) 8 0) (sym (added k t v));
+        filled = λ p es k. fitting k (c .since) (le-trans (c .errors) l) (c .errors) ∙ ap (λ (q : List (ℕ × Choice)). ifb (ltb (s .ercap) (length (flat-records (p .records ++ of-item (p .number) (recorded (p .limits) x q))))) 8 0) (sym (added k t v));
         chosen = λ p es k y. subst (Pends x p s er) (sym (added k t v)) k;
         fits = c .errors;
         grows = le-refl _;
@@ -210,15 +210,15 @@ module _ {x : Source} (w : Rows x) (at : ℕ) (h : at ≤ length (x .ids)) (s : 
 
   -- none is, and a record is written
   module _ (y : Bool) (ns : List ℕ) {numbers-at : List ℕ} (record-is : (L : Limits) → L .quote ≡ s .quote → numbers-at ≡ flat-records ((record-of L x (row x at) (choiceOf y ns), s .number) ∷ [])) where
-    owned-more : (p : Past) (es : List (ℕ × Choice)) → of-item (s .number) (recorded (p .limits) x es) ++ ((record-of (p .limits) x (row x at) (choiceOf y ns), s .number) ∷ []) ≡ of-item (s .number) (recorded (p .limits) x (es ++ ((row x at, choiceOf y ns) ∷ [])))
-    owned-more p es = sym (of-append (s .number) (recorded (p .limits) x es) (record-of (p .limits) x (row x at) (choiceOf y ns) ∷ [])) ∙ ap (of-item (s .number)) (sym (recorded-more (row x at) (choiceOf y ns) (p .limits) x es))
+    owned-more : (p : Past) (es : List (ℕ × Choice)) → of-item (p .number) (recorded (p .limits) x es) ++ ((record-of (p .limits) x (row x at) (choiceOf y ns), p .number) ∷ []) ≡ of-item (p .number) (recorded (p .limits) x (es ++ ((row x at, choiceOf y ns) ∷ [])))
+    owned-more p es = sym (of-append (p .number) (recorded (p .limits) x es) (record-of (p .limits) x (row x at) (choiceOf y ns) ∷ [])) ∙ ap (of-item (p .number)) (sym (recorded-more (row x at) (choiceOf y ns) (p .limits) x es))
 
-    records-are : {p : Past} {es : List (ℕ × Choice)} (k : Pends x p s er es) → false ≡ scan start end 0 (part s er) → take (s .er) er ++ numbers-at ≡ flat-records (p .records ++ of-item (s .number) (recorded (p .limits) x (P.add (row x at) (choiceOf y ns) es)))
+    records-are : {p : Past} {es : List (ℕ × Choice)} (k : Pends x p s er es) → false ≡ scan start end 0 (part s er) → take (s .er) er ++ numbers-at ≡ flat-records (p .records ++ of-item (p .number) (recorded (p .limits) x (P.add (row x at) (choiceOf y ns) es)))
     records-are {p} {es} k t =
-        ap₂ (λ (i j : List ℕ). i ++ j) (k .is) (record-is (p .limits) (k .quoted))
-        ∙ sym (flat-append (p .records ++ of-item (s .number) (recorded (p .limits) x es)) ((record-of (p .limits) x (row x at) (choiceOf y ns), s .number) ∷ []))
-        ∙ ap flat-records (append-assoc (p .records) (of-item (s .number) (recorded (p .limits) x es)) ((record-of (p .limits) x (row x at) (choiceOf y ns), s .number) ∷ []) ∙ ap (λ (q : List Owned). p .records ++ q) (owned-more p es))
-        ∙ ap (λ (q : List (ℕ × Choice)). flat-records (p .records ++ of-item (s .number) (recorded (p .limits) x q))) (sym (added k t (choiceOf y ns)))
+        ap₂ (λ (i j : List ℕ). i ++ j) (k .is) (record-is (p .limits) (k .quoted) ∙ ap (λ (i : ℕ). flat-records ((record-of (p .limits) x (row x at) (choiceOf y ns), i) ∷ [])) (sym (k .numbered)))
+        ∙ sym (flat-append (p .records ++ of-item (p .number) (recorded (p .limits) x es)) ((record-of (p .limits) x (row x at) (choiceOf y ns), p .number) ∷ []))
+        ∙ ap flat-records (append-assoc (p .records) (of-item (p .number) (recorded (p .limits) x es)) ((record-of (p .limits) x (row x at) (choiceOf y ns), p .number) ∷ []) ∙ ap (λ (q : List Owned). p .records ++ q) (owned-more p es))
+        ∙ ap (λ (q : List (ℕ × Choice)). flat-records (p .records ++ of-item (p .number) (recorded (p .limits) x q))) (sym (added k t (choiceOf y ns)))
 
     pub chose-new : {r : Whole} {er′ : List ℕ} → s .first ≤ at → Noted numbers-at s r er er′ → false ≡ scan start end 0 (part s er) → Chose (P.add (row x at) (choiceOf y ns)) x s r er er′
     chose-new {r} {er′} a d t =
@@ -233,6 +233,7 @@ module _ {x : Source} (w : Rows x) (at : ℕ) (h : at ≤ length (x .ids)) (s : 
                 since = k .since;
                 room = k .room;
                 quoted = k .quoted;
+                numbered = k .numbered;
                 apart = subst (Apart (length (x .ids) - s .first)) (sym (added k t (choiceOf y ns))) (apart-more (row x at) (choiceOf y ns) (length (x .ids) - s .first) es (omega arith) (pending-is k t) (k .apart));
               });
           fits = d .fits;
@@ -347,8 +348,8 @@ module _ (x : Source) (s : Whole) (er : List ℕ) (w : Ok (length (x .ids)) s) (
           record {
             over =
                 c .filled p (a .chosen) (m .chosen)
-                ∙ ap (λ (i : ℕ). ifb (ltb i (length (flat-records (p .records ++ of-item (s .number) (recorded (p .limits) x (g (a .chosen))))))) 8 0) (sym (m .chosen .room))
-                ∙ spilled p x (a .out) (g (a .chosen)) (s .number) (m .written .past) (fits v m .0)
+                ∙ ap (λ (i : ℕ). ifb (ltb i (length (flat-records (p .records ++ of-item (p .number) (recorded (p .limits) x (g (a .chosen))))))) 8 0) (sym (m .chosen .room))
+                ∙ spilled p x (a .out) (g (a .chosen)) (p .number) (m .written .past) (fits v m .0)
                 ∙ ap₂ (λ (i : ℕ) (q : List (ℕ × Choice)). first-of i (spill p x (a .out) q)) (sym z ∙ t .over) (sym e);
             means = λ y.
                 subst (λ (q : Whole). Means p x q (bufs ev er′ sc) (P.choose a)) (sym (c .is))

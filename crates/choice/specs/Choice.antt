@@ -57,7 +57,7 @@ Pends x p s er es = Chosen x p (s .first) (s .er) (s .ercap) (s .item) (s .quote
 -- the pending errors become g of them, if there is room for their records
 pub record Chose (g : List (ℕ × Choice) → List (ℕ × Choice)) (x : Source) (s r : Whole) (er er′ : List ℕ) : Type 0 where
   pub is : r ≡ withEr (r .er) (withFull (r .full) s)
-  pub filled : (p : Past) (es : List (ℕ × Choice)) → Pends x p s er es → r .full ≡ ifb (ltb (s .ercap) (length (flat-records (p .records ++ of-item (s .number) (recorded (p .limits) x (g es)))))) 8 0
+  pub filled : (p : Past) (es : List (ℕ × Choice)) → Pends x p s er es → r .full ≡ ifb (ltb (s .ercap) (length (flat-records (p .records ++ of-item (p .number) (recorded (p .limits) x (g es)))))) 8 0
   pub chosen : (p : Past) (es : List (ℕ × Choice)) → Pends x p s er es → r .full ≡ 0 → Pends x p r er′ (g es)
   pub fits : r .er ≤ s .ercap
   pub grows : s .er ≤ r .er

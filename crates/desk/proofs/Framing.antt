@@ -13,12 +13,12 @@ use lib.ListN.{length, getD, take, drop, set, replicate, length-append, length-d
 use lib.Seq.{take-append-add, take-append-le, length-take-le}
 use Rattle.kinds.specs.Kinds as k
 use Rattle.shapes.specs.Sort as Sort
-use Rattle.shapes.specs.Shapes.{EVENT, Entry, event, flat, Rec, flat-records}
-use Rattle.shapes.proofs.Laws.{flat-length}
+use Rattle.shapes.specs.Shapes.{EVENT, Entry, event, flat, owned, of-item, flat-records}
+use Rattle.shapes.proofs.Laws.{flat-length, owned-split, bare-length}
 use Rattle.definition.specs.Run as P
 use Rattle.definition.specs.Run.{Mode, ok, failed, stopped}
 use Rattle.definition.specs.Buffer.{buffer}
-use Rattle.definition.specs.Render.{Source, inside, rendered, outcome-of, said, held, records, used, moments, exceeds, over}
+use Rattle.definition.specs.Render.{Source, inside, item-numbers, rendered, outcome-of, said, held, records, used, moments, exceeds, over}
 use Rattle.definition.proofs.Buffer.{buffer-length}
 use Rattle.definition.proofs.Height.{buffer-read}
 use Rattle.notes.specs.Whole.{Whole}
@@ -52,7 +52,7 @@ blank-wf x fuel evcap ercap quote ev er sc h i j = (
   (
     record { here = omega arith; since = le-refl 0; far-in = omega arith; want-in = omega arith; want-since = λ n. absurd (n refl); unwant-in = omega arith; unwant-since = λ n. absurd (n refl) },
     none-named (replicate 58 0) refl,
-    record { events = omega arith; since = le-refl 0; errors = omega arith },
+    record { events = omega arith; since = le-refl 0; errors = omega arith; numbered = omega arith },
   ),
   record { events = h; errors = i; scratch = j },
 )
@@ -88,7 +88,7 @@ flat-end [] q = refl
 flat-end (e ∷ a) q = ap (λ (l : List ℕ). e .0 ∷ e .1 ∷ e .2 ∷ e .3 ∷ e .4 ∷ l) (flat-end a q)
 
 module _ (L : P.Limits) (x : Source) (fuel evcap R : ℕ) {d : Tally} {t : Whole} {ev₁ ev₂ er sc : List ℕ}
-    (B : Between L (evcap + EVENT) R x d (bufs ev₁ er sc) (reading L x fuel)) (w : Wf x (bufs ev₁ er sc) (d .state)) (put : Put (event Sort.END k.SOURCE-FILE 0 (length (x .bytes)) 0) (d .state) t ev₁ ev₂) where
+    (B : Between L (evcap + EVENT) R (item-numbers L (x .ids) fuel) x d (bufs ev₁ er sc) (reading L x fuel)) (w : Wf x (bufs ev₁ er sc) (d .state)) (put : Put (event Sort.END k.SOURCE-FILE 0 (length (x .bytes)) 0) (d .state) t ev₁ ev₂) where
   a : P.State
   a = reading L x fuel
 
@@ -110,7 +110,7 @@ module _ (L : P.Limits) (x : Source) (fuel evcap R : ℕ) {d : Tally} {t : Whole
       go (no n) = put .stuck n ∙ past ∙ sym (full-first _ _ (λ z. n (past ∙ z)))
       go (yes z) = subst goal (sym z ∙ past) (fits (decLt (d .state .evcap) (d .state .ev + EVENT)))
         where
-          m : Means (pastOf L (evcap + EVENT) R x (reading L x fuel)) x (d .state) (bufs ev₁ er sc) (reading L x fuel)
+          m : Means (pastOf L (evcap + EVENT) R (B .records) (B .last)) x (d .state) (bufs ev₁ er sc) (reading L x fuel)
           m = B .stands .means z
 
           room : evcap + EVENT ≡ d .state .evcap + EVENT
@@ -131,7 +131,7 @@ module _ (L : P.Limits) (x : Source) (fuel evcap R : ℕ) {d : Tally} {t : Whole
 
   -- the finished lists, where none is
   module _ (low : L .depth + 2 < 4294967296) (z : t .full ≡ 0) where
-    m : Means (pastOf L (evcap + EVENT) R x (reading L x fuel)) x (d .state) (bufs ev₁ er sc) (reading L x fuel)
+    m : Means (pastOf L (evcap + EVENT) R (B .records) (B .last)) x (d .state) (bufs ev₁ er sc) (reading L x fuel)
     m = B .stands .means (put .room z)
 
     inner : take (t .ev) ev₂ ≡ flat (inside x (reading L x fuel .out)) ++ event Sort.END k.SOURCE-FILE 0 (length (x .bytes)) 0
@@ -140,7 +140,7 @@ module _ (L : P.Limits) (x : Source) (fuel evcap R : ℕ) {d : Tally} {t : Whole
     fits : t .ev ≤ length ev₂
     fits = omega (arith, put .fits, w .1 .events, put .long)
 
-    events-are : (first rest : List ℕ) → first ≡ event Sort.BEGIN k.SOURCE-FILE 0 (length (x .bytes)) 0 → take (t .ev + EVENT) (first ++ (ev₂ ++ rest)) ≡ flat (rendered L x (reading L x fuel) .events)
+    events-are : (first rest : List ℕ) → first ≡ event Sort.BEGIN k.SOURCE-FILE 0 (length (x .bytes)) 0 → take (t .ev + EVENT) (first ++ (ev₂ ++ rest)) ≡ flat (rendered L x (item-numbers L (x .ids) fuel) (reading L x fuel) .events)
     events-are first rest e =
         ap (λ (l : List ℕ). take (t .ev + EVENT) (l ++ (ev₂ ++ rest))) e
         ∙ ap (λ (n : ℕ). take n (event Sort.BEGIN k.SOURCE-FILE 0 (length (x .bytes)) 0 ++ (ev₂ ++ rest))) (add-comm (t .ev) EVENT)
@@ -148,11 +148,14 @@ module _ (L : P.Limits) (x : Source) (fuel evcap R : ℕ) {d : Tally} {t : Whole
         ∙ ap (λ (l : List ℕ). event Sort.BEGIN k.SOURCE-FILE 0 (length (x .bytes)) 0 ++ l)
         (take-append-le (t .ev) ev₂ rest fits ∙ inner ∙ sym (flat-end (inside x (reading L x fuel .out)) (Sort.END, k.SOURCE-FILE, 0, length (x .bytes), 0)))
 
-    records-are : take (d .state .er) er ≡ flat-records (records L x (reading L x fuel .out) [])
+    records-are : take (d .state .er) er ≡ flat-records (owned (records L x (reading L x fuel .out) []) (item-numbers L (x .ids) fuel))
     unfolding recorded
-    records-are = m .chosen .is ∙ ap (λ (c : List (ℕ × P.Choice)). flat-records (records L x (reading L x fuel .out) [] ++ recorded L x c)) (none-chosen L x fuel) ∙ ap flat-records (append-nil (records L x (reading L x fuel .out) []))
+    records-are =
+        m .chosen .is
+        ∙ ap (λ (c : List (ℕ × P.Choice)). flat-records (B .records ++ of-item (B .last) (recorded L x c))) (none-chosen L x fuel)
+        ∙ ap flat-records (append-nil (B .records) ∙ sym (owned-split (B .records)) ∙ ap₂ owned (sym (m .written .past)) (B .own (put .room z)))
 
-    many-events : t .ev + EVENT ≡ EVENT * length (rendered L x (reading L x fuel) .events)
+    many-events : t .ev + EVENT ≡ EVENT * length (rendered L x (item-numbers L (x .ids) fuel) (reading L x fuel) .events)
     many-events =
         let i = inside x (reading L x fuel .out) in
         omega (arith, put .more z, ev-count w m, sym (flat-length i) ∙ ap length (sym (buffer-read L x low (x .ids) fuel)) ∙ buffer-length x (reading L x fuel .out), length-append i ((Sort.END, k.SOURCE-FILE, 0, length (x .bytes), 0) ∷ []))
@@ -173,7 +176,7 @@ module _ (L : P.Limits) (x : Source) (fuel evcap R : ℕ) {d : Tally} {t : Whole
           outcome = ap outcomeOf (field (λ s. s .mode)) ∙ ap outcome-of (sym (m .mode));
           covered = field (λ s. s .pos) ∙ covered;
           event-count = many-events;
-          error-count = B .count (put .room z);
+          error-count = B .count (put .room z) ∙ sym (bare-length (B .records)) ∙ ap length (sym (m .written .past));
           left = field (λ s. s .fuel) ∙ sym (m .fuel);
         }
 
@@ -195,7 +198,7 @@ module _ (L : P.Limits) (x : Source) (fuel : ℕ) (xs er₀ sc₀ l₀ : List �
       (blank-wf x fuel (length xs - EVENT) (length er₀) (L .quote) (midOf EVENT (length xs - EVENT) xs) er₀ sc₀ (omega (arith, mid-len EVENT (length xs) xs (le-refl (length xs)))) (le-refl (length er₀)) i, (refl, refl))
 
   pub frames : {bounds : ℕ × Bool} {d : Tally} {t : Whole} {ev₁ ev₂ er sc : List ℕ} → sc₀ ≡ replicate (length sc₀) 0 → EVENT ≤ length xs → (E : ℕ) → length xs ≡ E → take EVENT xs ≡ event Sort.BEGIN k.SOURCE-FILE 0 (length (x .bytes)) 0 → reach L ≡ bounds → L .depth + 2 < 4294967296 →
-      Goes bounds (length (x .ids)) x first d (bufs (midOf EVENT (length xs - EVENT) xs) er₀ sc₀) (bufs ev₁ er sc) → Put (event Sort.END k.SOURCE-FILE 0 (length (x .bytes)) 0) (d .state) t ev₁ ev₂ →
+      Goes bounds 1 (length (x .ids)) x first d (bufs (midOf EVENT (length xs - EVENT) xs) er₀ sc₀) (bufs ev₁ er sc) → Put (event Sort.END k.SOURCE-FILE 0 (length (x .bytes)) 0) (d .state) t ev₁ ev₂ →
       Framed L x fuel E (length er₀) (record { state = t; before = d .before }) (putMid EVENT (length xs - EVENT) xs ev₂) er
   frames {bounds} {d} {t} {ev₁} {ev₂} {er} {sc} none h E whole front deep low g put =
       record {
@@ -206,10 +209,10 @@ module _ (L : P.Limits) (x : Source) (fuel : ℕ) (xs er₀ sc₀ l₀ : List �
       room : length xs - EVENT + EVENT ≡ E
       room = omega (arith, h, whole)
 
-      B : Between L (length xs - EVENT + EVENT) (length er₀) x d (bufs ev₁ er sc) (reading L x fuel)
+      B : Between L (length xs - EVENT + EVENT) (length er₀) (item-numbers L (x .ids) fuel) x d (bufs ev₁ er sc) (reading L x fuel)
       B =
           reads L x fuel (length xs - EVENT) (length er₀) (midOf EVENT (length xs - EVENT) xs) er₀ sc₀ (λ i. ap (λ (l : List ℕ). bitAt l i) none ∙ no-bits (length sc₀) i) deep
-          (subst (λ (c : Tally). Goes bounds (length (x .ids)) x c d (bufs (midOf EVENT (length xs - EVENT) xs) er₀ sc₀) (bufs ev₁ er sc)) begins g)
+          (subst (λ (c : Tally). Goes bounds 1 (length (x .ids)) x c d (bufs (midOf EVENT (length xs - EVENT) xs) er₀ sc₀) (bufs ev₁ er sc)) begins g)
 
 -- outcomes by the code's mode
 pub done : (m : ℕ) → m < 2 → 0 ≡ outcomeOf m

@@ -4,7 +4,6 @@ use mathlib.Core.Path.{_≡_, refl, sym, ap, ap₂, subst, _∙_}
 use mathlib.Core.List.{List, [], _∷_, _++_, append-nil, append-assoc}
 use mathlib.Core.Bool.{Bool, true, false}
 use native.Mathlib.Nat.{le-refl, le-trans, add-zero}
-use native.Mathlib.Numerals.{add-four}
 use native.Mathlib.Omega.{arith}
 use native.Mathlib.Decide.{ℕ-discrete}
 use borrow.Author.Tests.{le-ltb, lt-ltb, ltb-true}
@@ -12,7 +11,7 @@ use lib.Dec.{ltb}
 use lib.ListN.{length, getD, take, drop, length-append, length-drop}
 use lib.Seq.{take-take, getD-drop, drop-append-seam}
 use Rattle.shapes.specs.Sort as Sort
-use Rattle.shapes.proofs.Laws.{next-within, next-rest}
+use Rattle.shapes.proofs.Laws.{add-head, next-within, next-rest}
 use Rattle.shapes.specs.Shapes.{EVENT, event, HEAD, FORM, COUNT, behind, recordSize, next-record}
 use Rattle.definition.specs.Buffer.{next-depth}
 use Rattle.notes.specs.Whole.{Whole}
@@ -34,9 +33,10 @@ notes-head d i [] g h = absurd (omega arith)
 notes-head d i (a ∷ []) g h = absurd (omega arith)
 notes-head d i (a ∷ b ∷ []) g h = absurd (omega arith)
 notes-head d i (a ∷ b ∷ f ∷ []) g h = absurd (omega arith)
-notes-head d i (a ∷ b ∷ f ∷ n ∷ l) g h =
+notes-head d i (a ∷ b ∷ f ∷ o ∷ []) g h = absurd (omega arith)
+notes-head d i (a ∷ b ∷ f ∷ o ∷ n ∷ l) g h =
     ap (λ (c : Bool). elim c [ true ↦ event Sort.ERROR i a b d ++ notes d (suc i) (behind f n) l | false ↦ [] ]) (lt-ltb i most g)
-    ∙ ap (λ (t : List ℕ). event Sort.ERROR i a b d ++ t) (notes-pass d (suc i) (behind f n) l ∙ ap (λ (j : ℕ). notes d (suc i) 0 (drop j (a ∷ b ∷ f ∷ n ∷ l))) (sym (add-four (behind f n))))
+    ∙ ap (λ (t : List ℕ). event Sort.ERROR i a b d ++ t) (notes-pass d (suc i) (behind f n) l ∙ ap (λ (j : ℕ). notes d (suc i) 0 (drop j (a ∷ b ∷ f ∷ o ∷ n ∷ l))) (sym (add-head (behind f n))))
 
 notes-few : (d i : ℕ) (l : List ℕ) → length l < HEAD → notes d i 0 l ≡ []
 unfolding notes
@@ -44,7 +44,8 @@ notes-few d i [] h = refl
 notes-few d i (a ∷ []) h = refl
 notes-few d i (a ∷ b ∷ []) h = refl
 notes-few d i (a ∷ b ∷ f ∷ []) h = refl
-notes-few d i (a ∷ b ∷ f ∷ n ∷ l) h = absurd (omega arith)
+notes-few d i (a ∷ b ∷ f ∷ o ∷ []) h = refl
+notes-few d i (a ∷ b ∷ f ∷ o ∷ n ∷ l) h = absurd (omega arith)
 
 notes-most : (d i : ℕ) (l : List ℕ) → i ≡ most → notes d i 0 l ≡ []
 unfolding notes
@@ -52,7 +53,8 @@ notes-most d i [] h = refl
 notes-most d i (a ∷ []) h = refl
 notes-most d i (a ∷ b ∷ []) h = refl
 notes-most d i (a ∷ b ∷ f ∷ []) h = refl
-notes-most d i (a ∷ b ∷ f ∷ n ∷ l) h = ap (λ (c : Bool). elim c [ true ↦ event Sort.ERROR i a b d ++ notes d (suc i) (behind f n) l | false ↦ [] ]) (le-ltb i most (omega (arith, h)))
+notes-most d i (a ∷ b ∷ f ∷ o ∷ []) h = refl
+notes-most d i (a ∷ b ∷ f ∷ o ∷ n ∷ l) h = ap (λ (c : Bool). elim c [ true ↦ event Sort.ERROR i a b d ++ notes d (suc i) (behind f n) l | false ↦ [] ]) (le-ltb i most (omega (arith, h)))
 
 notes-at : (d i : ℕ) (l : List ℕ) (at : ℕ) → i < most → at + HEAD ≤ length l → notes d i 0 (drop at l) ≡ event Sort.ERROR i (getD l at 0) (getD l (at + 1) 0) d ++ notes d (suc i) 0 (drop (next-record l at) l)
 notes-at d i l at g h =
@@ -156,9 +158,9 @@ module _ {d : ℕ} {records : List ℕ} {before : ℕ} {s r : Whole} {ev ev′ :
   flush-most h = flush-all (notes-most d index (drop at records) h)
 
 -- a record as it stands, t behind its count
-pub notes-one : (d i a b f n : ℕ) (t l : List ℕ) → behind f n ≡ length t → i < most → notes d i 0 (a ∷ b ∷ f ∷ n ∷ t ++ l) ≡ event Sort.ERROR i a b d ++ notes d (suc i) 0 l
+pub notes-one : (d i a b f o n : ℕ) (t l : List ℕ) → behind f n ≡ length t → i < most → notes d i 0 (a ∷ b ∷ f ∷ o ∷ n ∷ t ++ l) ≡ event Sort.ERROR i a b d ++ notes d (suc i) 0 l
 unfolding notes
-notes-one d i a b f n t l k h =
+notes-one d i a b f o n t l k h =
     ap (λ (c : Bool). elim c [ true ↦ event Sort.ERROR i a b d ++ notes d (suc i) (behind f n) (t ++ l) | false ↦ [] ]) (lt-ltb i most h)
     ∙ ap (λ (q : List ℕ). event Sort.ERROR i a b d ++ q)
     (ap (λ (j : ℕ). notes d (suc i) j (t ++ l)) k ∙ notes-pass d (suc i) (length t) (t ++ l) ∙ ap (notes d (suc i) 0) (drop-append-seam t l))

@@ -9,6 +9,7 @@ use notes::names::ER;
 use notes::names::FAR;
 use notes::names::FIRST;
 use notes::names::ITEM;
+use notes::names::NUMBER;
 use notes::names::UNWANT;
 use notes::names::WANT;
 use notes::rows::start_of;
@@ -246,9 +247,10 @@ pub fn over(s: State, ids: &[u32]) -> bool
     s.pos >= ids.len()
 }
 
-// One item, if the state is in good order and rows are left.
+// One item with its number, if the state is in good order and rows are left.
 pub fn item(
     d: Desk,
+    number: usize,
     depth: usize,
     src: &[u8],
     ids: &[u32],
@@ -264,9 +266,10 @@ pub fn item(
         Rows (source (now src) (now ids) (now ends))
         × Wf (source (now src) (now ids) (now ends)) (bufs (now events) (now errors) (now scratch)) (whole (d .state) (now notes))
         × Settled (whole (d .state) (now notes))
+        × (number ≤ length (now ids))
         × Lends (now table) (now sets) ⌝ }
     ensures { λ r. ⌜
-        Goes (depth, allowed (now (table .entry))) 1 (source (now (src .entry)) (now (ids .entry)) (now (ends .entry))) (tally d (now (notes .entry)))
+        Goes (depth, allowed (now (table .entry))) number 1 (source (now (src .entry)) (now (ids .entry)) (now (ends .entry))) (tally d (now (notes .entry)))
         (tally r (now (notes .exit))) (bufs (now (events .entry)) (now (errors .entry)) (now (scratch .entry)))
         (bufs (now (events .exit)) (now (errors .exit)) (now (scratch .exit))) ⌝ }
 {
@@ -274,6 +277,7 @@ pub fn item(
     if over(s, ids) {
         return d;
     }
+    notes[NUMBER] = number;
     let t = s.trivia(ids, ends, events);
     let h = at_hand(
         t,
@@ -293,7 +297,7 @@ pub fn item(
     settle(u, scratch, notes)
 }
 
-// All items: each takes a row, so there are no more of them than rows.
+// All items, numbered from 1: each takes a row, so there are no more of them than rows.
 pub fn items(
     mut d: Desk,
     depth: usize,
@@ -313,7 +317,7 @@ pub fn items(
         × Settled (whole (d .state) (now notes))
         × Lends (now table) (now sets) ⌝ }
     ensures { λ r. ⌜
-        Goes (depth, allowed (now (table .entry))) (length (now (ids .entry))) (source (now (src .entry)) (now (ids .entry)) (now (ends .entry))) (tally d (now (notes .entry)))
+        Goes (depth, allowed (now (table .entry))) 1 (length (now (ids .entry))) (source (now (src .entry)) (now (ids .entry)) (now (ends .entry))) (tally d (now (notes .entry)))
         (tally r (now (notes .exit))) (bufs (now (events .entry)) (now (errors .entry)) (now (scratch .entry)))
         (bufs (now (events .exit)) (now (errors .exit)) (now (scratch .exit))) ⌝ }
 {
@@ -324,6 +328,7 @@ pub fn items(
         }
         d = item(
             d,
+            ids.len() - n + 1,
             depth,
             src,
             ids,

@@ -569,23 +569,23 @@ fn rooms() {
     rule(b"P2, room 85", 5, 1, 85, 0, false);
     rule(b"P2, room 4", 5, 1, 4, 0, false);
     rule(b"P2, room 0", 5, 1, 0, 0, false);
+    rule(b"P3, rooms 85 7", 4, 1, 85, 7, false);
+    rule(b"P3, rooms 80 7", 4, 1, 80, 7, false);
     rule(b"P3, rooms 85 6", 4, 1, 85, 6, false);
-    rule(b"P3, rooms 80 6", 4, 1, 80, 6, false);
-    rule(b"P3, rooms 85 5", 4, 1, 85, 5, false);
-    rule(b"P3, rooms 85 3", 4, 1, 85, 3, false);
+    rule(b"P3, rooms 85 4", 4, 1, 85, 4, false);
     rule(b"P3, rooms 85 0", 4, 1, 85, 0, false);
-    rule(b"P3, rooms 55 5", 4, 1, 55, 5, false);
-    rule(b"P3, rooms 50 5", 4, 1, 50, 5, false);
+    rule(b"P3, rooms 55 6", 4, 1, 55, 6, false);
+    rule(b"P3, rooms 50 6", 4, 1, 50, 6, false);
 }
 
 // Form 10's record comes before its event.
 fn stray_rooms() {
+    p7(b"P7, rooms 115 5", 115, 5);
+    p7(b"P7, rooms 110 5", 110, 5);
     p7(b"P7, rooms 115 4", 115, 4);
-    p7(b"P7, rooms 110 4", 110, 4);
-    p7(b"P7, rooms 115 3", 115, 3);
-    p7(b"P7, rooms 5 3", 5, 3);
     p7(b"P7, rooms 5 4", 5, 4);
-    p7(b"P7, rooms 4 3", 4, 3);
+    p7(b"P7, rooms 5 5", 5, 5);
+    p7(b"P7, rooms 4 4", 4, 4);
     p7(b"P7, rooms 0 0", 0, 0);
 }
 
@@ -650,8 +650,8 @@ fn not_text_twice() {
 // Form 9's record has the place of the bad byte behind its count.
 fn places() {
     not_text(b"ED A0 80", b"rule \xED\xA0\x80", 8, 32);
+    not_text(b"ED A0 80, room 6", b"rule \xED\xA0\x80", 8, 6);
     not_text(b"ED A0 80, room 5", b"rule \xED\xA0\x80", 8, 5);
-    not_text(b"ED A0 80, room 4", b"rule \xED\xA0\x80", 8, 4);
     not_text(b"F4 90 80 80", b"rule \xF4\x90\x80\x80", 9, 32);
     not_text(b"E2 82", b"rule \xE2\x82", 7, 32);
     not_text(b"E1 41", b"rule \xE1\x41", 7, 32);
@@ -697,7 +697,7 @@ fn put(to: &mut [u32], at: usize, n: u32) {
 
 fn deep(name: &[u8], src: &[u8], ids: &[u32], starts: &[u32], ends: &[u32]) {
     let mut scratch = [5u64; 33];
-    let mut events = [5u32; 12304];
+    let mut events = [5u32; 15380];
     let mut errors = [5u32; 16];
     show(
         name,
@@ -745,6 +745,39 @@ fn signs(name: &[u8], n: usize) {
     }
 }
 
+// Junk is an item, and the rule behind it the second.
+fn behind_junk() {
+    let ids = [3, 0, 37, 0, 74, 66];
+    let starts = [0, 1, 2, 6, 7, 8];
+    let ends = [1, 2, 6, 7, 8, 9];
+    case(b"junk, rule", b"@ rule a{", &ids, &starts, &ends, 9);
+}
+
+// 900 rules of one row, a word each: each lacks its name, so that every record has an item of its own.
+fn many_rules() {
+    let src = [b'r'; 900];
+    let ids = [37u32; 900];
+    let mut starts = [0u32; 900];
+    let mut ends = [0u32; 900];
+    count_up(&mut starts, 0);
+    count_up(&mut ends, 1);
+    let mut scratch = [5u64; 29];
+    let mut events = [5u32; 18010];
+    let mut errors = [5u32; 5400];
+    show(
+        b"900 rules",
+        &src,
+        &ids,
+        &starts,
+        &ends,
+        2000,
+        &mut scratch,
+        &mut events,
+        &mut errors,
+        false,
+    );
+}
+
 fn main() {
     small_files();
     sizes();
@@ -768,6 +801,8 @@ fn main() {
     );
     limited(b"no node may be open", b"rule 123456789012345", 20, 0, 16);
     places();
+    behind_junk();
+    many_rules();
     signs(b"1016 signs", 1016);
     signs(b"1017 signs", 1017);
 }

@@ -1,6 +1,6 @@
 -- An error record as numbers, and which records read (refusal 11).
--- "An error record is start, end, form, count of names, then the names."; in form 9 the place stands behind them (request (vi)). Where its numbers stand
--- crate shapes says.
+-- "An error record is start, end, form, count of names, then the names."; behind the form its item's number (request (x)), in form 9 the place behind the
+-- names (request (vi)). Where its numbers stand crate shapes says.
 use Prim.Native.Nat.{ℕ, zero, suc, _+_, _-_}
 use mathlib.Core.List.{List, [], _∷_}
 use mathlib.Core.Bool.{Bool, true, false, cond, not, _&&_, _||_}

@@ -45,7 +45,7 @@ module _ {p : Past} {x : Source} {s : Whole} {b : Bufs} {a : P.State} (w : Wf x 
   er-count =
       sym (length-take-le (s .er) (b .errors) (omega (arith, w .0 .2 .errors, w .1 .errors)))
       ∙ ap length (m .chosen .is)
-      ∙ flat-size (p .records) (s .number) (recorded (p .limits) x (a .chosen))
+      ∙ flat-size (p .records) (p .number) (recorded (p .limits) x (a .chosen))
       ∙ ap₂ (λ (i j : ℕ). i + j) (ap lengths (sym (m .written .past)) ∙ sym (said-is (p .limits) x (a .out) []) ∙ omega arith) (sym (held-is (p .limits) x (a .chosen)))
 
 -- one moment more

@@ -27,12 +27,13 @@ pub record Bufs : Type 0 where
 abbrev pub bufs : List ℕ → List ℕ → List ℕ → Bufs
 bufs a b c = record { events = a; errors = b; scratch = c }
 
--- what stays throughout an item: the limits, the rooms, and the records of the items before with their numbers
+-- what stays throughout an item: the limits, the rooms, the records of the items before with their numbers, and the item's own
 pub record Past : Type 0 where
   pub limits : Limits
   pub event-room : ℕ
   pub error-room : ℕ
   pub records : List Owned
+  pub number : ℕ
 
 -- what a step on events must know of the rows
 pub record Lines (ids ends : List ℕ) : Type 0 where
@@ -93,10 +94,11 @@ pub record Written (x : Source) (p : Past) (ev evcap : ℕ) (events : List ℕ) 
   pub room : p .event-room ≡ evcap + EVENT
 
 pub record Chosen (x : Source) (p : Past) (first er ercap item quote number : ℕ) (errors : List ℕ) (chosen : List (ℕ × Choice)) : Type 0 where
-  pub is : take er errors ≡ flat-records (p .records ++ of-item number (recorded (p .limits) x chosen))
+  pub is : take er errors ≡ flat-records (p .records ++ of-item (p .number) (recorded (p .limits) x chosen))
   pub since : item ≡ length (flat-records (p .records))
   pub room : p .error-room ≡ ercap
   pub quoted : p .limits .quote ≡ quote
+  pub numbered : p .number ≡ number
   pub apart : Apart (length (x .ids) - first) chosen
 
 pub record Means (p : Past) (x : Source) (s : Whole) (b : Bufs) (a : P.State) : Type 0 where

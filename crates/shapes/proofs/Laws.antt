@@ -10,7 +10,7 @@ use borrow.Author.Tests.{ltb-true, ltb-false}
 use lib.Dec.{eqb, ltb}
 use lib.ListN.{length, getD, drop, replicate, length-append, drop-of-length-le}
 use lib.Seq.{drop-append-seam, drop-length, drop-drop, getD-append-add, getD-drop}
-use Rattle.shapes.specs.Shapes.{EVENT, Entry, event, flat, entries, HEAD, FORM, COUNT, Rec, Owned, flat-records, owned, of-item, bare, behind, recordSize, next-record}
+use Rattle.shapes.specs.Shapes.{EVENT, Entry, event, flat, entries, HEAD, FORM, COUNT, Rec, Owned, flat-records, owned, of-item, bare, items-in, behind, recordSize, next-record}
 
 pub event-length : (sort kind start end depth : ℕ) → length (event sort kind start end depth) ≡ EVENT
 event-length sort kind start end depth = refl
@@ -105,11 +105,6 @@ module _ (p : List ℕ) (e : Owned) (qs : List Owned) (w : behind (e .0 .2) (len
   next-begins = ap₂ (λ (i : ℕ) (l : List ℕ). drop i l) next-is parted ∙ drop-append-seam here (flat-records qs)
 
 -- RECORDS AND THEIR NUMBERS
-
--- the numbers of records
-abbrev pub items-in : List Owned → List ℕ
-items-in [] = []
-items-in (e ∷ es) = e .1 ∷ items-in es
 
 pub owned-split : (l : List Owned) → owned (bare l) (items-in l) ≡ l
 owned-split [] = refl

@@ -77,10 +77,14 @@ abbrev pub of-item : ℕ → List Rec → List Owned
 of-item i [] = []
 of-item i (q ∷ l) = (q, i) ∷ of-item i l
 
--- without their numbers
+-- records without their numbers, and the numbers alone
 abbrev pub bare : List Owned → List Rec
 bare [] = []
 bare (e ∷ es) = e .0 ∷ bare es
+
+abbrev pub items-in : List Owned → List ℕ
+items-in [] = []
+items-in (e ∷ es) = e .1 ∷ items-in es
 
 -- how many numbers stand behind a record's count
 abbrev pub behind : ℕ → ℕ → ℕ

@@ -1,7 +1,8 @@
 // Puts stored questions to the reader and holds it to the Rust's answers (docs/COMPARED.md says how they were made). A line of vectors.txt is a vector:
 // decimal numbers parted by single spaces. Eight come first: fuel; counts of source bytes and of rows; the Rust's outcome, rows covered, fuel left, and
 // counts of events and of error records. Behind them stand the source's bytes, the rows' ids, the bounds of the rows (0, then each row's end), the events
-// and the error records; an event has four numbers there, since the Rust tells no depth. The program writes the number of each line that differs or does not read, then how many vectors there are and how many agree.
+// and the error records; an event has four numbers there and a record no item, since the Rust tells neither depth nor item. The program writes the number
+// of each line that differs or does not read, then how many vectors there are and how many agree.
 use desk::read::Reading;
 use kinds::kind;
 use libc::STDOUT_FILENO;
@@ -11,6 +12,8 @@ use shapes::event::END;
 use shapes::event::EVENT;
 use shapes::event::KIND;
 use shapes::event::START;
+use shapes::record::ITEM;
+use shapes::record::next_record;
 use shapes::sort;
 ghost use Prim.Native.Nat.{_+_, _≤_, _<_};
 ghost use lib.ListN.{length};
@@ -182,6 +185,23 @@ fn strip(list: &mut [u32]) -> usize
     dropped
 }
 
+// Takes the items out of error records, which the Rust does not tell. Behind the list stand zeros, as before.
+fn unnumber(list: &mut [u32]) {
+    let mut at = 0;
+    let mut to = 0;
+    let mut item = ITEM;
+    while at < list.len() {
+        if at == item {
+            item = next_record(list, at - ITEM) + ITEM;
+        } else {
+            list[to] = list[at];
+            to += 1;
+        }
+        at += 1;
+    }
+    cells::clear(&mut list[to..]);
+}
+
 // Whether the room holds the stored list, and behind it zeros.
 fn holds(room: &[u32], stored: &[u32]) -> bool {
     if room.len() < stored.len() {
@@ -261,6 +281,7 @@ fn same_answer(
     if !holds(&list, events) {
         return false;
     }
+    unnumber(&mut notes);
     holds(&notes, records)
 }
 
