@@ -1,6 +1,6 @@
 -- What holds of the totals: they add up, each file is counted where it belongs, and a file answered as recorded has no mark. Assumes nothing.
-use Prim.Native.Nat.{ℕ, _+_, _≤_}
-use mathlib.Core.Path.{_≡_, refl, sym, ap, subst, _∙_}
+use Prim.Native.Nat.{ℕ, zero, suc, _+_}
+use mathlib.Core.Path.{_≡_, refl, sym, ap, _∙_}
 use mathlib.Core.List.{List, [], _∷_, _++_, map}
 use mathlib.Core.Bool.{Bool, true, false, not, _&&_}
 use native.Mathlib.Nat.{add-zero}
@@ -93,31 +93,33 @@ refused-alone t a n = (add-zero (t .done), add-zero (t .spent), add-zero (t .dee
 pub no-mark : (a : Answer) → differ a a ≡ false
 no-mark a = rw (eq-eqb (sortOf a) (sortOf a) refl, eq-eqb (amountOf a) (amountOf a) refl)
 
--- no mark, the same answer
-same-amount : (m n : ℕ) → not (eqb m n) ≡ false → m ≡ n
-same-amount m n h = go (eqb m n) refl h
-  where
-    go : (t : Bool) → eqb m n ≡ t → not t ≡ false → m ≡ n
-    go true e h = eqb-true m n e
-    go false e h = absurd (let z : _≡_ {A = ℕ} 0 1 = cc in omega arith)
+-- an answer is its sort and its amount
+of-sort : ℕ → ℕ → Answer
+of-sort zero n = answer.Done n
+of-sort (suc zero) n = answer.Spent n
+of-sort (suc (suc zero)) n = answer.Deep n
+of-sort (suc (suc (suc k))) n = answer.Refused n
 
+is-of-sort : (a : Answer) → of-sort (sortOf a) (amountOf a) ≡ a
+unfolding of-sort
+is-of-sort (answer.Done e) = refl
+is-of-sort (answer.Spent e) = refl
+is-of-sort (answer.Deep e) = refl
+is-of-sort (answer.Refused n) = refl
+
+both : (s t : Bool) → not (s && t) ≡ false → (s ≡ true) × (t ≡ true)
+both true true h = (refl, refl)
+both true false h = absurd (let z : _≡_ {A = ℕ} 0 1 = cc in omega arith)
+both false t h = absurd (let z : _≡_ {A = ℕ} 0 1 = cc in omega arith)
+
+-- no mark, the same answer
 pub mark-or-same : (a b : Answer) → differ a b ≡ false → a ≡ b
-mark-or-same (answer.Done d) (answer.Done e) h = ap answer.Done (same-amount d e h)
-mark-or-same (answer.Spent d) (answer.Spent e) h = ap answer.Spent (same-amount d e h)
-mark-or-same (answer.Deep d) (answer.Deep e) h = ap answer.Deep (same-amount d e h)
-mark-or-same (answer.Refused m) (answer.Refused n) h = ap answer.Refused (same-amount m n h)
-mark-or-same (answer.Done d) (answer.Spent e) h = absurd (let z : _≡_ {A = ℕ} 0 1 = cc in omega arith)
-mark-or-same (answer.Done d) (answer.Deep e) h = absurd (let z : _≡_ {A = ℕ} 0 1 = cc in omega arith)
-mark-or-same (answer.Done d) (answer.Refused n) h = absurd (let z : _≡_ {A = ℕ} 0 1 = cc in omega arith)
-mark-or-same (answer.Spent d) (answer.Done e) h = absurd (let z : _≡_ {A = ℕ} 0 1 = cc in omega arith)
-mark-or-same (answer.Spent d) (answer.Deep e) h = absurd (let z : _≡_ {A = ℕ} 0 1 = cc in omega arith)
-mark-or-same (answer.Spent d) (answer.Refused n) h = absurd (let z : _≡_ {A = ℕ} 0 1 = cc in omega arith)
-mark-or-same (answer.Deep d) (answer.Done e) h = absurd (let z : _≡_ {A = ℕ} 0 1 = cc in omega arith)
-mark-or-same (answer.Deep d) (answer.Spent e) h = absurd (let z : _≡_ {A = ℕ} 0 1 = cc in omega arith)
-mark-or-same (answer.Deep d) (answer.Refused n) h = absurd (let z : _≡_ {A = ℕ} 0 1 = cc in omega arith)
-mark-or-same (answer.Refused m) (answer.Done e) h = absurd (let z : _≡_ {A = ℕ} 0 1 = cc in omega arith)
-mark-or-same (answer.Refused m) (answer.Spent e) h = absurd (let z : _≡_ {A = ℕ} 0 1 = cc in omega arith)
-mark-or-same (answer.Refused m) (answer.Deep e) h = absurd (let z : _≡_ {A = ℕ} 0 1 = cc in omega arith)
+mark-or-same a b h =
+    let e = both (eqb (sortOf a) (sortOf b)) (eqb (amountOf a) (amountOf b)) h in
+    sym (is-of-sort a)
+    ∙ ap (λ (s : ℕ). of-sort s (amountOf a)) (eqb-true (sortOf a) (sortOf b) (e .0))
+    ∙ ap (of-sort (sortOf b)) (eqb-true (amountOf a) (amountOf b) (e .1))
+    ∙ is-of-sort b
 
 -- where the new answer is the recorded one the count of files that differ stays
 pub unmarked : (t : Tally) (a : Answer) → adding t (record { recorded = a; fate = fate.Read a }) .differ ≡ t .differ
