@@ -211,12 +211,12 @@ pub items-none : {bounds : ℕ × Bool} {x : Source} {d : Tally} {b : Bufs} (o :
 items-none o w st = same w st o 0 (λ L E R ns a B. (refl, refl))
 
 -- some number of items by another name of it
-pub goes-as : {depth o : ℕ} {x : Source} {d r : Tally} {b b′ : Bufs} (n k : ℕ) → n ≡ k → Goes bounds o n x d r b b′ → Goes bounds o k x d r b b′
-goes-as {depth} {o} {x} {d} {r} {b} {b′} n k e y = subst (λ (i : ℕ). Goes bounds o i x d r b b′) e y
+pub goes-as : {bounds : ℕ × Bool} {o : ℕ} {x : Source} {d r : Tally} {b b′ : Bufs} (n k : ℕ) → n ≡ k → Goes bounds o n x d r b b′ → Goes bounds o k x d r b b′
+goes-as {bounds} {o} {x} {d} {r} {b} {b′} n k e y = subst (λ (i : ℕ). Goes bounds o i x d r b b′) e y
 
 -- some items more
 pub goes-then : {bounds : ℕ × Bool} {x : Source} {d r q : Tally} {b b₁ b₂ : Bufs} (o n k : ℕ) → Goes bounds o n x d r b b₁ → Goes bounds (n + o) k x r q b₁ b₂ → Goes bounds o (n + k) x d q b b₂
-goes-then {depth} {x} {d} {r} {q} {b} {b₁} {b₂} o n k y z =
+goes-then {bounds} {x} {d} {r} {q} {b} {b₁} {b₂} o n k y z =
     record {
       does = λ L E R ns a i B.
           let c : P.State = P.items L n a in
@@ -260,7 +260,7 @@ module _ {bounds : ℕ × Bool} (o : ℕ) (x : Source) (d h u r : Tally) (d₁ s
   w₁ : Wf x (bufs ev er sc) (withNumber o (d .state))
   w₁ = item-wf o x (bufs ev er sc) (d .state) (withNumber o (d .state)) rows low w refl
 
-  module _ (L : Limits) (E R : ℕ) (ns : List ℕ) (a : P.State) (i : L .depth ≡ depth) (B : Between L E R ns x d (bufs ev er sc) a) where
+  module _ (L : Limits) (E R : ℕ) (ns : List ℕ) (a : P.State) (i : reach L ≡ bounds) (B : Between L E R ns x d (bufs ev er sc) a) where
     abbrev p : Past
     p = pastOf L E R (B .records) o
 
