@@ -1,5 +1,5 @@
 -- `there_and_back` is safe.
-use lib.ListN.{length-take}
+use lib.ListN.{length-set, length-take}
 use native.Mathlib.Omega.{arith}
 use borrow.Author.Needs.{needs}
 use Rattle.editions_cases.proofs.there_and_back.Statement.{statement}
@@ -48,7 +48,7 @@ slice-reshare-prefix-down-2 : tie.Need-slice-reshare-prefix-down-2
 slice-reshare-prefix-down-2 c = search needs
 
 slice-aggregate-down-2 : tie.Need-slice-aggregate-down-2
-slice-aggregate-down-2 c = simp length-take (omega arith)
+slice-aggregate-down-2 c = simp (length-take, length-set) (omega arith)
 
 down-requires-2 : tie.Need-down-requires-2
 down-requires-2 c κs = search needs
