@@ -60,19 +60,17 @@ fn answer(converted: Converted, room: &[u8], edition: &[u8]) {
     }
 }
 
-fn convert_up(text: &[u8]) {
-    let mut room = [0u8; 1048576];
-    let converted = editions::up(text, &mut room);
-    answer(converted, &room, b"1");
+fn convert_up(text: &[u8], room: &mut [u8]) {
+    let converted = editions::up(text, room);
+    answer(converted, room, b"1");
 }
 
-fn convert_down(text: &[u8]) {
-    let mut room = [0u8; 1048576];
-    let converted = editions::down(text, &mut room);
-    answer(converted, &room, b"2");
+fn convert_down(text: &[u8], room: &mut [u8]) {
+    let converted = editions::down(text, room);
+    answer(converted, room, b"2");
 }
 
-fn convert_within(up: bool, size: usize, text: &[u8])
+fn convert_within(up: bool, size: usize, text: &[u8], room: &mut [u8])
     requires { ⌜ 524288 ≤ length (now text) ⌝ }
 {
     if MOST_BYTES < size {
@@ -80,17 +78,23 @@ fn convert_within(up: bool, size: usize, text: &[u8])
         return;
     }
     if up {
-        convert_up(&text[..size]);
+        convert_up(&text[..size], room);
         return;
     }
-    convert_down(&text[..size]);
+    convert_down(&text[..size], room);
+}
+
+// As arrays, so that their lengths are known from their types.
+fn convert_taken(up: bool, size: usize, text: &[u8; 524289], room: &mut [u8; 1048576]) {
+    convert_within(up, size, text, room);
 }
 
 fn convert_input(up: bool) {
     let mut text = [0u8; 524289];
+    let mut room = [0u8; 1048576];
     match read_listing(&mut text) {
         Listing::Unreadable => say(b"convert: standard input cannot be read\n"),
-        Listing::Bytes(size) => convert_within(up, size, &text),
+        Listing::Bytes(size) => convert_taken(up, size, &text, &mut room),
     }
 }
 

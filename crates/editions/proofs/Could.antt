@@ -239,12 +239,19 @@ module _ (l : List ℕ) (r : Recorded l) where
 
   fields-free : (m : ℕ) → m < 44 → (m ≡ 32 → ⊥) → Each (Free m) (map decimal (getD l FORM 0 ∷ getD l 0 0 ∷ getD l 1 0 ∷ []) ++ (joined (map nameText (namesOf l)) ∷ placeOf l))
   unfolding placeOf
-  fields-free m h k =
-      (free-decimal m (omega arith) (getD l FORM 0),
-      (free-decimal m (omega arith) (getD l 0 0),
-      (free-decimal m (omega arith) (getD l 1 0),
-      (joined-free m (ne-eqb 45 m (λ i. omega arith)) (ne-eqb 44 m (λ i. omega arith)) (map nameText (namesOf l)) (record-names-free m (omega arith) k),
-      go (eqb (getD l FORM 0) 9)))))
+  fields-free m h k = (
+    free-decimal m (omega arith) (getD l FORM 0),
+    (
+      free-decimal m (omega arith) (getD l 0 0),
+      (
+        free-decimal m (omega arith) (getD l 1 0),
+        (
+          joined-free m (ne-eqb 45 m (λ i. omega arith)) (ne-eqb 44 m (λ i. omega arith)) (map nameText (namesOf l)) (record-names-free m (omega arith) k),
+          go (eqb (getD l FORM 0) 9),
+        ),
+      ),
+    ),
+  )
     where
       go : (t : Bool) → Each (Free m) (cond t (decimal (getD l (HEAD + getD l COUNT 0) 0) ∷ []) [])
       go true = (free-decimal m (omega arith) (getD l (HEAD + getD l COUNT 0) 0), tt)

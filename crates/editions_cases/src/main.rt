@@ -86,15 +86,21 @@ fn append(text: &[u8], room: &mut [u8], at: usize) -> usize {
     listing::put(text, room, at)
 }
 
-// 5,000 lines of edition 1: 4,996 of them are tokens.
-fn long(room: &mut [u8]) -> usize {
-    let mut at = append(b"L\t1\nB\tSOURCE_FILE\t0\t1\n", room, 0);
+fn tokens(room: &mut [u8], from: usize) -> usize {
+    let mut at = from;
     let mut i: u32 = 0;
     while i < 4996 {
         at = append(b"T\tIDENT\t0\t1\n", room, at);
         i += 1;
     }
-    append(b"E\tSOURCE_FILE\t0\t1\nR\t0\t1\t1\n", room, at)
+    at
+}
+
+// 5,000 lines of edition 1: 4,996 of them are tokens.
+fn long(room: &mut [u8]) -> usize {
+    let head = append(b"L\t1\nB\tSOURCE_FILE\t0\t1\n", room, 0);
+    let end = tokens(room, head);
+    append(b"E\tSOURCE_FILE\t0\t1\nR\t0\t1\t1\n", room, end)
 }
 
 // How long a listing comes out, and its length on the way back; then with its last depth one too large.
