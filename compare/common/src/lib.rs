@@ -154,6 +154,8 @@ pub struct Record {
     pub start: u32,
     pub end: u32,
     pub form: u32,
+    /// The number of its item, from 1.
+    pub item: u32,
     pub names: Vec<u32>,
     /// Where in the source the bad byte is; form 9 alone has it.
     pub place: Option<u32>,
@@ -162,7 +164,7 @@ pub struct Record {
 impl Record {
     /// The record as it stands in its list.
     pub fn numbers(&self) -> Vec<u32> {
-        let head = [self.start, self.end, self.form, self.names.len() as u32];
+        let head = [self.start, self.end, self.form, self.item, self.names.len() as u32];
         [&head[..], &self.names, self.place.as_slice()].concat()
     }
 }
@@ -188,13 +190,14 @@ pub fn records_of(numbers: &[u32], count: usize) -> Vec<Record> {
     let mut rest = numbers;
     let mut records = Vec::new();
     for _ in 0..count {
-        let (head, tail) = rest.split_at(4);
-        let (names, behind) = tail.split_at(head[3] as usize);
+        let (head, tail) = rest.split_at(5);
+        let (names, behind) = tail.split_at(head[4] as usize);
         let (place, after) = behind.split_at(usize::from(head[2] == 9));
         records.push(Record {
             start: head[0],
             end: head[1],
             form: head[2],
+            item: head[3],
             names: names.to_vec(),
             place: place.first().copied(),
         });

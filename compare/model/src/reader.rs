@@ -34,6 +34,8 @@ pub struct Reader<'a> {
     /// Records from here on are pending: chosen, and not yet written as events.
     settled: usize,
     pub error_numbers: usize,
+    /// How many items were begun.
+    item: u32,
     /// 7 or 8, from the first moment that exceeded a room.
     pub full: u32,
 }
@@ -55,6 +57,7 @@ impl<'a> Reader<'a> {
             records: Vec::new(),
             settled: 0,
             error_numbers: 0,
+            item: 0,
             full: 0,
         }
     }
@@ -77,6 +80,7 @@ impl<'a> Reader<'a> {
     }
 
     fn item(&mut self) {
+        self.item += 1;
         self.trivia();
         match self.question.ids.get(self.at) {
             Some(&id::IMPORT_KW) => self.run(&IMPORT_STMT),
@@ -100,7 +104,7 @@ impl<'a> Reader<'a> {
 
     fn junk(&mut self) {
         let (start, end) = self.span_of_row(self.at);
-        self.record(Record { start, end, form: 10, names: vec![], place: None });
+        self.record(Record { start, end, form: 10, item: self.item, names: vec![], place: None });
         self.error_event();
         let begun = self.open_node(kind::ERROR);
         while self.next() < self.question.ids.len() && !self.begins_rule(self.next()) {
@@ -321,7 +325,8 @@ impl<'a> Reader<'a> {
         if !pending.iter().any(|r| (r.start, r.end) == (start, end)) {
             let (form, names) = self.form(row, names);
             let bad = utf8::bad_byte(&self.question.source[start as usize..end as usize]);
-            self.record(Record { start, end, form, names, place: bad.map(|bad| start + bad as u32) });
+            let place = bad.map(|bad| start + bad as u32);
+            self.record(Record { start, end, form, item: self.item, names, place });
         }
     }
 

@@ -230,6 +230,7 @@ fn small_file(file: &Small, reading: &Reading) -> Checked {
         start: *start,
         end: *end,
         form: *form,
+        item: 1,
         names: names.to_vec(),
         place: None,
     };

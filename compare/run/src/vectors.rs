@@ -113,9 +113,11 @@ fn is_within(seen: &Seen) -> bool {
 }
 
 /// Fuel, counts of bytes and rows; outcome, rows covered, fuel left, counts of events and records; then the
-/// source, ids, the bounds of the rows from 0 on, events, without the depths that the Rust does not tell, and records.
+/// source, ids, the bounds of the rows from 0 on, events, without the depths that the Rust does not tell, and records, without
+/// their items.
 fn line(question: &Question, rust: &Reading) -> String {
-    let records: Vec<u32> = rust.records.iter().flat_map(Record::numbers).collect();
+    let without_item = |record: &Record| [&record.numbers()[..3], &record.numbers()[4..]].concat();
+    let records: Vec<u32> = rust.records.iter().flat_map(without_item).collect();
     let count = |n: usize| n as u32;
     let head = [
         question.fuel,

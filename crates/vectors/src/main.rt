@@ -193,10 +193,11 @@ fn unnumber(list: &mut [u32]) {
     while at < list.len() {
         if at == item {
             item = next_record(list, at - ITEM) + ITEM;
-        } else {
-            list[to] = list[at];
-            to += 1;
+            at += 1;
+            continue;
         }
+        move_number(list, at, to);
+        to += 1;
         at += 1;
     }
     cells::clear(&mut list[to..]);
