@@ -30,16 +30,20 @@ fn numbers(l: &[u32], from: usize, to: usize) {
     }
 }
 
-// One line a record.
+// The line of the record that begins there, and where the next one begins.
+fn record(errors: &[u32], at: usize) -> usize {
+    let to = next_record(errors, at);
+    write(b" error");
+    numbers(errors, at, to);
+    write(b"\n");
+    to
+}
+
 fn records(errors: &[u32], count: u32) {
     let mut at = 0;
     let mut n = 0;
     while n < count {
-        let to = next_record(errors, at);
-        write(b" error");
-        numbers(errors, at, to);
-        write(b"\n");
-        at = to;
+        at = record(errors, at);
         n += 1;
     }
 }
