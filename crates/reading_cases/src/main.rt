@@ -9,9 +9,13 @@ fn write(text: &[u8]) {
     io::write_all(STDOUT_FILENO, text);
 }
 
-fn figure(n: u64) {
+fn number(n: u64) {
     write(b" ");
     io::print_decimal(STDOUT_FILENO, n);
+}
+
+fn figure(n: u32) {
+    number(n as u64);
 }
 
 // The numbers from an index on and up to another.
@@ -21,40 +25,44 @@ fn numbers(l: &[u32], from: usize, to: usize) {
         if i >= to {
             return;
         }
-        figure(l[i] as u64);
+        figure(l[i]);
         i += 1;
     }
 }
 
-// One line a record.
+// The line of the record that begins there, and where the next one begins.
+fn record(errors: &[u32], at: usize) -> usize {
+    let to = next_record(errors, at);
+    write(b" error");
+    numbers(errors, at, to);
+    write(b"\n");
+    to
+}
+
 fn records(errors: &[u32], count: u32) {
     let mut at = 0;
     let mut n = 0;
     while n < count {
-        let to = next_record(errors, at);
-        write(b" error");
-        numbers(errors, at, to);
-        write(b"\n");
-        at = to;
+        at = record(errors, at);
         n += 1;
     }
 }
 
 // A refusal with the first number of each list, which are 5 as they are lent.
-fn refused(number: u32, scratch: &[u64; 3], events: &[u32; 1024], errors: &[u32; 64]) {
+fn refused(refusal: u32, scratch: &[u64; 3], events: &[u32; 1024], errors: &[u32; 64]) {
     write(b" refused");
-    figure(number as u64);
+    figure(refusal);
     write(b", lists");
-    figure(scratch[0]);
-    figure(events[0] as u64);
-    figure(errors[0] as u64);
+    number(scratch[0]);
+    figure(events[0]);
+    figure(errors[0]);
     write(b"\n");
 }
 
 // Outcome, rows covered, counts of events and error records, fuel left.
 fn tell(reading: Reading, scratch: &[u64; 3], events: &[u32; 1024], errors: &[u32; 64]) {
     match reading {
-        Reading::Refused(number) => refused(number, scratch, events, errors),
+        Reading::Refused(n) => refused(n, scratch, events, errors),
         Reading::Answered {
             outcome,
             covered,
@@ -62,11 +70,11 @@ fn tell(reading: Reading, scratch: &[u64; 3], events: &[u32; 1024], errors: &[u3
             errors: count,
             left,
         } => {
-            figure(outcome as u64);
-            figure(covered as u64);
-            figure(written as u64);
-            figure(count as u64);
-            figure(left as u64);
+            figure(outcome);
+            number(covered as u64);
+            number(written as u64);
+            figure(count);
+            figure(left);
             write(b"\n");
             records(errors, count);
         }
@@ -101,7 +109,7 @@ fn read(
         Named::BadLine(line) => {
             refused(19, &scratch, &events, &errors);
             write(b" line");
-            figure(line as u64);
+            figure(line);
             write(b"\n");
         }
         Named::Read(reading) => tell(reading, &scratch, &events, &errors),
@@ -114,7 +122,7 @@ fn ask(name: &[u8], text: &[u8], edition: u32, fuel: u32, src: &[u8]) {
     let mut ends = [0u32; 64];
     write(name);
     match cutter::cut(src, &mut ids, &mut starts, &mut ends) {
-        Cut::Refused(number) => figure(number as u64),
+        Cut::Refused(n) => figure(n),
         Cut::Rows(count) => {
             let n = count as usize;
             if n <= 64 {

@@ -6,7 +6,7 @@ use Rattle.reading.specs.Reading.{outcomeOf}
 use Rattle.stableglow.specs.Face.{readFace, readFaced}
 use Rattle.stableglow.proofs.Lines.{line-told}
 """
-LEFT = "({read} .last .1 .1 .1 .1 .1 .1 .1 .1 .1 .0) ({read} .last .1 .1 .1 .1 .1 .1 .1 .1 .1 .1 .0) ({read} .last .1 .1 .1 .1 .1 .1 .1 .1 .0)"
+LEFT = "({read} .last .1 .1 .1 .1 .1 .1 .1 .1 .0) ({read} .last .1 .1 .1 .1 .1 .1 .1 .1 .1 .0) ({read} .last .1 .1 .1 .1 .1 .1 .1 .0)"
 
 
 def told(place):
