@@ -1,4 +1,4 @@
--- Written from tools/answers/reading/read.py, digest 03330796e34c.
+-- Written from tools/answers/reading/read.py, digest ab79622d4fc1.
 -- By what the settings text gives for the edition.
 use native.Mathlib.Omega.{arith}
 use mathlib.Core.Path.{refl, sym, ap, _∙_}

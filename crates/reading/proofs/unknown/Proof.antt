@@ -1,4 +1,4 @@
--- Written from tools/answers/reading/unknown.py, digest 6b90871d72f1.
+-- Written from tools/answers/reading/unknown.py, digest 254d597b89c1.
 -- 18 behind the refusals before it.
 use Rattle.refusals.specs.Judge.{desk}
 use Rattle.reading.proofs.Naming.{refused-before, refused-last}

@@ -1,4 +1,4 @@
--- Written from tools/answers/stableglow/stableglow_read.py, digest 77a3aafd82b4.
+-- Written from tools/answers/stableglow/stableglow_read.py, digest f41341460c47.
 -- The C face of the reader by editions: the line of 19, or the reading's numbers.
 use mathlib.Core.Path.{sym, ap, _∙_}
 use Rattle.reading.specs.declared.Named.{Named}
