@@ -325,7 +325,8 @@ runs errors m d [] e l = runs-last (suc (suc m)) d RESULT (λ i. omega arith) l 
 runs errors m d (a ∷ []) e l = absurd e
 runs errors m d (a ∷ b ∷ []) e l = absurd e
 runs errors m d (a ∷ b ∷ c ∷ []) e l = absurd e
-runs errors m d (a ∷ b ∷ c ∷ f ∷ events) (x, v, w) {text} l =
+runs errors m d (a ∷ b ∷ c ∷ f ∷ []) e l = absurd e
+runs errors m d (a ∷ b ∷ c ∷ f ∷ depth ∷ events) (x, v, w) {text} l =
     subst (Runs (suc (suc m)) d) (sym (append-assoc (eventLine errors a b c f) (eventLines errors events) text))
     (runs-more (suc (suc m)) d a (λ i. omega arith) (event-line v) x (runs errors (suc m) (opened a d) events w l))
 

@@ -44,7 +44,8 @@ Events errors d [] = d ≡ 0
 Events errors d (a ∷ []) = ⊥
 Events errors d (a ∷ b ∷ []) = ⊥
 Events errors d (a ∷ b ∷ c ∷ []) = ⊥
-Events errors d (a ∷ b ∷ c ∷ e ∷ events) = (allowed a d ≡ true) × Event errors a b c e × Events errors (opened a d) events
+Events errors d (a ∷ b ∷ c ∷ e ∷ []) = ⊥
+Events errors d (a ∷ b ∷ c ∷ e ∷ depth ∷ events) = (allowed a d ≡ true) × Event errors a b c e × Events errors (opened a d) events
 
 pub data Could : List ℕ → Type 0 where
   was-read : (events errors : List ℕ) (outcome rows fuel : ℕ) → Events errors 0 events → Small outcome → Small rows → Small fuel → Could (listed events errors outcome rows fuel)
