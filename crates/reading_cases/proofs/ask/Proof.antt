@@ -2,14 +2,14 @@
 use native.Mathlib.Omega.{arith}
 use lib.ListN.{length-take}
 use borrow.Author.Needs.{needs}
-use Rattle.editions_cases.proofs.ask.Statement.{statement}
-use Rattle.editions_cases.proofs.ask.Tie as tie
-use Rattle.editions_cases.proofs.ask.Reads as reads
-use Rattle.editions_cases.proofs.ask.Lts as lts
+use Rattle.reading_cases.proofs.ask.Statement.{statement}
+use Rattle.reading_cases.proofs.ask.Tie as tie
+use Rattle.reading_cases.proofs.ask.Reads as reads
+use Rattle.reading_cases.proofs.ask.Lts as lts
 use Rattle.cutter.proofs.cut.Reads as cut-reads
-use Rattle.editions_cases.proofs.figure.Reads as figure-reads
-use Rattle.editions_cases.proofs.read.Reads as read-reads
-use Rattle.editions_cases.proofs.write.Reads as write-reads
+use Rattle.reading_cases.proofs.figure.Reads as figure-reads
+use Rattle.reading_cases.proofs.read.Reads as read-reads
+use Rattle.reading_cases.proofs.write.Reads as write-reads
 
 write-requires : tie.Need-write-requires
 write-requires c κs = search needs
