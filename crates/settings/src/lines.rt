@@ -83,7 +83,12 @@ fn fields(edition: &[u8], fuel: &[u8], depth: &[u8], quote: &[u8], entrypoint: u
     let Number::Is(quote) = read_number(quote) else {
         return Line::Unread;
     };
-    let values = Values { fuel, depth, quote, entrypoint };
+    let values = Values {
+        fuel,
+        depth,
+        quote,
+        entrypoint,
+    };
     if !allowed(values) {
         return Line::Unread;
     }
