@@ -1,7 +1,6 @@
 // Reads the rows of one file from standard input, and writes what the reader and the merger make of them (document 01, "Small files"), by edition 1 or by
 // the edition that the arguments name: --settings FILE --edition N.
 use desk::read::Reading;
-use reading::Named;
 use libc::STDERR_FILENO;
 use libc::STDIN_FILENO;
 use libc::STDOUT_FILENO;
@@ -9,6 +8,7 @@ use listing::Line;
 use listing::Next;
 use listing::Number;
 use merger::Merged;
+use reading::Named;
 use settings::Chosen;
 use shapes::event::END;
 use shapes::event::EVENT;

@@ -1,8 +1,8 @@
 // Runs readings by settings editions over rule text; `stdout` has what document 02 and docs/DECISIONS.md ask for.
 use cutter::Cut;
 use desk::read::Reading;
-use reading::Named;
 use libc::STDOUT_FILENO;
+use reading::Named;
 use shapes::record::next_record;
 
 fn write(text: &[u8]) {

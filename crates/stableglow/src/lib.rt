@@ -1,10 +1,10 @@
 // The public face: what C and Rust link.
 use cutter::Cut;
 use desk::read::Reading;
-use reading::Named;
 use merger::Merged;
 use messages::Written;
 use outline::Listed;
+use reading::Named;
 use shapes::refusal;
 ghost use mathlib.Core.Path.{_≡_};
 ghost use Prim.Native.Nat.{ℕ};
