@@ -41,11 +41,11 @@ int main(void) {
     const uint32_t rule_ids[] = {37, 0, 74, 66, 12, 58, 41, 67}, rule_ends[] = {4, 5, 6, 7, 16, 17, 21, 22};
     const uint32_t hex_ids[] = {75, 60, 66, 81, 70, 80, 71, 67, 80}, hex_ends[] = {2, 3, 4, 6, 7, 8, 9, 10, 12};
     static uint8_t spaces[LONGEST + 1];
-    uint32_t events[80] = {0}, errors[16] = {0}, answer[5] = {0};
+    uint32_t events[18 * STABLEGLOW_EVENT] = {0}, errors[16] = {0}, answer[5] = {0};
     uint64_t scratch[1] = {0};
     expect("a rule", cut(rule, 22, ROOM, ROOM, ROOM) == 0 && rows(8, rule_ids, rule_ends));
-    expect("its rows read", stableglow_read((const uint8_t *)rule, 22, ids, count, starts, count, ends, count, 5, scratch, 1, events,
-                                            80, errors, 16, answer) == 0 && answer[0] == 0 && answer[1] == 8 && answer[3] == 0);
+    expect("its rows read", stableglow_read((const uint8_t *)rule, 22, ids, count, starts, count, ends, count, NULL, 0, 1, 5, scratch, 1, events,
+                                            18 * STABLEGLOW_EVENT, errors, 16, answer) == 0 && answer[0] == 0 && answer[1] == 8 && answer[3] == 0);
     expect("room exact", cut(rule, 22, 8, 8, 8) == 0 && rows(8, rule_ids, rule_ends));
     expect("no room for ids", cut(rule, 22, 7, ROOM, ROOM) == 13 && as_lent());
     expect("no room for starts", cut(rule, 22, ROOM, 7, ROOM) == 13 && as_lent());

@@ -4,7 +4,7 @@
 
 #include "../include/stableglow.h"
 
-enum { LENT = 77, ROOM = 64, ROWS = 16, EVENT_ROOM = 160, ERROR_ROOM = 32 };
+enum { LENT = 77, ROOM = 64, ROWS = 16, EVENT_ROOM = 40 * STABLEGLOW_EVENT, ERROR_ROOM = 32 };
 
 static int failed = 0;
 
@@ -35,13 +35,14 @@ int main(void) {
     uint32_t ids[ROWS], starts[ROWS], ends[ROWS], count, events[EVENT_ROOM], errors[ERROR_ROOM], answer[5];
     uint64_t scratch[1];
     expect("cut", stableglow_cut((const uint8_t *)source, 23, ids, ROWS, starts, ROWS, ends, ROWS, &count) == 0);
-    expect("read", stableglow_read((const uint8_t *)source, 23, ids, count, starts, count, ends, count, 5, scratch, 1, events, EVENT_ROOM,
+    expect("read", stableglow_read((const uint8_t *)source, 23, ids, count, starts, count, ends, count, NULL, 0, 1, 5, scratch, 1, events, EVENT_ROOM,
                                    errors, ERROR_ROOM, answer) == 0 && answer[3] == 2);
+    expect("items", errors[3] == 1 && errors[5 + 3] == 2);
     told("junk", source, errors, ERROR_ROOM, ROOM, 0, "expecting import statement or rule definition");
-    told("end of file", source, errors + 4, ERROR_ROOM - 4, ROOM, 0, "expecting operator or `}`, found end of file");
-    told("room exact", source, errors + 4, ERROR_ROOM - 4, 44, 0, "expecting operator or `}`, found end of file");
-    told("a byte less", source, errors + 4, ERROR_ROOM - 4, 43, 12, "");
-    told("cut short", source, errors + 4, 5, ROOM, 11, "");
+    told("end of file", source, errors + 5, ERROR_ROOM - 5, ROOM, 0, "expecting operator or `}`, found end of file");
+    told("room exact", source, errors + 5, ERROR_ROOM - 5, 44, 0, "expecting operator or `}`, found end of file");
+    told("a byte less", source, errors + 5, ERROR_ROOM - 5, 43, 12, "");
+    told("cut short", source, errors + 5, 6, ROOM, 11, "");
     told("no numbers, no room", source, errors, 0, 0, 11, "");
     puts(failed ? "0 passed, 1 failed" : "1 passed, 0 failed");
     return failed;

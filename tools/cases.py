@@ -2,13 +2,16 @@
 """Writes crates/definition/specs/Cases.antt from a folder of cases: cases.py FOLDER [--check].
 
 A case is NAME.yar (the source), NAME.rows (its rows, and the fuel) and NAME.raw (the listing, not merged, of a copy of the Rust that
-keeps empty ERROR nodes). With --check nothing is written; the tool only says whether the file is what the folder gives.
+keeps empty ERROR nodes). What the listing does not show is counted here: an event's depth from its begins and ends, and the item of an error record by
+the rows. An item begins with a node of depth 1 whose first row is one of the five words, or with an error of form 10; the errors that follow are its own.
+With --check nothing is written; the tool only says whether the file is what the folder gives.
 """
 import sys
 from pathlib import Path
 
 OUT = Path(__file__).resolve().parent.parent / "crates" / "definition" / "specs" / "Cases.antt"
 SORTS = {"B": 1, "T": 2, "E": 3}
+WORDS = {"GLOBAL_KW", "PRIVATE_KW", "RULE_KW", "IMPORT_KW", "INCLUDE_KW"}
 HEAD = """-- Answers to a dozen files, events and error records whole, of a copy of the Rust that keeps empty ERROR nodes (decision 1). But for these nodes they are
 -- the Rust's own, which is run (compare/, `run cases`). tools/cases.py writes this file from the listings in compare/cases.
 use Prim.Native.Nat.{ℕ}
@@ -54,15 +57,20 @@ def fields(path):
 
 def case(folder, stem):
     rows = fields(folder / f"{stem}.rows")
-    events, errors, records = [], [], 0
+    words = {r[2] for r in rows[1:] if r[1].split()[-1] in WORDS}
+    events, errors, records, depth, item = [], [], 0, 0, 0
     for f in fields(folder / f"{stem}.raw")[1:-1]:
         if f[0] == "X":
             names = [] if f[4] == "-" else f[4].split(",")
-            events.append(f"4 ∷ {records} ∷ {f[2]} ∷ {f[3]}")
-            errors += [f[2], f[3], f[1], len(names)] + [name(n) for n in names] + f[5:]
+            item += f[1] == "10"
+            events.append(f"4 ∷ {records} ∷ {f[2]} ∷ {f[3]} ∷ {depth}")
+            errors += [f[2], f[3], f[1], item, len(names)] + [name(n) for n in names] + f[5:]
             records += 1
         else:
-            events.append(f"{SORTS[f[0]]} ∷ {name(f[1])} ∷ {f[2]} ∷ {f[3]}")
+            depth -= f[0] == "E"
+            item += f[0] == "B" and depth == 1 and f[2] in words
+            events.append(f"{SORTS[f[0]]} ∷ {name(f[1])} ∷ {f[2]} ∷ {f[3]} ∷ {depth}")
+            depth += f[0] == "B"
     outcome, covered, left = fields(folder / f"{stem}.raw")[-1][1:]
     text = (folder / f"{stem}.yar").read_text().replace("\\", "\\\\").replace('"', '\\"').replace("\n", "\\n")
     title = stem.split("-", 1)[1]

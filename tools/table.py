@@ -6,7 +6,8 @@ A row of the table is a combinator and up to three operands, which are a set and
 it: one number, in octal the combinator's digits and three digits for each operand. The third operand of a row, production, repetition, `then`,
 `not` or `recover` is the row of what follows it, 0 where nothing does, so row 0 is never read; the second of a `then` is its part with what
 follows. The third operand of alternatives is 1 where the first of them does nothing unless a row of its first set is there.
-Parts that are the same, with what follows them, share a row."""
+Parts that are the same, with what follows them, share a row.
+The table is written for the grammar in which entrypoint is allowed; the one row that is another where it is not stands beside it."""
 import re
 import sys
 import textwrap
@@ -59,13 +60,16 @@ def application(ws):
     return (head, args + rest)
 
 
-def defined():
-    """The definition's abbreviations, as parameters and body, and its productions, in its order."""
+def defined(allowed):
+    """The definition's abbreviations, as parameters and body, and its productions, in its order, with entrypoint allowed or not."""
     short, lines = {}, {}
     for head, body in re.findall(r"^([a-z][^\n=]*?) =((?:[^\n]*\n)(?: [^\n]*\n)*)", text_of("crates/definition/specs/Grammar.antt"), flags=re.M):
         name, *rest = head.split()
         if name == "grammar":
-            lines[rest[0]] = term(words(body))
+            lines[rest[1]] = term(words(body))
+        elif name == "plain-terms":
+            if rest == [allowed]:
+                short[name] = (["E"], term(words(body)))
         elif name not in ("kind", "item-of"):
             short[name] = (rest, term(words(body)))
     return short, lines
@@ -182,10 +186,12 @@ class Table:
         return f"0o{OPS.index(op):o}_{a:03o}_{b:03o}_{then:03o}"
 
 
-def source(table):
+def source(table, place, less):
     out = ["// The grammar's lines as rows, in octal: the combinator's number, then three digits for each of its operands. Row 0 is never read: as an operand it says\n// that nothing follows. Written by tools/table.py from crates/definition/specs/Grammar.antt, the comments too: the part behind `if` is read only\n// where such a row is next, `!` is a row that must not be there, and `recover` skips to such a row after a failure.\n"]
     out.append("// The rows of items, by their first row.")
     out.extend(f"pub const {name}: usize = {table.lines[name]};\n" for name in ITEMS)
+    out.append("// The row that is another where entrypoint is not allowed, what it is where it is, and where it is not.")
+    out.append(f"pub const LITERAL: usize = {place};\n\npub const LITERAL_ALL: u32 = {table.octal(table.rows[place])};\n\npub const LITERAL_LESS: u32 = {less};\n")
     out.append(f"pub const ROWS: [u32; {len(table.rows)}] = [\n    {table.octal(table.rows[0])},")
     for comment, begin, end in table.sections:
         out.extend("    // " + line for line in textwrap.wrap(comment, 145, break_long_words=False, break_on_hyphens=False))
@@ -194,24 +200,35 @@ def source(table):
     return "\n".join(out) + "\n"
 
 
-def spec(table):
+def spec(table, place, less):
     head = "-- The rows of the grammar's table, as the code has them. Written by tools/table.py.\n"
-    head += "use Prim.Native.Nat.{ℕ}\nuse mathlib.Core.List.{List, [], _∷_}\n\n"
+    head += "use Prim.Native.Nat.{ℕ}\nuse mathlib.Core.Bool.{Bool, true, false}\nuse mathlib.Core.List.{List, [], _∷_}\n\n"
     head += f"-- how many there are, and the rows of items, by their first row\nabbrev pub size : ℕ\nsize = {len(table.rows)}\n\n"
     for name in ITEMS:
         known = name.lower().replace("_", "-")
         head += f"abbrev pub {known} : ℕ\n{known} = {table.lines[name]}\n\n"
-    head += "abbrev pub rows : List ℕ\nrows =\n"
-    return head + "\n".join(f"    {'' if i == 0 else '∷ '}{table.octal(row)}" for i, row in enumerate(table.rows)) + "\n    ∷ []\n"
+    head += f"-- the row that is another where entrypoint is not allowed, and what it is\nabbrev pub literal : ℕ\nliteral = {place}\n\n"
+    head += f"abbrev pub literal-row : Bool → ℕ\nliteral-row true = {table.octal(table.rows[place])}\nliteral-row false = {less}\n\n"
+    head += "abbrev pub rows : Bool → List ℕ\nrows E =\n"
+    rows = ["literal-row E" if i == place else table.octal(row) for i, row in enumerate(table.rows)]
+    return head + "\n".join(f"    {'' if i == 0 else '∷ '}{row}" for i, row in enumerate(rows)) + "\n    ∷ []\n"
+
+
+def made(allowed):
+    """The table with entrypoint allowed or not, and how many productions it has."""
+    short, productions = defined(allowed)
+    lines = [(name, body) for name, body in reversed(productions.items())] + [(name, term(words(text))) for name, text in ITEMS.items()]
+    parts = [(name, opened(body, short)) for name, body in lines]
+    return Table([(name, f"{name.replace('-', '_')} <- {said(part)}", part) for name, part in parts]), len(productions)
 
 
 def main():
-    short, productions = defined()
-    lines = [(name, body) for name, body in reversed(productions.items())] + [(name, term(words(text))) for name, text in ITEMS.items()]
-    parts = [(name, opened(body, short)) for name, body in lines]
-    table = Table([(name, f"{name.replace('-', '_')} <- {said(part)}", part) for name, part in parts])
+    table, productions = made("true")
+    other, _ = made("false")
+    (place,) = [i for i, row in enumerate(table.rows) if other.rows[i] != row]
+    less = other.octal(other.rows[place])
     wrong = []
-    for path, text in (("crates/grammar/src/table.rt", source(table)), ("crates/grammar/specs/Rows.antt", spec(table))):
+    for path, text in (("crates/grammar/src/table.rt", source(table, place, less)), ("crates/grammar/specs/Rows.antt", spec(table, place, less))):
         if "--check" in sys.argv:
             if text_of(path) != text:
                 wrong.append(path)
@@ -219,7 +236,7 @@ def main():
             (ROOT / path).write_text(text, encoding="utf-8")
     if wrong:
         raise SystemExit("not as tools/table.py writes them: " + ", ".join(wrong))
-    print(f"table: {len(table.rows)} rows, {len(productions)} productions")
+    print(f"table: {len(table.rows)} rows, {productions} productions")
 
 
 main()

@@ -1,16 +1,15 @@
 //! Writes the numbers of docs/KINDS.md as Rust, so that the page stays the only place that says them.
 
+#[path = "../../bindings/rust/page.rs"]
+mod page;
+
+use page::{constant, rows};
 use std::fmt::Write;
-use std::path::{Path, PathBuf};
+use std::path::Path;
 use std::{env, fs};
 
 fn main() {
-    let page = env::var_os("STABLEGLOW_KINDS").map(PathBuf::from).unwrap_or_else(|| {
-        Path::new(&env::var_os("CARGO_MANIFEST_DIR").unwrap()).join("../../docs/KINDS.md")
-    });
-    println!("cargo:rerun-if-env-changed=STABLEGLOW_KINDS");
-    println!("cargo:rerun-if-changed={}", page.display());
-    let text = fs::read_to_string(&page).unwrap_or_else(|e| panic!("{}: {e}", page.display()));
+    let text = page::read("../../docs/KINDS.md");
     let (ids, kinds, names) = (rows(&text, "Ids"), rows(&text, "Kinds"), rows(&text, "Names"));
     let mut out = String::new();
     constants(&mut out, "id", "IDS", &ids);
@@ -25,20 +24,6 @@ fn main() {
     fs::write(place, out).unwrap();
 }
 
-/// The cells of the table under a heading; the numbers must stand in order from 0.
-fn rows(text: &str, heading: &str) -> Vec<Vec<String>> {
-    let title = format!("## {heading}");
-    let part = text.lines().skip_while(|l| *l != title).skip(1).take_while(|l| !l.starts_with("## "));
-    let cells = part.filter(|l| l.starts_with("| ") && !l.starts_with("| number"));
-    let rows: Vec<Vec<String>> =
-        cells.map(|l| l.trim_matches('|').split('|').map(|c| c.trim().to_string()).collect()).collect();
-    for (i, row) in rows.iter().enumerate() {
-        assert_eq!(row[0], i.to_string(), "{heading} out of order");
-    }
-    assert!(!rows.is_empty(), "no table under {heading}");
-    rows
-}
-
 /// The page's descriptions, by name. They stand as plain text, since one is the sign that parts cells.
 fn descriptions(text: &str) -> Vec<String> {
     let part = text.lines().skip_while(|l| *l != "## Descriptions").filter(|l| l.starts_with("| "));
@@ -51,8 +36,7 @@ fn constants(out: &mut String, module: &str, list: &str, rows: &[Vec<String>]) {
     writeln!(out, "pub const {list}: &[&str] = &{all:?};").unwrap();
     writeln!(out, "pub mod {module} {{").unwrap();
     for row in rows {
-        let constant = row[1].replace(' ', "_").to_uppercase();
-        writeln!(out, "    pub const {constant}: u32 = {};", row[0]).unwrap();
+        writeln!(out, "    pub const {}: u32 = {};", constant(row), row[0]).unwrap();
     }
     writeln!(out, "}}").unwrap();
 }

@@ -11,7 +11,7 @@ const SEED: u64 = 1;
 /// Generated rule files one after another, those that the PEG accepts, cut after some rows.
 pub fn realistic(rows: usize) -> Question {
     let files = (0..).map(|n| case(Sort::File, SEED, n));
-    let whole = files.filter(|q| model::peg::accepts(&q.ids));
+    let whole = files.filter(|q| model::peg::accepts(&q.ids, true));
     let all: Vec<Row> = whole.flat_map(|q| q.rows().unwrap()).take(rows).collect();
     Question::new(&all, FUEL)
 }

@@ -87,7 +87,7 @@ pub type Best = (Duration, Duration);
 /// The sides take turns, so that both see the same of what else the machine does.
 fn measure(name: &str, files: &[Question], (other, ours): &mut (Crate, Ours)) -> Best {
     files.iter().for_each(|file| check(file, ours));
-    let events: usize = files.iter().map(|file| ours.read(file).1.len() / 4).sum();
+    let events: usize = files.iter().map(|file| ours.read(file).1.len() / common::EVENT).sum();
     let mut once = || {
         let crates: Duration = files.iter().map(|file| other.read(file)).sum();
         let mine: Duration = files.iter().map(|file| ours.read(file).0).sum();

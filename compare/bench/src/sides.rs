@@ -1,6 +1,6 @@
 //! One reading by each side, from rows to merged events, with its time.
 
-use common::{scratch_words, strip_empty_errors, Event, Question};
+use common::{scratch_words, strip_empty_errors, Event, Question, EVENT};
 use library::{cut_into, merge_into, read_into, Lent};
 use std::time::Duration;
 
@@ -44,11 +44,11 @@ impl Ours {
             errors: &mut self.errors[..error_room(rows)],
         };
         let refusal = read_into(q, lent, &mut self.answer);
-        let raw = &self.events[..4 * self.answer[2] as usize];
+        let raw = &self.events[..EVENT * self.answer[2] as usize];
         let refusal_of_merge = merge_into(raw, &mut self.merged[..raw.len()], &mut count);
         let time = cpu() - start;
         assert_eq!((refusal, refusal_of_merge), (0, 0), "{rows} rows are refused");
-        (time, &self.merged[..4 * count as usize])
+        (time, &self.merged[..EVENT * count as usize])
     }
 }
 
@@ -68,7 +68,7 @@ pub fn cut(source: &[u8]) -> (Duration, Question) {
 }
 
 fn event_room(rows: usize) -> usize {
-    4 * (EVENTS_A_ROW * rows + BESIDES)
+    EVENT * (EVENTS_A_ROW * rows + BESIDES)
 }
 
 fn error_room(rows: usize) -> usize {

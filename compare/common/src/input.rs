@@ -1,7 +1,7 @@
 //! The program's input: `S`, file name, fuel; then `T`, id, start, end per row, parted by tabs.
 
 use crate::kinds::IDS;
-use crate::{scratch_words, Question};
+use crate::{scratch_words, Question, TODAY};
 
 /// What the lines say. The file is named and not yet opened.
 #[derive(Clone, Debug, PartialEq, Eq)]
@@ -46,6 +46,7 @@ impl Lines {
             starts: self.starts.clone(),
             ends: self.ends.clone(),
             fuel: self.fuel,
+            limits: TODAY,
             scratch: scratch_words(self.ids.len()),
             event_room,
             error_room,

@@ -15,12 +15,27 @@ pub mod kinds {
 
 use kinds::kind;
 
-pub type Event = [u32; 4];
+/// Sort, kind or record index, start, end, and the count of nodes open around it.
+pub type Event = [u32; EVENT];
+
+pub const EVENT: usize = 5;
 
 pub const BEGIN: u32 = 1;
 pub const TOKEN: u32 = 2;
 pub const END: u32 = 3;
 pub const ERROR: u32 = 4;
+
+/// What a settings edition gives besides fuel: nodes that may be open besides SOURCE_FILE, bytes of found text that are still shown, and
+/// whether entrypoint is a term.
+#[derive(Clone, Copy, Debug, PartialEq, Eq, Hash)]
+pub struct Limits {
+    pub depth: usize,
+    pub quote: usize,
+    pub entrypoint: bool,
+}
+
+/// Edition 1's.
+pub const TODAY: Limits = Limits { depth: 1_024, quote: 15, entrypoint: true };
 
 /// One call of the reader. The lists may differ in length or fail to tile: that is for the refusals to say.
 #[derive(Clone, Debug, PartialEq, Eq, Hash)]
@@ -30,6 +45,7 @@ pub struct Question {
     pub starts: Vec<u32>,
     pub ends: Vec<u32>,
     pub fuel: u32,
+    pub limits: Limits,
     /// Words of scratch, then numbers of room for events and for error records.
     pub scratch: usize,
     pub event_room: usize,
@@ -50,9 +66,9 @@ impl Question {
         source.shrink_to_fit();
         [&mut ids, &mut starts, &mut ends].into_iter().for_each(Vec::shrink_to_fit);
         let scratch = scratch_words(ids.len());
-        let event_room = 4 * (64 * (ids.len() + 1)).max(16_384);
+        let event_room = EVENT * (64 * (ids.len() + 1)).max(16_384);
         let error_room = (32 * (ids.len() + 1)).max(4_096);
-        Self { source, ids, starts, ends, fuel, scratch, event_room, error_room }
+        Self { source, ids, starts, ends, fuel, limits: TODAY, scratch, event_room, error_room }
     }
 
     /// The rows with their texts, if the lists are equally long and lie in the source.
@@ -138,6 +154,8 @@ pub struct Record {
     pub start: u32,
     pub end: u32,
     pub form: u32,
+    /// The number of its item, from 1.
+    pub item: u32,
     pub names: Vec<u32>,
     /// Where in the source the bad byte is; form 9 alone has it.
     pub place: Option<u32>,
@@ -146,13 +164,25 @@ pub struct Record {
 impl Record {
     /// The record as it stands in its list.
     pub fn numbers(&self) -> Vec<u32> {
-        let head = [self.start, self.end, self.form, self.names.len() as u32];
+        let head = [self.start, self.end, self.form, self.item, self.names.len() as u32];
         [&head[..], &self.names, self.place.as_slice()].concat()
     }
 }
 
 pub fn events_of(numbers: &[u32]) -> Vec<Event> {
-    numbers.chunks_exact(4).map(|e| [e[0], e[1], e[2], e[3]]).collect()
+    numbers.chunks_exact(EVENT).map(|e| e.try_into().unwrap()).collect()
+}
+
+/// Events with their depths, counted from the start of the list. An end with none open is at depth 0.
+pub fn counted(events: impl IntoIterator<Item = [u32; EVENT - 1]>) -> Vec<Event> {
+    let mut open = 0u32;
+    let mut deep = |[sort, what, start, end]: [u32; EVENT - 1]| {
+        open = open.saturating_sub(u32::from(sort == END));
+        let event = [sort, what, start, end, open];
+        open += u32::from(sort == BEGIN);
+        event
+    };
+    events.into_iter().map(&mut deep).collect()
 }
 
 /// Takes `count` error records out of the numbers that hold them.
@@ -160,13 +190,14 @@ pub fn records_of(numbers: &[u32], count: usize) -> Vec<Record> {
     let mut rest = numbers;
     let mut records = Vec::new();
     for _ in 0..count {
-        let (head, tail) = rest.split_at(4);
-        let (names, behind) = tail.split_at(head[3] as usize);
+        let (head, tail) = rest.split_at(5);
+        let (names, behind) = tail.split_at(head[4] as usize);
         let (place, after) = behind.split_at(usize::from(head[2] == 9));
         records.push(Record {
             start: head[0],
             end: head[1],
             form: head[2],
+            item: head[3],
             names: names.to_vec(),
             place: place.first().copied(),
         });
@@ -182,12 +213,12 @@ pub fn reading_of(side: &dyn Side, question: &Question) -> Result<Reading, u32> 
         return Err(reply.refusal);
     }
     let [outcome, rows, events, errors, fuel] = reply.answer;
-    let raw = &reply.events[..4 * events as usize];
+    let raw = &reply.events[..EVENT * events as usize];
     let merged = side.merge(raw, raw.len());
     assert_eq!(merged.refusal, 0, "the merger refuses what the reader wrote");
     Ok(Reading {
         raw: events_of(raw),
-        merged: events_of(&merged.room[..4 * merged.count as usize]),
+        merged: events_of(&merged.room[..EVENT * merged.count as usize]),
         records: records_of(&reply.errors, errors as usize),
         outcome,
         rows,

@@ -8,7 +8,7 @@ use std::fmt::Write;
 pub fn listing(reading: &Reading, events: &[Event]) -> String {
     let mut out = String::from("L\t1\n");
     for event in events {
-        let [sort, what, start, end] = *event;
+        let [sort, what, start, end, _] = *event;
         let letter = match sort {
             BEGIN => "B",
             END => "E",

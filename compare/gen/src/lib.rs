@@ -8,7 +8,7 @@ pub mod spoil;
 pub mod text;
 
 use common::kinds::{id, IDS};
-use common::{Question, Side};
+use common::{Limits, Question, Side};
 use model::Model;
 use rng::Rng;
 
@@ -26,10 +26,11 @@ pub enum Sort {
     Nest,
     Room,
     Refusal,
+    Edition,
 }
 
-/// The sorts, and how many cases of each there are in a round of 40.
-pub const SORTS: [(Sort, usize); 12] = [
+/// The sorts, and how many cases of each there are in a round of 44.
+pub const SORTS: [(Sort, usize); 13] = [
     (Sort::Sentence, 4),
     (Sort::Mutant, 9),
     (Sort::Short, 6),
@@ -42,6 +43,7 @@ pub const SORTS: [(Sort, usize); 12] = [
     (Sort::Room, 2),
     (Sort::Refusal, 1),
     (Sort::Nest, 1),
+    (Sort::Edition, 4),
 ];
 
 /// Enough for nearly all, and little enough that calls within calls end soon.
@@ -84,7 +86,15 @@ pub fn case(sort: Sort, seed: u64, number: u64) -> Question {
         }
         Sort::Room => spoil::rooms(plain(rng), rng),
         Sort::Refusal => spoil::refused(plain(rng), rng),
+        Sort::Edition => Question { limits: limits(rng), ..plain(rng) },
     }
+}
+
+/// Limits of a later edition: a depth at both ends and between, quote lengths about 15 and at both ends.
+fn limits(rng: &mut Rng) -> Limits {
+    let depth = rng.pick(&[1, 2, 3, 5, 8, 13, 40, 1_023, 1_024]);
+    let quote = rng.pick(&[0, 1, 4, 14, 15, 15, 15, 15, 15, 16, 255]);
+    Limits { depth, quote, entrypoint: rng.percent(50) }
 }
 
 /// A case of one of the sorts that tile and have room.

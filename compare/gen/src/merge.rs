@@ -2,11 +2,17 @@
 
 use crate::rng::Rng;
 use common::kinds::kind;
-use common::{Event, BEGIN, END, ERROR, TOKEN};
+use common::{counted, Event, BEGIN, END, ERROR, EVENT, TOKEN};
+
+type Bare = [u32; EVENT - 1];
 
 /// Nested nodes, many of them ERROR and side by side. With `rising` the spans are a reader's: none starts
 /// before its forerunner or ends before it.
 pub fn list(rising: bool, rng: &mut Rng) -> Vec<Event> {
+    counted(bare(rising, rng))
+}
+
+fn bare(rising: bool, rng: &mut Rng) -> Vec<Bare> {
     let mut events = Vec::new();
     let mut place = 0;
     let mut open: Vec<(u32, u32)> = Vec::new();
@@ -34,7 +40,7 @@ pub fn list(rising: bool, rng: &mut Rng) -> Vec<Event> {
     events
 }
 
-fn close(events: &mut Vec<Event>, open: &mut Vec<(u32, u32)>, place: u32) {
+fn close(events: &mut Vec<Bare>, open: &mut Vec<(u32, u32)>, place: u32) {
     if let Some((kind, begin)) = open.pop() {
         events[begin as usize][3] = place;
         events.push([END, kind, events[begin as usize][2], place]);
@@ -43,12 +49,23 @@ fn close(events: &mut Vec<Event>, open: &mut Vec<(u32, u32)>, place: u32) {
 
 /// Numbers that the merger may have to refuse, and a room of about the right size.
 pub fn wild(rng: &mut Rng) -> (Vec<u32>, usize) {
-    let mut numbers = list(rng.percent(50), rng).concat();
+    let mut events = bare(rng.percent(50), rng);
+    if rng.percent(15) {
+        // An end too many; its depth and those behind it are counted as far as they can be.
+        let at = rng.below(events.len() + 1);
+        events.insert(at, [END, rng.pick(&[kind::ERROR, kind::TERM]), 0, 0]);
+    }
+    let mut events = counted(events);
+    if rng.percent(15) && !events.is_empty() {
+        let at = rng.below(events.len());
+        events[at][4] = rng.pick(&[0, 1, events[at][4] + 1, events[at][4].wrapping_sub(1), u32::MAX]);
+    }
+    let mut numbers = events.concat();
     if rng.percent(20) {
         numbers.truncate(rng.below(numbers.len() + 1));
     }
     if rng.percent(20) && !numbers.is_empty() {
-        let at = rng.below(numbers.len() / 4 + 1) * 4;
+        let at = rng.below(numbers.len() / EVENT + 1) * EVENT;
         numbers.iter_mut().skip(at).take(1).for_each(|s| *s = rng.pick(&[0, 1, 3, 5, u32::MAX]));
     }
     let short = if rng.percent(50) { rng.below(16) } else { 0 };

@@ -3,7 +3,7 @@
 use crate::any_id;
 use crate::rng::Rng;
 use common::kinds::id;
-use common::{Question, Side};
+use common::{Question, Side, EVENT};
 use model::Model;
 
 /// So many faults of the kinds that people and cut files make.
@@ -33,8 +33,8 @@ pub fn rooms(mut question: Question, rng: &mut Rng) -> Question {
     let reply = Model.read(&question);
     let records = common::records_of(&reply.errors, reply.answer[3] as usize);
     let errors = records.iter().map(|r| r.numbers().len()).sum();
-    let events = least_event_room(&question, 4 * reply.answer[2] as usize);
-    question.event_room = room(events, 4, rng);
+    let events = least_event_room(&question, EVENT * reply.answer[2] as usize);
+    question.event_room = room(events, EVENT, rng);
     question.error_room = room(errors, 1, rng);
     question
 }

@@ -12,7 +12,9 @@ mod reader;
 pub mod utf8;
 
 use common::kinds::IDS;
-use common::{scratch_words, Merged, Question, Record, Reply, Side, Told, LENT, LENT_BYTE, LENT_WORD};
+use common::{
+    counted, scratch_words, Merged, Question, Record, Reply, Side, Told, LENT, LENT_BYTE, LENT_WORD,
+};
 
 pub struct Model;
 
@@ -40,7 +42,7 @@ impl Side for Model {
         if reader.full == 0 {
             let counts = (reader.events.len() as u32, reader.records.len() as u32);
             reply.answer = [reader.outcome(), reader.at as u32, counts.0, counts.1, reader.fuel];
-            let events = reader.events.concat();
+            let events = counted(reader.events).concat();
             reply.events[..events.len()].copy_from_slice(&events);
             let errors: Vec<u32> = reader.records.iter().flat_map(Record::numbers).collect();
             reply.errors[..errors.len()].copy_from_slice(&errors);

@@ -5,7 +5,7 @@ use common::kinds::DESCRIPTIONS;
 
 /// The message of the record that the numbers begin with, if it reads.
 pub fn text(source: &[u8], numbers: &[u32]) -> Option<Vec<u8>> {
-    let &[start, end, form, count, ref behind @ ..] = numbers else { return None };
+    let &[start, end, form, _item, count, ref behind @ ..] = numbers else { return None };
     let found = source.get(start as usize..end as usize)?;
     let names = behind.get(..count as usize)?;
     if form == 9 && behind.len() == names.len() {

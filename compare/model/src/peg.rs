@@ -1,13 +1,13 @@
 //! Acceptance: Ford's parsing expressions over the same productions, without events, errors or fuel.
 
 use crate::grammar::{Part, Set, ITEM};
-use common::kinds::{is_trivia, ID_OF_KIND};
+use common::kinds::{is_trivia, kind, ID_OF_KIND};
 use std::collections::HashMap;
 
-/// Whether the rows, trivia aside, are a run of none or more items from first to last.
-pub fn accepts(ids: &[u32]) -> bool {
+/// Whether the rows, trivia aside, are a run of none or more items from first to last, where entrypoint is a term or is not.
+pub fn accepts(ids: &[u32], entrypoint: bool) -> bool {
     let rows: Vec<u32> = ids.iter().copied().filter(|i| !is_trivia(*i)).collect();
-    let mut peg = Peg { rows: &rows, known: HashMap::new() };
+    let mut peg = Peg { rows: &rows, entrypoint, known: HashMap::new() };
     let mut at = 0;
     while at < rows.len() {
         match peg.run(&ITEM, at) {
@@ -20,6 +20,7 @@ pub fn accepts(ids: &[u32]) -> bool {
 
 struct Peg<'a> {
     rows: &'a [u32],
+    entrypoint: bool,
     /// What each node gave at each row, or calls within calls would take for ever.
     known: HashMap<(*const Part, usize), Option<usize>>,
 }
@@ -58,6 +59,7 @@ impl Peg<'_> {
     }
 
     fn is_next(&self, set: Set, at: usize) -> bool {
-        self.rows.get(at).is_some_and(|id| set.iter().any(|k| ID_OF_KIND[*k as usize] == *id))
+        let allowed = |k: u32| self.entrypoint || k != kind::ENTRYPOINT_KW;
+        self.rows.get(at).is_some_and(|id| set.iter().any(|k| ID_OF_KIND[*k as usize] == *id && allowed(*k)))
     }
 }

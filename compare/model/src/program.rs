@@ -1,11 +1,11 @@
 //! What the program writes for an input.
 
 use crate::Model;
-use common::{input, listing, reading_of};
+use common::{input, listing, reading_of, EVENT};
 
 const BYTES: usize = 65_536;
 const ROWS: usize = 4_096;
-const EVENT_ROOM: usize = 4 * 4_096;
+const EVENT_ROOM: usize = EVENT * 3_276;
 const ERROR_ROOM: usize = 16_384;
 
 /// `open` gives the bytes of a named file, or nothing if it cannot be had, which counts as line 1.

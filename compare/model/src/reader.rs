@@ -3,12 +3,8 @@
 use crate::grammar::{Part, Set, IMPORT_STMT, INCLUDE_STMT, RULE_DECL};
 use crate::utf8;
 use common::kinds::{id, is_trivia, kind, ID_OF_KIND};
-use common::{Event, Question, Record, BEGIN, END, ERROR, TOKEN};
+use common::{Question, Record, BEGIN, END, ERROR, EVENT, TOKEN};
 use std::collections::{BTreeMap, BTreeSet, HashSet};
-
-/// Nodes that may be open besides SOURCE_FILE, and bytes of found text that are still shown.
-const DEPTH: usize = 1_024;
-const QUOTE: usize = 15;
 
 #[derive(Clone, Copy, PartialEq, Eq)]
 enum State {
@@ -33,11 +29,13 @@ pub struct Reader<'a> {
     cache: HashSet<(usize, u32)>,
     expected: BTreeMap<usize, Vec<u32>>,
     unexpected: BTreeSet<usize>,
-    pub events: Vec<Event>,
+    pub events: Vec<[u32; EVENT - 1]>,
     pub records: Vec<Record>,
     /// Records from here on are pending: chosen, and not yet written as events.
     settled: usize,
     pub error_numbers: usize,
+    /// How many items were begun.
+    item: u32,
     /// 7 or 8, from the first moment that exceeded a room.
     pub full: u32,
 }
@@ -59,6 +57,7 @@ impl<'a> Reader<'a> {
             records: Vec::new(),
             settled: 0,
             error_numbers: 0,
+            item: 0,
             full: 0,
         }
     }
@@ -81,6 +80,7 @@ impl<'a> Reader<'a> {
     }
 
     fn item(&mut self) {
+        self.item += 1;
         self.trivia();
         match self.question.ids.get(self.at) {
             Some(&id::IMPORT_KW) => self.run(&IMPORT_STMT),
@@ -104,7 +104,7 @@ impl<'a> Reader<'a> {
 
     fn junk(&mut self) {
         let (start, end) = self.span_of_row(self.at);
-        self.record(Record { start, end, form: 10, names: vec![], place: None });
+        self.record(Record { start, end, form: 10, item: self.item, names: vec![], place: None });
         self.error_event();
         let begun = self.open_node(kind::ERROR);
         while self.next() < self.question.ids.len() && !self.begins_rule(self.next()) {
@@ -151,7 +151,7 @@ impl<'a> Reader<'a> {
             self.set(State::OutOfFuel);
         } else {
             self.fuel -= 1;
-            if self.open == DEPTH {
+            if self.open == self.question.limits.depth {
                 self.set(State::TooDeep);
             }
         }
@@ -325,7 +325,8 @@ impl<'a> Reader<'a> {
         if !pending.iter().any(|r| (r.start, r.end) == (start, end)) {
             let (form, names) = self.form(row, names);
             let bad = utf8::bad_byte(&self.question.source[start as usize..end as usize]);
-            self.record(Record { start, end, form, names, place: bad.map(|bad| start + bad as u32) });
+            let place = bad.map(|bad| start + bad as u32);
+            self.record(Record { start, end, form, item: self.item, names, place });
         }
     }
 
@@ -346,7 +347,7 @@ impl<'a> Reader<'a> {
         } else if text.is_empty() {
             (3, names)
         } else {
-            (if text.len() > QUOTE { 2 } else { 1 }, names)
+            (if text.len() > self.question.limits.quote { 2 } else { 1 }, names)
         }
     }
 
@@ -369,7 +370,8 @@ impl<'a> Reader<'a> {
 
     fn kind_in(&self, set: Set, row: usize) -> Option<u32> {
         let id = *self.question.ids.get(row)?;
-        set.iter().copied().find(|k| ID_OF_KIND[*k as usize] == id)
+        let allowed = |k: u32| self.question.limits.entrypoint || k != kind::ENTRYPOINT_KW;
+        set.iter().copied().find(|k| ID_OF_KIND[*k as usize] == id && allowed(*k))
     }
 
     fn trivia(&mut self) {
@@ -416,9 +418,9 @@ impl<'a> Reader<'a> {
         }
     }
 
-    fn write(&mut self, event: Event) {
+    fn write(&mut self, event: [u32; EVENT - 1]) {
         self.events.push(event);
-        if self.full == 0 && 4 * self.events.len() > self.question.event_room {
+        if self.full == 0 && EVENT * self.events.len() > self.question.event_room {
             self.full = 7;
         }
     }

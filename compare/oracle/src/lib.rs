@@ -13,8 +13,10 @@ pub mod tokenizer {
     pub use crate::stand_in::{Token, TokenId, Tokenizer};
 }
 
-use common::{BEGIN, END, ERROR, Event, Question, Reading, Record, TOKEN};
+use common::{BEGIN, END, ERROR, Event, Question, Reading, Record, TOKEN, counted};
+use common::kinds::id;
 use cst::error_merger::ErrorMerger;
+use std::collections::HashSet;
 
 /// What the probe saw of one reading.
 pub struct Probed {
@@ -37,9 +39,10 @@ pub fn told(question: &Question) -> (Reading, Vec<String>) {
         _ => None,
     });
     let texts = texts.collect();
-    let (raw, records) = with_records(probed.events.iter().cloned(), &question.source);
+    let (raw, mut records) = with_records(probed.events.iter().cloned(), &question.source);
     let (merged, again) = with_records(ErrorMerger::new(probed.events.into_iter()), &question.source);
     assert_eq!(records, again, "merging leaves errors alone");
+    count_items(&raw, question, &mut records);
     let reading = Reading {
         raw,
         merged,
@@ -83,7 +86,7 @@ fn tokens(question: &Question) -> Vec<tokenizer::Token> {
 
 /// The Rust's merger on any list; an error keeps its index as its message.
 pub fn merge(events: &[Event]) -> Vec<Event> {
-    let given = events.iter().map(|[sort, what, start, end]| {
+    let given = events.iter().map(|[sort, what, start, end, _]| {
         let span = Span(*start..*end);
         let kind = || stand_in::SyntaxKind::ALL[*what as usize];
         match *sort {
@@ -113,12 +116,33 @@ fn with_records(events: impl Iterator<Item = cst::Event>, source: &[u8]) -> (Vec
         let (form, names) = message::apart(message, &source[span.range()]);
         let place = if form == 9 { bad_byte(&source[span.range()]) } else { None };
         let place = place.map(|bad| span.0.start + bad as u32);
-        records.push(Record { start: span.0.start, end: span.0.end, form, names, place });
+        records.push(Record { start: span.0.start, end: span.0.end, form, item: 0, names, place });
         records.len() as u32 - 1
     });
     (events, records)
 }
 
+/// The Rust tells no item: it is counted by the rows. An item begins with a node of depth 1 whose first row is one of
+/// the five words, or with an error of form 10; the errors that follow are its own.
+fn count_items(raw: &[Event], question: &Question, records: &mut [Record]) {
+    let words = [id::GLOBAL_KW, id::PRIVATE_KW, id::RULE_KW, id::IMPORT_KW, id::INCLUDE_KW];
+    let rows = question.ids.iter().zip(&question.starts);
+    let begins: HashSet<u32> = rows.filter(|(id, _)| words.contains(id)).map(|(_, start)| *start).collect();
+    let mut item = 0;
+    for [sort, what, start, _, depth] in raw {
+        match *sort {
+            BEGIN => item += u32::from(*depth == 1 && begins.contains(start)),
+            ERROR => {
+                let record = &mut records[*what as usize];
+                item += u32::from(record.form == 10);
+                record.item = item;
+            }
+            _ => {}
+        }
+    }
+}
+
+/// The Rust tells no depth: it is counted.
 fn numbers(
     events: impl Iterator<Item = cst::Event>,
     mut index: impl FnMut(&str, &Span) -> u32,
@@ -132,5 +156,5 @@ fn numbers(
         };
         [sort, what, span.0.start, span.0.end]
     };
-    events.map(number).collect()
+    counted(events.map(number))
 }

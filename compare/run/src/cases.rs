@@ -3,7 +3,7 @@
 use crate::judge::{same_lines, stripped};
 use common::kinds::{id, kind, name};
 use common::listing::listing;
-use common::{input, reading_of, Question, Reading, Record, Side, BEGIN, END};
+use common::{counted, input, reading_of, Question, Reading, Record, Side, BEGIN, END, EVENT};
 use generate::text::{id_of, OTHERS};
 use model::utf8;
 use std::error::Error;
@@ -198,8 +198,9 @@ pub fn small(side: &dyn Side) -> Checked {
     same_lines("P4", &listing(&p4, &p4.merged), P4)?;
     let p8 = reading_of(side, &question(SMALL[7].text, 6)).unwrap();
     expect("P8", p8.raw.iter().filter(|e| e[..2] == [BEGIN, kind::RULE_DECL]).count() == 1)?;
-    let p9 = side.merge(&[BEGIN, 87, 0, 1, END, 87, 0, 1, BEGIN, 87, 1, 3, END, 87, 1, 3], 8);
-    expect("P9", p9.room == [BEGIN, kind::ERROR, 0, 3, END, kind::ERROR, 0, 3] && p9.count == 2)?;
+    let p9 = counted([[BEGIN, 87, 0, 1], [END, 87, 0, 1], [BEGIN, 87, 1, 3], [END, 87, 1, 3]]).concat();
+    let p9 = side.merge(&p9, 2 * EVENT);
+    expect("P9", p9.room == [BEGIN, kind::ERROR, 0, 3, 0, END, kind::ERROR, 0, 3, 0] && p9.count == 2)?;
     sizes(side)
 }
 
@@ -229,6 +230,7 @@ fn small_file(file: &Small, reading: &Reading) -> Checked {
         start: *start,
         end: *end,
         form: *form,
+        item: 1,
         names: names.to_vec(),
         place: None,
     };
@@ -245,7 +247,7 @@ fn expect(what: &str, holds: bool) -> Checked {
     }
 }
 
-/// Found text of 15 and 16 bytes; 65,536 and 65,537 rows; a room exact and four less; node 1,024 and 1,025.
+/// Found text of 15 and 16 bytes; 65,536 and 65,537 rows; a room exact and five less; node 1,024 and 1,025.
 fn sizes(side: &dyn Side) -> Checked {
     for (length, form) in [(15, 1), (16, 2)] {
         let found = "x".repeat(length);
@@ -256,7 +258,7 @@ fn sizes(side: &dyn Side) -> Checked {
         let rows = vec![(id::IDENT, b"x".to_vec()); rows];
         expect("rows", side.read(&Question::new(&rows, 0)).refusal == refusal)?;
     }
-    for (room, refusal) in [(72, 0), (68, 7)] {
+    for (room, refusal) in [(18 * EVENT, 0), (17 * EVENT, 7)] {
         let exact = Question { event_room: room, ..question(R, 5) };
         expect("room", side.read(&exact).refusal == refusal)?;
     }

@@ -6,7 +6,7 @@ use crate::judge::stripped;
 use crate::minimise::minimise;
 use common::kinds::kind;
 use common::listing::listing;
-use common::{reading_of, Question, Side, BEGIN, END};
+use common::{counted, reading_of, Question, Side, BEGIN, END, EVENT};
 use model::Model;
 
 type Told = Result<(), String>;
@@ -54,15 +54,15 @@ fn differs(differs: bool) -> Told {
 /// Lists that no reader writes: ours carries the least start and the greatest end, the Rust's the first
 /// start and the last end. One pass: what joining brings side by side is not joined again.
 fn merger() -> Told {
-    let list = [
+    let list = counted([
         [BEGIN, kind::ERROR, 1, 1],
         [END, kind::ERROR, 1, 1],
         [BEGIN, kind::ERROR, 0, 0],
         [END, kind::ERROR, 0, 0],
-    ];
-    let ours = Model.merge(&list.concat(), 16);
+    ]);
+    let ours = Model.merge(&list.concat(), EVENT * list.len());
     let rust = oracle::merge(&list);
     println!("Merger on a list that no reader writes: ERROR 1..1, then ERROR 0..0.");
-    println!("  ours {:?}, the Rust's {:?}", &ours.room[..4], rust[0]);
-    differs(ours.room[..4] != rust[0])
+    println!("  ours {:?}, the Rust's {:?}", &ours.room[..EVENT], rust[0]);
+    differs(ours.room[..EVENT] != rust[0])
 }

@@ -1,14 +1,17 @@
 //! Puts one question to every side and compares.
 
 use crate::messages;
+use common::kinds::id;
 use common::listing::listing;
-use common::{events_of, reading_of, strip_empty_errors, Question, Reading, Reply, Side};
+use common::{events_of, reading_of, strip_empty_errors, Limits, Question, Reading, Reply, Side, EVENT, TODAY};
 use model::{utf8, Model};
 use std::panic::{catch_unwind, AssertUnwindSafe};
 
 /// What is worth counting about a case on which all sides agree.
 pub struct Seen {
     pub refusal: u32,
+    /// Whether the Rust was asked.
+    pub with_rust: bool,
     pub outcome: u32,
     pub forms: Vec<u32>,
     /// Whether a row has a text that only one side takes for UTF-8, or another bad byte.
@@ -27,13 +30,17 @@ pub fn judge(question: &Question, library: Option<&dyn Side>) -> Result<Seen, St
         Ok(reading) => reading,
     };
     let stripped = stripped(&ours);
-    same_as_rust(question, &stripped, library)?;
-    let accepted = model::peg::accepts(&question.ids);
+    let with_rust = rust_has(question);
+    if with_rust {
+        same_as_rust(question, &stripped, library)?;
+    }
+    let accepted = model::peg::accepts(&question.ids, question.limits.entrypoint);
     if ours.outcome == 0 && accepted != ours.records.is_empty() {
         return Err(format!("the PEG accepts: {accepted}; error records: {}", ours.records.len()));
     }
     Ok(Seen {
         refusal: 0,
+        with_rust,
         outcome: ours.outcome,
         forms: ours.records.iter().map(|r| r.form).collect(),
         outside_utf8: !same_utf8(question),
@@ -43,7 +50,14 @@ pub fn judge(question: &Question, library: Option<&dyn Side>) -> Result<Seen, St
 }
 
 fn refused(refusal: u32) -> Seen {
-    Seen { refusal, outcome: 0, forms: vec![], outside_utf8: false, accepted: false, has_empty_errors: false }
+    Seen { refusal, with_rust: false, outcome: 0, forms: vec![], outside_utf8: false, accepted: false, has_empty_errors: false }
+}
+
+/// The Rust shows found text of 15 bytes and no more, and has entrypoint: other editions are the model's alone, those without entrypoint on
+/// sources that have such a row.
+fn rust_has(question: &Question) -> bool {
+    let Limits { quote, entrypoint, .. } = question.limits;
+    quote == TODAY.quote && (entrypoint || !question.ids.contains(&id::ENTRYPOINT_KW))
 }
 
 /// The Rust is never too deep. But too deep acts as out of fuel does, so with one begin step less than
@@ -99,7 +113,10 @@ pub fn same_lines(what: &str, ours: &str, theirs: &str) -> Result<(), String> {
 fn same_replies(question: &Question, library: &dyn Side) -> Result<(), String> {
     let (ours, theirs) = (Model.read(question), library.read(question));
     if ours != theirs {
-        if ours.refusal == 0 && theirs.refusal == 0 && theirs.answer[2] as usize * 4 <= theirs.events.len() {
+        if ours.refusal == 0
+            && theirs.refusal == 0
+            && theirs.answer[2] as usize * EVENT <= theirs.events.len()
+        {
             same_events(&ours, &theirs)?;
         }
         let told = |r: &Reply| format!("refusal {} answer {:?}", r.refusal, r.answer);
@@ -111,14 +128,14 @@ fn same_replies(question: &Question, library: &dyn Side) -> Result<(), String> {
             told(&theirs)
         ));
     }
-    let events = &ours.events[..4 * ours.answer[2] as usize];
+    let events = &ours.events[..EVENT * ours.answer[2] as usize];
     same_merges(events, events.len(), library)?;
-    same_merges(events, events.len().saturating_sub(4), library)
+    same_merges(events, events.len().saturating_sub(EVENT), library)
 }
 
 fn same_events(ours: &Reply, theirs: &Reply) -> Result<(), String> {
     let lines = |reply: &Reply| {
-        let events = events_of(&reply.events[..4 * reply.answer[2] as usize]);
+        let events = events_of(&reply.events[..EVENT * reply.answer[2] as usize]);
         events.iter().map(|e| format!("{e:?}\n")).collect::<String>()
     };
     same_lines("library, events", &lines(ours), &lines(theirs))

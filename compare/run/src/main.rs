@@ -10,7 +10,7 @@ mod modes;
 mod tally;
 mod vectors;
 
-use common::{events_of, Question, Side};
+use common::{events_of, Question, Side, EVENT};
 use generate::rng::Rng;
 use generate::{case, Sort, SORTS};
 use model::Model;
@@ -135,9 +135,9 @@ fn merges(count: u64, seed: u64) -> Result<(), String> {
     for n in 0..count {
         let rng = &mut Rng::new(seed, n);
         let list = generate::merge::list(true, rng);
-        let ours = Model.merge(&list.concat(), 4 * list.len());
+        let ours = Model.merge(&list.concat(), EVENT * list.len());
         let rust = oracle::merge(&list);
-        if events_of(&ours.room[..4 * ours.count as usize]) != rust {
+        if events_of(&ours.room[..EVENT * ours.count as usize]) != rust {
             return Err(format!("merge {seed} {n}: {list:?} becomes {ours:?}, in the Rust {rust:?}"));
         }
         let (numbers, room) = generate::merge::wild(rng);

@@ -81,7 +81,8 @@ fn spoiled(rng: &mut Rng) -> (Vec<u8>, Vec<u32>) {
     }
     let end = if form == 3 { a.min(b) } else { a.max(b) };
     let place = (form == 9).then(|| rng.below(source.len() + 1) as u32);
-    let mut numbers = Record { start: a.min(b), end, form, names, place }.numbers();
+    let item = rng.below(900) as u32;
+    let mut numbers = Record { start: a.min(b), end, form, item, names, place }.numbers();
     let at = rng.below(numbers.len());
     match rng.below(8) {
         0 => numbers[at] = rng.pick(&[0, 1, 9, 10, 11, 84, 85, u32::MAX]),

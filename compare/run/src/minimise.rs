@@ -59,7 +59,8 @@ fn shorter_texts(best: &mut Question, fails: &impl Fn(&Question) -> bool) {
 fn with_rows(question: &Question, rows: &[(u32, Vec<u8>)]) -> Question {
     let plain = Question::new(rows, question.fuel);
     let (event_room, error_room) = (question.event_room, question.error_room);
-    Question { event_room, error_room, scratch: question.scratch.max(plain.scratch), ..plain }
+    let scratch = question.scratch.max(plain.scratch);
+    Question { limits: question.limits, event_room, error_room, scratch, ..plain }
 }
 
 fn less_fuel(best: &mut Question, fails: &impl Fn(&Question) -> bool) {

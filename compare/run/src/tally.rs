@@ -24,7 +24,7 @@ const HEAD: &str = "sort           cases  with Rust  no fuel  too deep  refused 
 impl Tally {
     pub fn add(&mut self, seen: &Seen) {
         self.cases += 1;
-        self.compared += usize::from(seen.refusal == 0);
+        self.compared += usize::from(seen.with_rust);
         self.out_of_fuel += usize::from(seen.outcome == 1);
         self.too_deep += usize::from(seen.outcome == 2);
         self.refused[seen.refusal as usize] += 1;

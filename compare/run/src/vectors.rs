@@ -5,7 +5,7 @@ use crate::judge::{judge, Seen};
 use crate::tally::{report, Tally};
 use crate::{differing, hash, library, round};
 use common::kinds::id;
-use common::{Question, Reading, Record};
+use common::{Question, Reading, Record, EVENT};
 use generate::{case, Sort, SORTS};
 use std::collections::HashSet;
 use std::path::Path;
@@ -113,9 +113,11 @@ fn is_within(seen: &Seen) -> bool {
 }
 
 /// Fuel, counts of bytes and rows; outcome, rows covered, fuel left, counts of events and records; then the
-/// source, ids, the bounds of the rows from 0 on, events and records.
+/// source, ids, the bounds of the rows from 0 on, events, without the depths that the Rust does not tell, and records, without
+/// their items.
 fn line(question: &Question, rust: &Reading) -> String {
-    let records: Vec<u32> = rust.records.iter().flat_map(Record::numbers).collect();
+    let without_item = |record: &Record| [&record.numbers()[..3], &record.numbers()[4..]].concat();
+    let records: Vec<u32> = rust.records.iter().flat_map(without_item).collect();
     let count = |n: usize| n as u32;
     let head = [
         question.fuel,
@@ -127,8 +129,9 @@ fn line(question: &Question, rust: &Reading) -> String {
         count(rust.raw.len()),
         count(rust.records.len()),
     ];
+    let events: Vec<u32> = rust.raw.iter().flat_map(|event| event[..EVENT - 1].to_vec()).collect();
     let source: Vec<u32> = question.source.iter().map(|b| u32::from(*b)).collect();
-    let parts = [&head[..], &source, &question.ids, &[0], &question.ends, &rust.raw.concat(), &records];
+    let parts = [&head[..], &source, &question.ids, &[0], &question.ends, &events, &records];
     let words: Vec<String> = parts.concat().iter().map(u32::to_string).collect();
     words.join(" ")
 }

@@ -13,7 +13,8 @@ use lib.ListN.{length, getD, take, drop, set, length-set, length-append}
 use lib.Seq.{paste, take-paste, length-paste, length-take-le, take-add, take-at, drop-at, sets-eq}
 use Rattle.kinds.specs.Kinds as k
 use Rattle.utf8.specs.Utf8.{bad-byte}
-use Rattle.shapes.specs.Shapes.{EVENT, event, HEAD, Rec, flat-records}
+use Rattle.shapes.specs.Shapes.{EVENT, HEAD, Rec, Owned, flat-records, of-item, bare}
+use Rattle.shapes.proofs.Laws.{of-append}
 use Rattle.definition.specs.Run as P
 use Rattle.definition.specs.Run.{Event, Choice, Limits, wanted, unwanted}
 use Rattle.definition.specs.Render.{Source, starts-at, ends-at, id-at, text-at, record-of, records, form-of, names-of, said, held, used}
@@ -24,14 +25,25 @@ use Rattle.notes.specs.Change.{withEr, withFull, withWants}
 use Rattle.notes.specs.Means.{bufs, Past, Rows, Apart, recorded, Chosen, wantOf, unwantOf, namesIn, Means, Stands, overOf}
 use Rattle.notes.specs.Did.{Placed, Ok, Sound, Coded, Wf, Counted, Errors}
 use Rattle.choice.specs.Choice.{choiceOf, scan, Noted, Pends, Chose}
-use Rattle.notes.proofs.Lists.{stored, take-event, length-event}
 use Rattle.notes.proofs.Cells.{long, new-er, no-wants}
 use Rattle.notes.proofs.Core.{blank, sound}
-use Rattle.notes.proofs.Rooms.{flat-append, said-is, held-is, fits, first-of, spill, full-first, exceeds-none, exceeds-errors}
+use Rattle.notes.proofs.Rooms.{flat-append, flat-size, lengths, said-is, held-is, fits, first-of, spill, full-first, exceeds-none, exceeds-errors}
 use Rattle.choice.proofs.Records.{starts, ends, starts-is, ends-is, id-is}
 use Rattle.choice.proofs.Scanning.{scan-recorded}
 
--- A RECORD
+-- A RECORD: the numbers before its names are stored
+abbrev headed : List ℕ → ℕ → ℕ → ℕ → ℕ → ℕ → ℕ → List ℕ
+headed l i a b c o d = set (set (set (set (set l i a) (i + 1) b) (i + 2) c) (i + 3) o) (i + 4) d
+
+take-headed : (l : List ℕ) (i a b c o d : ℕ) → i + HEAD ≤ length l → take (i + HEAD) (headed l i a b c o d) ≡ take i l ++ (a ∷ b ∷ c ∷ o ∷ d ∷ [])
+take-headed l i a b c o d h =
+    let q = a ∷ b ∷ c ∷ o ∷ d ∷ [] in
+    let e : headed l i a b c o d ≡ take i l ++ q ++ drop (i + HEAD) l = simp towards-suc (sets-eq q l i h ∙ simp towards-suc) in
+    ap (take (i + HEAD)) e ∙ take-at (take i l ++ q) (drop (i + HEAD) l) (i + HEAD) (length-append (take i l) q ∙ omega (arith, length-take-le i l (omega arith)))
+
+length-headed : (l : List ℕ) (i a b c o d : ℕ) → length (headed l i a b c o d) ≡ length l
+length-headed l i a b c o d = simp length-set
+
 module _ (q : List ℕ) (s : Whole) (er : List ℕ) where
   pub noted-full : s .er ≤ s .ercap → s .ercap < s .er + length q → Noted q s (withFull 8 s) er er
   noted-full h l =
@@ -55,9 +67,9 @@ module _ (q : List ℕ) (s : Whole) (er : List ℕ) where
         long = g;
       }
 
-module _ (s : Whole) (start end form count : ℕ) (names er : List ℕ) (c : count ≤ length names) where
+module _ (s : Whole) (start end form item count : ℕ) (names er : List ℕ) (c : count ≤ length names) where
   abbrev numbers : List ℕ
-  numbers = start ∷ end ∷ form ∷ count ∷ take count names
+  numbers = start ∷ end ∷ form ∷ item ∷ count ∷ take count names
 
   size : length numbers ≡ HEAD + count
   size = omega (arith, length-take-le count names c)
@@ -65,36 +77,36 @@ module _ (s : Whole) (start end form count : ℕ) (names er : List ℕ) (c : cou
   pub record-full : s .er ≤ s .ercap → s .ercap - s .er < count + HEAD → Noted numbers s (withFull 8 s) er er
   record-full h l = noted-full numbers s er h (omega (arith, size))
 
-  record-written : s .er ≤ s .ercap → count + HEAD ≤ s .ercap - s .er → s .ercap ≤ length er → (er′ : List ℕ) → er′ ≡ paste (stored er (s .er) start end form count) (s .er + HEAD) names count → Noted numbers s (withFull 0 (withEr (s .er + HEAD + count) s)) er er′
+  record-written : s .er ≤ s .ercap → count + HEAD ≤ s .ercap - s .er → s .ercap ≤ length er → (er′ : List ℕ) → er′ ≡ paste (headed er (s .er) start end form item count) (s .er + HEAD) names count → Noted numbers s (withFull 0 (withEr (s .er + HEAD + count) s)) er er′
   record-written h f l er′ e =
-      let q = length-event er (s .er) start end form count in
+      let q = length-headed er (s .er) start end form item count in
       noted-written numbers s er (s .er + HEAD + count) (omega (arith, size)) (omega arith) er′
       (ap (take (s .er + HEAD + count)) e
-      ∙ take-paste (stored er (s .er) start end form count) (s .er + HEAD) names count (omega (arith, q)) c
-      ∙ ap (λ (t : List ℕ). t ++ take count names) (take-event er (s .er) start end form count (omega arith))
-      ∙ append-assoc (take (s .er) er) (event start end form count) (take count names))
-      (ap length e ∙ length-paste (stored er (s .er) start end form count) (s .er + HEAD) names count (omega (arith, q)) c ∙ q)
+      ∙ take-paste (headed er (s .er) start end form item count) (s .er + HEAD) names count (omega (arith, q)) c
+      ∙ ap (λ (t : List ℕ). t ++ take count names) (take-headed er (s .er) start end form item count (omega arith))
+      ∙ append-assoc (take (s .er) er) (start ∷ end ∷ form ∷ item ∷ count ∷ []) (take count names))
+      (ap length e ∙ length-paste (headed er (s .er) start end form item count) (s .er + HEAD) names count (omega (arith, q)) c ∙ q)
 
 -- with a place behind the count
-abbrev pub placed : List ℕ → ℕ → ℕ → ℕ → ℕ → List ℕ
-placed er i start end place = set (stored er i start end 9 0) (i + HEAD) place
+abbrev pub placed : List ℕ → ℕ → ℕ → ℕ → ℕ → ℕ → List ℕ
+placed er i start end item place = set (headed er i start end 9 item 0) (i + HEAD) place
 
-placed-written : (s : Whole) (start end place : ℕ) (er : List ℕ) → s .er ≤ s .ercap → HEAD + 1 ≤ s .ercap - s .er → s .ercap ≤ length er → Noted (start ∷ end ∷ 9 ∷ 0 ∷ place ∷ []) s (withFull 0 (withEr (s .er + HEAD + 1) s)) er (placed er (s .er) start end place)
-placed-written s start end place er h f l =
-    let q = start ∷ end ∷ 9 ∷ 0 ∷ place ∷ [] in
-    let e : placed er (s .er) start end place ≡ take (s .er) er ++ q ++ drop (s .er + 5) er = simp towards-suc (sets-eq q er (s .er) (omega arith) ∙ simp towards-suc) in
-    noted-written q s er (s .er + HEAD + 1) (omega arith) (omega arith) (placed er (s .er) start end place)
-    (ap (take (s .er + HEAD + 1)) e ∙ take-at (take (s .er) er ++ q) (drop (s .er + 5) er) (s .er + HEAD + 1) (length-append (take (s .er) er) q ∙ omega (arith, length-take-le (s .er) er (omega arith))))
+placed-written : (s : Whole) (start end item place : ℕ) (er : List ℕ) → s .er ≤ s .ercap → HEAD + 1 ≤ s .ercap - s .er → s .ercap ≤ length er → Noted (start ∷ end ∷ 9 ∷ item ∷ 0 ∷ place ∷ []) s (withFull 0 (withEr (s .er + HEAD + 1) s)) er (placed er (s .er) start end item place)
+placed-written s start end item place er h f l =
+    let q = start ∷ end ∷ 9 ∷ item ∷ 0 ∷ place ∷ [] in
+    let e : placed er (s .er) start end item place ≡ take (s .er) er ++ q ++ drop (s .er + 6) er = simp towards-suc (sets-eq q er (s .er) (omega arith) ∙ simp towards-suc) in
+    noted-written q s er (s .er + HEAD + 1) (omega arith) (omega arith) (placed er (s .er) start end item place)
+    (ap (take (s .er + HEAD + 1)) e ∙ take-at (take (s .er) er ++ q) (drop (s .er + 6) er) (s .er + HEAD + 1) (length-append (take (s .er) er) q ∙ omega (arith, length-take-le (s .er) er (omega arith))))
     (simp length-set)
 
 -- the same where the number of the records' numbers is noted
-pub record-noted : (l : List ℕ) (s : Whole) → Coded l → (start end form count : ℕ) (names er : List ℕ) → count ≤ length names → getD l 4 0 ≤ getD l 5 0 → count + HEAD ≤ getD l 5 0 - getD l 4 0 → getD l 5 0 ≤ length er → (er′ : List ℕ) → er′ ≡ paste (stored er (getD l 4 0) start end form count) (getD l 4 0 + HEAD) names count → Noted (start ∷ end ∷ form ∷ count ∷ take count names) (beside l s) (withFull 0 (beside (set l 4 (getD l 4 0 + HEAD + count)) s)) er er′
-record-noted l s w start end form count names er c h f g er′ e =
-    subst (λ (v : Whole). Noted (start ∷ end ∷ form ∷ count ∷ take count names) (beside l s) (withFull 0 v) er er′) (sym (new-er l s (long l (w .long)) (getD l 4 0 + HEAD + count))) (record-written (beside l s) start end form count names er c h f g er′ e)
+pub record-noted : (l : List ℕ) (s : Whole) → Coded l → (start end form item count : ℕ) (names er : List ℕ) → count ≤ length names → getD l 4 0 ≤ getD l 5 0 → count + HEAD ≤ getD l 5 0 - getD l 4 0 → getD l 5 0 ≤ length er → (er′ : List ℕ) → er′ ≡ paste (headed er (getD l 4 0) start end form item count) (getD l 4 0 + HEAD) names count → Noted (start ∷ end ∷ form ∷ item ∷ count ∷ take count names) (beside l s) (withFull 0 (beside (set l 4 (getD l 4 0 + HEAD + count)) s)) er er′
+record-noted l s w start end form item count names er c h f g er′ e =
+    subst (λ (v : Whole). Noted (start ∷ end ∷ form ∷ item ∷ count ∷ take count names) (beside l s) (withFull 0 v) er er′) (sym (new-er l s (long l (w .long)) (getD l 4 0 + HEAD + count))) (record-written (beside l s) start end form item count names er c h f g er′ e)
 
-pub placed-noted : (l : List ℕ) (s : Whole) → Coded l → (start end place : ℕ) (er : List ℕ) → getD l 4 0 ≤ getD l 5 0 → HEAD + 1 ≤ getD l 5 0 - getD l 4 0 → getD l 5 0 ≤ length er → Noted (start ∷ end ∷ 9 ∷ 0 ∷ place ∷ []) (beside l s) (withFull 0 (beside (set l 4 (getD l 4 0 + HEAD + 1)) s)) er (placed er (getD l 4 0) start end place)
-placed-noted l s w start end place er h f g =
-    subst (λ (v : Whole). Noted (start ∷ end ∷ 9 ∷ 0 ∷ place ∷ []) (beside l s) (withFull 0 v) er (placed er (getD l 4 0) start end place)) (sym (new-er l s (long l (w .long)) (getD l 4 0 + HEAD + 1))) (placed-written (beside l s) start end place er h f g)
+pub placed-noted : (l : List ℕ) (s : Whole) → Coded l → (start end item place : ℕ) (er : List ℕ) → getD l 4 0 ≤ getD l 5 0 → HEAD + 1 ≤ getD l 5 0 - getD l 4 0 → getD l 5 0 ≤ length er → Noted (start ∷ end ∷ 9 ∷ item ∷ 0 ∷ place ∷ []) (beside l s) (withFull 0 (beside (set l 4 (getD l 4 0 + HEAD + 1)) s)) er (placed er (getD l 4 0) start end item place)
+placed-noted l s w start end item place er h f g =
+    subst (λ (v : Whole). Noted (start ∷ end ∷ 9 ∷ item ∷ 0 ∷ place ∷ []) (beside l s) (withFull 0 v) er (placed er (getD l 4 0) start end item place)) (sym (new-er l s (long l (w .long)) (getD l 4 0 + HEAD + 1))) (placed-written (beside l s) start end item place er h f g)
 
 -- PENDING ERRORS
 neither : (b c : Bool) → (elim b [ true ↦ true | false ↦ c ]) ≡ false → (b ≡ false) × (c ≡ false)
@@ -120,20 +132,20 @@ module _ (m : ℕ) (c : Choice) where
   recorded-more L x (e ∷ es) = ap (λ (l : List Rec). record-of L x (e .0) (e .1) ∷ l) (recorded-more L x es)
 
 -- the records of the item at hand
-module _ {x : Source} {p : Past} {first er ercap item quote : ℕ} {errors : List ℕ} {es : List (ℕ × Choice)} (k : Chosen x p first er ercap item quote errors es) (i : item ≤ er) (l : er ≤ length errors) where
+module _ {x : Source} {p : Past} {first er ercap item quote number : ℕ} {errors : List ℕ} {es : List (ℕ × Choice)} (k : Chosen x p first er ercap item quote number errors es) (i : item ≤ er) (l : er ≤ length errors) where
   -- what stands fits
-  fitting : er ≤ ercap → _≡_ {A = ℕ} 0 (ifb (ltb ercap (length (flat-records (p .records ++ recorded (p .limits) x es)))) 8 0)
-  fitting f = ap (λ (b : Bool). ifb b 8 0) (sym (le-ltb ercap (length (flat-records (p .records ++ recorded (p .limits) x es))) (omega (arith, ap length (k .is), length-take-le er errors l))))
+  fitting : er ≤ ercap → _≡_ {A = ℕ} 0 (ifb (ltb ercap (length (flat-records (p .records ++ of-item (p .number) (recorded (p .limits) x es))))) 8 0)
+  fitting f = ap (λ (b : Bool). ifb b 8 0) (sym (le-ltb ercap (length (flat-records (p .records ++ of-item (p .number) (recorded (p .limits) x es)))) (omega (arith, ap length (k .is), length-take-le er errors l))))
 
-  item-part : take (er - item) (drop item errors) ≡ flat-records (recorded (p .limits) x es)
+  item-part : take (er - item) (drop item errors) ≡ flat-records (of-item (p .number) (recorded (p .limits) x es))
   item-part =
       let e : item + (er - item) ≡ er = omega arith in
       sym (drop-at (take item errors) (take (er - item) (drop item errors)) item (length-take-le item errors (omega arith)))
-      ∙ ap (drop item) (sym (take-add item (er - item) errors) ∙ ap (λ (j : ℕ). take j errors) e ∙ k .is ∙ flat-append (p .records) (recorded (p .limits) x es))
-      ∙ drop-at (flat-records (p .records)) (flat-records (recorded (p .limits) x es)) item (sym (k .since))
+      ∙ ap (drop item) (sym (take-add item (er - item) errors) ∙ ap (λ (j : ℕ). take j errors) e ∙ k .is ∙ flat-append (p .records) (of-item (p .number) (recorded (p .limits) x es)))
+      ∙ drop-at (flat-records (p .records)) (flat-records (of-item (p .number) (recorded (p .limits) x es))) item (sym (k .since))
 
 -- AN ERROR AT A ROW
-same-numbers : {a b f c a′ b′ f′ : ℕ} {ms ns : List ℕ} → a ≡ a′ → b ≡ b′ → f ≡ f′ → ms ≡ ns → c ≡ length ms → a ∷ b ∷ f ∷ c ∷ ms ≡ a′ ∷ b′ ∷ f′ ∷ length ns ∷ ns ++ []
+same-numbers : {a b f o c a′ b′ f′ : ℕ} {ms ns : List ℕ} → a ≡ a′ → b ≡ b′ → f ≡ f′ → ms ≡ ns → c ≡ length ms → a ∷ b ∷ f ∷ o ∷ c ∷ ms ≡ a′ ∷ b′ ∷ f′ ∷ o ∷ length ns ∷ ns ++ []
 same-numbers {ns = ns} h i j k l = cc (append-nil ns)
 
 form-any : (L : Limits) (i : ℕ) (t : List ℕ) (e : Bool) (ns : List ℕ) → form-of L i t (choiceOf e []) ≡ form-of L i t (choiceOf e ns)
@@ -146,7 +158,7 @@ row x at = length (x .ids) - at
 abbrev part : Whole → List ℕ → List ℕ
 part s er = take (s .er - s .item) (drop (s .item) er)
 
-module _ {x : Source} (w : Rows x) (at : ℕ) (h : at ≤ length (x .ids)) (s : Whole) (er : List ℕ) (c : Counted (s .ev) (s .evcap) (s .item) (s .er) (s .ercap)) (l : s .ercap ≤ length er) {start end : ℕ} (b : start ≡ starts x at) (e : end ≡ ends x at) where
+module _ {x : Source} (w : Rows x) (at : ℕ) (h : at ≤ length (x .ids)) (s : Whole) (er : List ℕ) (c : Counted (s .ev) (s .evcap) (s .item) (s .er) (s .ercap) (s .number)) (l : s .ercap ≤ length er) {start end : ℕ} (b : start ≡ starts x at) (e : end ≡ ends x at) where
   begins : start ≡ starts-at x (row x at)
   begins = b ∙ sym (starts-is w at h)
 
@@ -160,7 +172,7 @@ module _ {x : Source} (w : Rows x) (at : ℕ) (h : at ≤ length (x .ids)) (s : 
         (t
         ∙ ap₂ (λ (i j : ℕ). scan i j 0 (part s er)) begins stops
         ∙ ap (scan (starts-at x (row x at)) (ends-at x (row x at)) 0) (item-part k (c .since) (le-trans (c .errors) l))
-        ∙ scan-recorded w (row x at) (omega arith) (p .limits) (length (x .ids) - s .first) (omega arith) es (k .apart))
+        ∙ scan-recorded w (row x at) (omega arith) (p .limits) (p .number) (length (x .ids) - s .first) (omega arith) es (k .apart))
 
     added : (v : Choice) → P.add (row x at) v es ≡ elim y [ true ↦ es | false ↦ es ++ ((row x at, v) ∷ []) ]
     added v = ap (λ (q : Bool). elim q [ true ↦ es | false ↦ es ++ ((row x at, v) ∷ []) ]) pending-is
@@ -170,7 +182,7 @@ module _ {x : Source} (w : Rows x) (at : ℕ) (h : at ≤ length (x .ids)) (s : 
   chose-none v t =
       record {
         is = refl;
-        filled = λ p es k. fitting k (c .since) (le-trans (c .errors) l) (c .errors) ∙ ap (λ (q : List (ℕ × Choice)). ifb (ltb (s .ercap) (length (flat-records (p .records ++ recorded (p .limits) x q)))) 8 0) (sym (added k t v));
+        filled = λ p es k. fitting k (c .since) (le-trans (c .errors) l) (c .errors) ∙ ap (λ (q : List (ℕ × Choice)). ifb (ltb (s .ercap) (length (flat-records (p .records ++ of-item (p .number) (recorded (p .limits) x q))))) 8 0) (sym (added k t v));
         chosen = λ p es k y. subst (Pends x p s er) (sym (added k t v)) k;
         fits = c .errors;
         grows = le-refl _;
@@ -185,25 +197,28 @@ module _ {x : Source} (w : Rows x) (at : ℕ) (h : at ≤ length (x .ids)) (s : 
     formed : (L : Limits) → L .quote ≡ s .quote → form ≡ form-of L (id-at x (row x at)) (text-at x (row x at)) (choiceOf y ns)
     formed L q = f L q ∙ form-any L i _ y ns ∙ ap₂ (λ (j : ℕ) (t : List ℕ). form-of L j t (choiceOf y ns)) (o ∙ sym (id-is w at h)) text-is
 
-    pub record-named : {count : ℕ} {ms : List ℕ} → (form ≡ 9 → ⊥) → ms ≡ names-of form (choiceOf y ns) → count ≡ length ms → (L : Limits) → L .quote ≡ s .quote → start ∷ end ∷ form ∷ count ∷ ms ≡ flat-records (record-of L x (row x at) (choiceOf y ns) ∷ [])
+    pub record-named : {count : ℕ} {ms : List ℕ} → (form ≡ 9 → ⊥) → ms ≡ names-of form (choiceOf y ns) → count ≡ length ms → (L : Limits) → L .quote ≡ s .quote → start ∷ end ∷ form ∷ s .number ∷ count ∷ ms ≡ flat-records ((record-of L x (row x at) (choiceOf y ns), s .number) ∷ [])
     record-named n v u L q =
         same-numbers begins stops (formed L q) (v ∙ ap (λ (j : ℕ). names-of j (choiceOf y ns)) (formed L q)) u
-        ∙ sym (other-records L x (row x at) (choiceOf y ns) (λ e. n (formed L q ∙ e)) [])
+        ∙ sym (other-records L x (row x at) (choiceOf y ns) (s .number) (λ e. n (formed L q ∙ e)) [])
 
-    pub record-placed : {place : ℕ} → form ≡ 9 → place ≡ start + bad-byte (take (end - start) (drop start (x .bytes))) → (L : Limits) → L .quote ≡ s .quote → start ∷ end ∷ 9 ∷ 0 ∷ place ∷ [] ≡ flat-records (record-of L x (row x at) (choiceOf y ns) ∷ [])
+    pub record-placed : {place : ℕ} → form ≡ 9 → place ≡ start + bad-byte (take (end - start) (drop start (x .bytes))) → (L : Limits) → L .quote ≡ s .quote → start ∷ end ∷ 9 ∷ s .number ∷ 0 ∷ place ∷ [] ≡ flat-records ((record-of L x (row x at) (choiceOf y ns), s .number) ∷ [])
     record-placed {place} e v L q =
-        ap₂ (λ (j k : ℕ). j ∷ k ∷ 9 ∷ 0 ∷ place ∷ []) begins stops
-        ∙ ap (λ (j : ℕ). starts-at x (row x at) ∷ ends-at x (row x at) ∷ 9 ∷ 0 ∷ j ∷ []) (v ∙ ap₂ (λ (j : ℕ) (t : List ℕ). j + bad-byte t) begins text-is)
-        ∙ sym (form-9-record L x (row x at) (choiceOf y ns) (sym (formed L q) ∙ e) [])
+        ap₂ (λ (j k : ℕ). j ∷ k ∷ 9 ∷ s .number ∷ 0 ∷ place ∷ []) begins stops
+        ∙ ap (λ (j : ℕ). starts-at x (row x at) ∷ ends-at x (row x at) ∷ 9 ∷ s .number ∷ 0 ∷ j ∷ []) (v ∙ ap₂ (λ (j : ℕ) (t : List ℕ). j + bad-byte t) begins text-is)
+        ∙ sym (form-9-record L x (row x at) (choiceOf y ns) (s .number) (sym (formed L q) ∙ e) [])
 
   -- none is, and a record is written
-  module _ (y : Bool) (ns : List ℕ) {numbers-at : List ℕ} (record-is : (L : Limits) → L .quote ≡ s .quote → numbers-at ≡ flat-records (record-of L x (row x at) (choiceOf y ns) ∷ [])) where
-    records-are : {p : Past} {es : List (ℕ × Choice)} (k : Pends x p s er es) → false ≡ scan start end 0 (part s er) → take (s .er) er ++ numbers-at ≡ flat-records (p .records ++ recorded (p .limits) x (P.add (row x at) (choiceOf y ns) es))
+  module _ (y : Bool) (ns : List ℕ) {numbers-at : List ℕ} (record-is : (L : Limits) → L .quote ≡ s .quote → numbers-at ≡ flat-records ((record-of L x (row x at) (choiceOf y ns), s .number) ∷ [])) where
+    owned-more : (p : Past) (es : List (ℕ × Choice)) → of-item (p .number) (recorded (p .limits) x es) ++ ((record-of (p .limits) x (row x at) (choiceOf y ns), p .number) ∷ []) ≡ of-item (p .number) (recorded (p .limits) x (es ++ ((row x at, choiceOf y ns) ∷ [])))
+    owned-more p es = sym (of-append (p .number) (recorded (p .limits) x es) (record-of (p .limits) x (row x at) (choiceOf y ns) ∷ [])) ∙ ap (of-item (p .number)) (sym (recorded-more (row x at) (choiceOf y ns) (p .limits) x es))
+
+    records-are : {p : Past} {es : List (ℕ × Choice)} (k : Pends x p s er es) → false ≡ scan start end 0 (part s er) → take (s .er) er ++ numbers-at ≡ flat-records (p .records ++ of-item (p .number) (recorded (p .limits) x (P.add (row x at) (choiceOf y ns) es)))
     records-are {p} {es} k t =
-        ap₂ (λ (i j : List ℕ). i ++ j) (k .is) (record-is (p .limits) (k .quoted))
-        ∙ sym (flat-append (p .records ++ recorded (p .limits) x es) (record-of (p .limits) x (row x at) (choiceOf y ns) ∷ []))
-        ∙ ap flat-records (append-assoc (p .records) (recorded (p .limits) x es) (record-of (p .limits) x (row x at) (choiceOf y ns) ∷ []) ∙ ap (λ (q : List Rec). p .records ++ q) (sym (recorded-more (row x at) (choiceOf y ns) (p .limits) x es)))
-        ∙ ap (λ (q : List (ℕ × Choice)). flat-records (p .records ++ recorded (p .limits) x q)) (sym (added k t (choiceOf y ns)))
+        ap₂ (λ (i j : List ℕ). i ++ j) (k .is) (record-is (p .limits) (k .quoted) ∙ ap (λ (i : ℕ). flat-records ((record-of (p .limits) x (row x at) (choiceOf y ns), i) ∷ [])) (sym (k .numbered)))
+        ∙ sym (flat-append (p .records ++ of-item (p .number) (recorded (p .limits) x es)) ((record-of (p .limits) x (row x at) (choiceOf y ns), p .number) ∷ []))
+        ∙ ap flat-records (append-assoc (p .records) (of-item (p .number) (recorded (p .limits) x es)) ((record-of (p .limits) x (row x at) (choiceOf y ns), p .number) ∷ []) ∙ ap (λ (q : List Owned). p .records ++ q) (owned-more p es))
+        ∙ ap (λ (q : List (ℕ × Choice)). flat-records (p .records ++ of-item (p .number) (recorded (p .limits) x q))) (sym (added k t (choiceOf y ns)))
 
     pub chose-new : {r : Whole} {er′ : List ℕ} → s .first ≤ at → Noted numbers-at s r er er′ → false ≡ scan start end 0 (part s er) → Chose (P.add (row x at) (choiceOf y ns)) x s r er er′
     chose-new {r} {er′} a d t =
@@ -218,6 +233,7 @@ module _ {x : Source} (w : Rows x) (at : ℕ) (h : at ≤ length (x .ids)) (s : 
                 since = k .since;
                 room = k .room;
                 quoted = k .quoted;
+                numbered = k .numbered;
                 apart = subst (Apart (length (x .ids) - s .first)) (sym (added k t (choiceOf y ns))) (apart-more (row x at) (choiceOf y ns) (length (x .ids) - s .first) es (omega arith) (pending-is k t) (k .apart));
               });
           fits = d .fits;
@@ -269,14 +285,11 @@ furthest-in {n} {pos} {first} {far} {w} {u} {r} v q z = go (leb u w) q
     go false p = let h : first < u = v .unwant-since (λ y. z (p ∙ y)) in omega (arith, v .unwant-in)
 
 -- one moment more, at which the events fit
-spilled : (p : Past) (x : Source) (o : List Event) (es : List (ℕ × Choice)) → records (p .limits) x o [] ≡ p .records → EVENT * suc (length o) ≤ p .event-room → ifb (ltb (p .error-room) (length (flat-records (p .records ++ recorded (p .limits) x es)))) 8 0 ≡ spill p x o es
-spilled p x o es q f = ap (λ (i : ℕ). ifb (ltb (p .error-room) i) 8 0) taken ∙ go (ltb (p .error-room) (used (p .limits) x (o, es) .1)) refl
+spilled : (p : Past) (x : Source) (o : List Event) (es : List (ℕ × Choice)) (n : ℕ) → records (p .limits) x o [] ≡ bare (p .records) → EVENT * suc (length o) ≤ p .event-room → ifb (ltb (p .error-room) (length (flat-records (p .records ++ of-item n (recorded (p .limits) x es))))) 8 0 ≡ spill p x o es
+spilled p x o es n q f = ap (λ (i : ℕ). ifb (ltb (p .error-room) i) 8 0) taken ∙ go (ltb (p .error-room) (used (p .limits) x (o, es) .1)) refl
   where
-    taken : length (flat-records (p .records ++ recorded (p .limits) x es)) ≡ said (p .limits) x o + held (p .limits) x es
-    taken =
-        ap length (flat-append (p .records) (recorded (p .limits) x es))
-        ∙ length-append (flat-records (p .records)) (flat-records (recorded (p .limits) x es))
-        ∙ omega (arith, ap (λ (l : List Rec). length (flat-records l)) q, said-is (p .limits) x o [], held-is (p .limits) x es)
+    taken : length (flat-records (p .records ++ of-item n (recorded (p .limits) x es))) ≡ said (p .limits) x o + held (p .limits) x es
+    taken = flat-size (p .records) n (recorded (p .limits) x es) ∙ omega (arith, ap lengths q, said-is (p .limits) x o [], held-is (p .limits) x es)
 
     go : (b : Bool) → ltb (p .error-room) (used (p .limits) x (o, es) .1) ≡ b → ifb b 8 0 ≡ spill p x o es
     go true e = sym (exceeds-errors (p .event-room) (p .error-room) (used (p .limits) x (o, es)) f (ltb-true _ _ e))
@@ -289,7 +302,7 @@ module _ (x : Source) (s : Whole) (er : List ℕ) (w : Ok (length (x .ids)) s) (
   -- both are emptied, and nothing else changes but the records
   module _ (r : Whole) (er′ : List ℕ) (i : r ≡ withEr (r .er) (withFull (r .full) (withWants 0 0 s))) (f : r .er ≤ s .ercap) (g : s .er ≤ r .er) (n : length er′ ≡ length er) (z : r .full ≡ 0 → s .full ≡ 0) where
     ok-chosen : Ok (length (x .ids)) r
-    ok-chosen = subst (Ok (length (x .ids))) (sym i) (ok-emptied (length (x .ids)) s w .0, w .1, record { events = w .2 .events; since = le-trans (w .2 .since) g; errors = f })
+    ok-chosen = subst (Ok (length (x .ids))) (sym i) (ok-emptied (length (x .ids)) s w .0, w .1, record { events = w .2 .events; since = le-trans (w .2 .since) g; errors = f; numbered = w .2 .numbered })
 
     errors-chosen : ((ev sc : List ℕ) → Wf x (bufs ev er sc) s → (p : Past) (a : P.State) → Stands p x s (bufs ev er sc) a → Stands p x r (bufs ev er′ sc) (P.choose a)) → Errors P.choose x s r er er′
     errors-chosen d =
@@ -335,8 +348,8 @@ module _ (x : Source) (s : Whole) (er : List ℕ) (w : Ok (length (x .ids)) s) (
           record {
             over =
                 c .filled p (a .chosen) (m .chosen)
-                ∙ ap (λ (i : ℕ). ifb (ltb i (length (flat-records (p .records ++ recorded (p .limits) x (g (a .chosen)))))) 8 0) (sym (m .chosen .room))
-                ∙ spilled p x (a .out) (g (a .chosen)) (m .written .past) (fits v m .0)
+                ∙ ap (λ (i : ℕ). ifb (ltb i (length (flat-records (p .records ++ of-item (p .number) (recorded (p .limits) x (g (a .chosen))))))) 8 0) (sym (m .chosen .room))
+                ∙ spilled p x (a .out) (g (a .chosen)) (p .number) (m .written .past) (fits v m .0)
                 ∙ ap₂ (λ (i : ℕ) (q : List (ℕ × Choice)). first-of i (spill p x (a .out) q)) (sym z ∙ t .over) (sym e);
             means = λ y.
                 subst (λ (q : Whole). Means p x q (bufs ev er′ sc) (P.choose a)) (sym (c .is))

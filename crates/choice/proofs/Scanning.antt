@@ -4,7 +4,6 @@ use mathlib.Core.Path.{_≡_, refl, sym, ap, ap₂, _∙_}
 use mathlib.Core.List.{List, [], _∷_, _++_, append-assoc}
 use mathlib.Core.Bool.{Bool, true, false, _&&_}
 use native.Mathlib.Omega.{arith}
-use native.Mathlib.Numerals.{add-four}
 use native.Mathlib.Nat.{add-zero}
 use borrow.Author.Tests.{ne-eqb, eq-eqb, eqb-true, eqb-false}
 use lib.Dec.{eqb}
@@ -15,8 +14,8 @@ use Rattle.definition.specs.Run.{Choice, Limits}
 use Rattle.definition.specs.Render.{Source, starts-at, ends-at, record-of}
 use Rattle.definition.proofs.Text.{behind-is}
 use Rattle.notes.specs.Means.{recorded, Rows, Apart}
-use Rattle.shapes.proofs.Laws.{next-rest}
-use Rattle.shapes.specs.Shapes.{HEAD, FORM, COUNT, flat-records, behind, recordSize, next-record}
+use Rattle.shapes.proofs.Laws.{add-head, next-rest}
+use Rattle.shapes.specs.Shapes.{HEAD, FORM, COUNT, flat-records, of-item, behind, recordSize, next-record}
 use Rattle.choice.specs.Choice.{scan}
 use Rattle.choice.proofs.Records.{own}
 
@@ -36,7 +35,8 @@ module _ (s e : ℕ) where
   scan-head (a ∷ []) h = absurd (omega arith)
   scan-head (a ∷ b ∷ []) h = absurd (omega arith)
   scan-head (a ∷ b ∷ f ∷ []) h = absurd (omega arith)
-  scan-head (a ∷ b ∷ f ∷ n ∷ l) h = ap (either (eqb a s && eqb b e)) (scan-pass (behind f n) l ∙ ap (λ (i : ℕ). scan s e 0 (drop i (a ∷ b ∷ f ∷ n ∷ l))) (sym (add-four (behind f n))))
+  scan-head (a ∷ b ∷ f ∷ i ∷ []) h = absurd (omega arith)
+  scan-head (a ∷ b ∷ f ∷ i ∷ n ∷ l) h = ap (either (eqb a s && eqb b e)) (scan-pass (behind f n) l ∙ ap (λ (j : ℕ). scan s e 0 (drop j (a ∷ b ∷ f ∷ i ∷ n ∷ l))) (sym (add-head (behind f n))))
 
   scan-few : (l : List ℕ) → length l < HEAD → scan s e 0 l ≡ false
   unfolding scan
@@ -44,7 +44,8 @@ module _ (s e : ℕ) where
   scan-few (a ∷ []) h = refl
   scan-few (a ∷ b ∷ []) h = refl
   scan-few (a ∷ b ∷ f ∷ []) h = refl
-  scan-few (a ∷ b ∷ f ∷ n ∷ l) h = absurd (omega arith)
+  scan-few (a ∷ b ∷ f ∷ i ∷ []) h = refl
+  scan-few (a ∷ b ∷ f ∷ i ∷ n ∷ l) h = absurd (omega arith)
 
   -- the records from a place on, as the loop looks at them
   module _ (l : List ℕ) (at : ℕ) where
@@ -69,24 +70,24 @@ module _ (s e : ℕ) where
 -- the records of pending errors
 module _ {x : Source} (w : Rows x) (r : ℕ) (h : r ≤ length (x .ids)) where
   -- one record, of which t stands behind the count
-  scan-one : (a f n : ℕ) (t l : List ℕ) → behind f n ≡ length t → a ≤ length (x .ids) → scan (starts-at x r) (ends-at x r) 0 (starts-at x a ∷ ends-at x a ∷ f ∷ n ∷ t ++ l) ≡ either (eqb r a) (scan (starts-at x r) (ends-at x r) 0 l)
+  scan-one : (a f o n : ℕ) (t l : List ℕ) → behind f n ≡ length t → a ≤ length (x .ids) → scan (starts-at x r) (ends-at x r) 0 (starts-at x a ∷ ends-at x a ∷ f ∷ o ∷ n ∷ t ++ l) ≡ either (eqb r a) (scan (starts-at x r) (ends-at x r) 0 l)
   unfolding scan
-  scan-one a f n t l k g = go (eqb r a) refl
+  scan-one a f o n t l k g = go (eqb r a) refl
     where
       on : scan (starts-at x r) (ends-at x r) (behind f n) (t ++ l) ≡ scan (starts-at x r) (ends-at x r) 0 l
       on = ap (λ (i : ℕ). scan (starts-at x r) (ends-at x r) i (t ++ l)) k ∙ scan-pass (starts-at x r) (ends-at x r) (length t) (t ++ l) ∙ ap (scan (starts-at x r) (ends-at x r) 0) (drop-append-seam t l)
 
-      go : (b : Bool) → eqb r a ≡ b → scan (starts-at x r) (ends-at x r) 0 (starts-at x a ∷ ends-at x a ∷ f ∷ n ∷ t ++ l) ≡ either b (scan (starts-at x r) (ends-at x r) 0 l)
+      go : (b : Bool) → eqb r a ≡ b → scan (starts-at x r) (ends-at x r) 0 (starts-at x a ∷ ends-at x a ∷ f ∷ o ∷ n ∷ t ++ l) ≡ either b (scan (starts-at x r) (ends-at x r) 0 l)
       go true e =
           let q : a ≡ r = sym (eqb-true r a e) in
           ap₂ (λ (b c : Bool). either (b && c) (scan (starts-at x r) (ends-at x r) (behind f n) (t ++ l))) (eq-eqb _ _ (ap (starts-at x) q)) (eq-eqb _ _ (ap (ends-at x) q))
       go false e = ap (λ (b : Bool). either (b && eqb (ends-at x a) (ends-at x r)) (scan (starts-at x r) (ends-at x r) (behind f n) (t ++ l))) (ne-eqb _ _ (λ q. eqb-false r a e (sym (own w a r g h q)))) ∙ on
 
-  pub scan-recorded : (L : Limits) (n : ℕ) → n ≤ length (x .ids) → (es : List (ℕ × Choice)) → Apart n es → scan (starts-at x r) (ends-at x r) 0 (flat-records (recorded L x es)) ≡ P.pending r es
+  pub scan-recorded : (L : Limits) (i n : ℕ) → n ≤ length (x .ids) → (es : List (ℕ × Choice)) → Apart n es → scan (starts-at x r) (ends-at x r) 0 (flat-records (of-item i (recorded L x es))) ≡ P.pending r es
   unfolding recorded
-  scan-recorded L n g [] k = scan-few (starts-at x r) (ends-at x r) [] (omega arith)
-  scan-recorded L n g (e ∷ es) k =
+  scan-recorded L i n g [] k = scan-few (starts-at x r) (ends-at x r) [] (omega arith)
+  scan-recorded L i n g (e ∷ es) k =
       let q = record-of L x (e .0) (e .1) in
-      ap (λ (t : List ℕ). scan (starts-at x r) (ends-at x r) 0 (q .0 ∷ q .1 ∷ q .2 ∷ length (q .3) ∷ t)) (sym (append-assoc (q .3) (q .4) (flat-records (recorded L x es))))
-      ∙ scan-one (e .0) (q .2) (length (q .3)) (q .3 ++ q .4) (flat-records (recorded L x es)) (behind-is L x (e .0) (e .1)) (omega (arith, k .0))
-      ∙ ap (either (eqb r (e .0))) (scan-recorded L n g es (k .2))
+      ap (λ (t : List ℕ). scan (starts-at x r) (ends-at x r) 0 (q .0 ∷ q .1 ∷ q .2 ∷ i ∷ length (q .3) ∷ t)) (sym (append-assoc (q .3) (q .4) (flat-records (of-item i (recorded L x es)))))
+      ∙ scan-one (e .0) (q .2) i (length (q .3)) (q .3 ++ q .4) (flat-records (of-item i (recorded L x es))) (behind-is L x (e .0) (e .1)) (omega (arith, k .0))
+      ∙ ap (either (eqb r (e .0))) (scan-recorded L i n g es (k .2))

@@ -1,9 +1,8 @@
--- Names are spelled: each entered once, in order; those of the sets by one computed test over the 55, and those of codes. Assumes nothing.
+-- Names are spelled: each entered once, in order; those of the sets by one computed test over the 56, and those of codes. Assumes nothing.
 use Prim.Native.Nat.{ℕ, zero, suc, _+_, _≤_, _<_}
 use mathlib.Core.Path.{_≡_, refl, sym, ap, ap₂, subst, _∙_}
-use mathlib.Core.List.{List, [], _∷_, _++_, map}
+use mathlib.Core.List.{List, [], _∷_, _++_}
 use mathlib.Core.Bool.{Bool, true, false}
-use mathlib.Core.Option.{Option, none, some}
 use native.Mathlib.Decide.{decLt}
 use native.Mathlib.Numerals.{add-one}
 use native.Mathlib.Omega.{arith}
@@ -13,7 +12,6 @@ use lib.ListN.{length, getD, getElem?, take, drop, set, length-set, length-appen
 use lib.Seq.{drop-cons, getD-drop, getD-take, length-take-le, take-suc, take-suc-set}
 use Rattle.kinds.specs.Sets.{idOf, idsOf, setOf}
 use Rattle.kinds.specs.Answers.{nameOf}
-use Rattle.kinds.specs.declared.answer.Name.{Name}
 use Rattle.kinds.specs.declared.answer.Name.the-variants as n
 use Rattle.kinds.proofs.Tables.{both, both-left, both-right, all, all-sound}
 use Rattle.kinds.proofs.Order.{set-none}
@@ -87,7 +85,7 @@ named-below (a ∷ S) t = (ltb-true (idOf a) 85 (both-left (ltb (idOf a) 85) (na
 abbrev brief : List ℕ → Bool
 brief S = both (ltb (length (idsOf S)) 17) (named S)
 
-tested : all (λ s. brief (setOf s)) 55 ≡ true
+tested : all (λ s. brief (setOf s)) 56 ≡ true
 unfolding idOf
 tested = refl
 
@@ -96,11 +94,11 @@ pub record Brief (ids : List ℕ) : Type 0 where
   pub few : length ids ≤ 16
 
 pub sets-brief : (s : ℕ) → Brief (idsOf (setOf s))
-sets-brief s = go (decLt s 55)
+sets-brief s = go (decLt s 56)
   where
-    go : Dec (s < 55) → Brief (idsOf (setOf s))
+    go : Dec (s < 56) → Brief (idsOf (setOf s))
     go (yes h) =
-        let t = all-sound (λ s. brief (setOf s)) 55 tested s h in
+        let t = all-sound (λ s. brief (setOf s)) 56 tested s h in
         record { below = named-below (setOf s) (both-right (ltb (length (idsOf (setOf s))) 17) (named (setOf s)) t); few = omega (arith, ltb-true (length (idsOf (setOf s))) 17 (both-left (ltb (length (idsOf (setOf s))) 17) (named (setOf s)) t)) }
     go (no h) = rw (set-none s (omega (arith, h))) (record { below = tt; few = omega arith })
 
@@ -184,26 +182,26 @@ none-spelt names h = record { names = refl; spelt = record { few = omega arith; 
 -- the first i of the codes in a list of notes are spelled
 pub record Spelling (notes : List ℕ) (i : ℕ) (r : Names) : Type 0 where
   pub within : i ≤ getD notes 2 0
-  pub spells : Spells (spelled (take i (drop 10 notes))) r
+  pub spells : Spells (spelled (take i (drop 11 notes))) r
 
 pub spelling : (notes names : List ℕ) → length names ≡ 96 → Spelling notes 0 (namesFrom 0 names)
 spelling notes names h = record { within = omega arith; spells = none-spelt names h }
 
 module _ (notes : List ℕ) (w : Coded notes) (i : ℕ) (h : i < getD notes 2 0) where
-  at-code : getD (drop 10 notes) i 0 ≡ getD notes (10 + i) 0
-  at-code = getD-drop 10 notes i 0
+  at-code : getD (drop 11 notes) i 0 ≡ getD notes (11 + i) 0
+  at-code = getD-drop 11 notes i 0
 
-  pub code-in : 9 + i < length notes
-  code-in = omega (arith, w .few, w .long, length-drop 10 notes)
+  pub code-in : 10 + i < length notes
+  code-in = omega (arith, w .few, w .long, length-drop 11 notes)
 
-  pub code-below : getD notes (10 + i) 0 < 58
+  pub code-below : getD notes (11 + i) 0 < 58
   code-below =
-      let codes = drop 10 notes in
+      let codes = drop 11 notes in
       omega (arith, below-at (take (getD notes 2 0) codes) i (w .below) (omega (arith, length-take-le (getD notes 2 0) codes (omega (arith, w .few, w .long)))), getD-take (getD notes 2 0) codes i 0 h, at-code)
 
-  pub spelling-on : {r q : Names} → Spelling notes i r → Spells (P.join (take (r .count) (r .names)) (namesOf (getD notes (10 + i) 0))) q → Spelling notes (i + 1) q
+  pub spelling-on : {r q : Names} → Spelling notes i r → Spells (P.join (take (r .count) (r .names)) (namesOf (getD notes (11 + i) 0))) q → Spelling notes (i + 1) q
   spelling-on g y =
-      let more : take (i + 1) (drop 10 notes) ≡ take i (drop 10 notes) ++ (getD (drop 10 notes) i 0 ∷ []) = rw add-one (take-suc (drop 10 notes) i 0 (omega (arith, w .few, w .long))) in
+      let more : take (i + 1) (drop 11 notes) ≡ take i (drop 11 notes) ++ (getD (drop 11 notes) i 0 ∷ []) = rw add-one (take-suc (drop 11 notes) i 0 (omega (arith, w .few, w .long))) in
       record {
         within = omega arith;
         spells =
@@ -211,11 +209,11 @@ module _ (notes : List ℕ) (w : Coded notes) (i : ℕ) (h : i < getD notes 2 0)
               names =
                   y .names
                   ∙ ap₂ (λ (l : List ℕ) (c : ℕ). P.join l (namesOf c)) (g .spells .names) (sym at-code)
-                  ∙ sym (spelled-last [] (take i (drop 10 notes)) (getD (drop 10 notes) i 0))
+                  ∙ sym (spelled-last [] (take i (drop 11 notes)) (getD (drop 11 notes) i 0))
                   ∙ ap spelled (sym more);
               spelt = y .spelt;
             };
       }
 
-pub spelling-all : {notes : List ℕ} {i : ℕ} {r : Names} → Spelling notes i r → getD notes 2 0 ≤ i → Spells (spelled (take (getD notes 2 0) (drop 10 notes))) r
-spelling-all {notes} {i} {r} g h = let e : i ≡ getD notes 2 0 = omega (arith, g .within) in subst (λ (k : ℕ). Spells (spelled (take k (drop 10 notes))) r) e (g .spells)
+pub spelling-all : {notes : List ℕ} {i : ℕ} {r : Names} → Spelling notes i r → getD notes 2 0 ≤ i → Spells (spelled (take (getD notes 2 0) (drop 11 notes))) r
+spelling-all {notes} {i} {r} g h = let e : i ≡ getD notes 2 0 = omega (arith, g .within) in subst (λ (k : ℕ). Spells (spelled (take k (drop 11 notes))) r) e (g .spells)

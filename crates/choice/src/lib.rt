@@ -7,6 +7,7 @@ use notes::names::COUNT;
 use notes::names::ER;
 use notes::names::ERCAP;
 use notes::names::ITEM;
+use notes::names::NUMBER;
 use notes::names::QUOTE;
 use notes::names::UNWANT;
 use notes::names::WANT;
@@ -27,7 +28,7 @@ ghost use Rattle.definition.specs.Run as P;
 ghost use Rattle.definition.specs.Run.{Limits};
 ghost use Rattle.definition.specs.Render.{form-found, form-unknown, form-of, names-of};
 ghost use Rattle.kinds.specs.Sets.{setOf, idsOf};
-ghost use Rattle.notes.specs.Whole.{Whole, beside, codesOf, countOf, erOf, ercapOf, firstOf};
+ghost use Rattle.notes.specs.Whole.{Whole, beside, codesOf, countOf, erOf, ercapOf, firstOf, numberOf};
 ghost use Rattle.notes.specs.Change.{withFull};
 ghost use Rattle.notes.specs.Means as m;
 ghost use Rattle.notes.specs.Means.{source, Rows, namesOf, namesIn};
@@ -223,7 +224,7 @@ impl Names {
 }
 
 // The names that the codes stand for. They are spelled only here, where an error is chosen.
-fn spelled(notes: &[usize; 68]) -> Names
+fn spelled(notes: &[usize; 69]) -> Names
     requires { ⌜ Coded (now notes) ⌝ }
     ensures { λ r. ⌜ Spells (m.spelled (take (countOf (now (notes .entry))) (codesOf (now (notes .entry))))) r ⌝ }
 {
@@ -239,7 +240,7 @@ fn spelled(notes: &[usize; 68]) -> Names
     l
 }
 
-// Writes a record of the first `count` names; where there is no room, says so by 8.
+// Writes a record of the first `count` names, with the number of the item at hand; where there is no room, says so by 8.
 pub fn record(
     start: u32,
     end: u32,
@@ -247,17 +248,18 @@ pub fn record(
     count: usize,
     names: [u8; 96],
     errors: &mut [u32],
-    notes: &mut [usize; 68],
+    notes: &mut [usize; 69],
 ) -> u8
     requires { ⌜
         (erOf (now notes) ≤ ercapOf (now notes))
         × (ercapOf (now notes) ≤ length (now errors))
         × (count ≤ 85)
         × (length names ≡ 96)
-        × Coded (now notes) ⌝ }
+        × Coded (now notes)
+        × (numberOf (now notes) ≤ 65536) ⌝ }
     ensures { λ r. ⌜
         ((s : Whole) → s .full ≡ 0
-        → Noted (start ∷ end ∷ form ∷ count ∷ take count names) (beside (now (notes .entry)) s) (withFull r (beside (now (notes .exit)) s))
+        → Noted (start ∷ end ∷ form ∷ numberOf (now (notes .entry)) ∷ count ∷ take count names) (beside (now (notes .entry)) s) (withFull r (beside (now (notes .exit)) s))
         (now (errors .entry)) (now (errors .exit))) ⌝ }
 {
     let at = notes[ER];
@@ -267,6 +269,7 @@ pub fn record(
     errors[at] = start;
     errors[at + END] = end;
     errors[at + FORM] = form;
+    errors[at + shapes::record::ITEM] = notes[NUMBER] as u32;
     errors[at + shapes::record::COUNT] = count as u32;
     spell(names, count, at + HEAD, errors);
     notes[ER] = at + HEAD + count;
@@ -274,14 +277,15 @@ pub fn record(
 }
 
 // Writes a record of form 9, with the place of the bad byte; where there is no room, says so by 8.
-fn record_bad(start: u32, end: u32, place: u32, errors: &mut [u32], notes: &mut [usize; 68]) -> u8
+fn record_bad(start: u32, end: u32, place: u32, errors: &mut [u32], notes: &mut [usize; 69]) -> u8
     requires { ⌜
         (erOf (now notes) ≤ ercapOf (now notes))
         × (ercapOf (now notes) ≤ length (now errors))
-        × Coded (now notes) ⌝ }
+        × Coded (now notes)
+        × (numberOf (now notes) ≤ 65536) ⌝ }
     ensures { λ r. ⌜
         ((s : Whole) → s .full ≡ 0
-        → Noted (start ∷ end ∷ 9 ∷ 0 ∷ place ∷ []) (beside (now (notes .entry)) s) (withFull r (beside (now (notes .exit)) s))
+        → Noted (start ∷ end ∷ 9 ∷ numberOf (now (notes .entry)) ∷ 0 ∷ place ∷ []) (beside (now (notes .entry)) s) (withFull r (beside (now (notes .exit)) s))
         (now (errors .entry)) (now (errors .exit))) ⌝ }
 {
     let at = notes[ER];
@@ -291,6 +295,7 @@ fn record_bad(start: u32, end: u32, place: u32, errors: &mut [u32], notes: &mut 
     errors[at] = start;
     errors[at + END] = end;
     errors[at + FORM] = 9;
+    errors[at + shapes::record::ITEM] = notes[NUMBER] as u32;
     errors[at + shapes::record::COUNT] = 0;
     errors[at + HEAD] = place;
     notes[ER] = at + HEAD + 1;
@@ -313,7 +318,7 @@ fn choose_at(
     ids: &[u32],
     ends: &[u32],
     errors: &mut [u32],
-    notes: &mut [usize; 68],
+    notes: &mut [usize; 69],
 ) -> u8
     requires { ⌜
         Rows (source (now src) (now ids) (now ends))
@@ -357,7 +362,7 @@ pub fn choose(
     ids: &[u32],
     ends: &[u32],
     errors: &mut [u32],
-    notes: &mut [usize; 68],
+    notes: &mut [usize; 69],
 ) -> u8
     requires { ⌜ Rows (source (now src) (now ids) (now ends)) × Sound (length (now ids)) (now notes) × (ercapOf (now notes) ≤ length (now errors)) ⌝ }
     ensures { λ r. ⌜

@@ -14,8 +14,8 @@ use Rattle.cutter.specs.Glyph.{glyph}
 use Rattle.cutter.specs.Classes as c
 use Rattle.cutter.specs.Tokens as t
 use Rattle.cutter.specs.Matches.{Fits, Listed}
-use Rattle.cutter.specs.Rows.{Row, same, keywords, sought, keyword, named, next, strangeBy, strange, normalBy, normalRow, hexBy, hexRow, jumpBy, jumpRow, row, rows, cutting}
-use Rattle.cutter.specs.Each.{Longest, Unmatched, Mode, Strange, Normal, Hex, Jump, Cuts, Each}
+use Rattle.cutter.specs.Rows.{Row, same, keywords, sought, keyword, named, strangeBy, strange, normalBy, normalRow, hexBy, hexRow, jumpBy, jumpRow, row, rows, cutting}
+use Rattle.cutter.specs.Each.{Longest, Unmatched, Strange, Normal, Hex, Jump, Cuts, Each}
 use Rattle.cutter.specs.Tiles.{Ids}
 use Rattle.cutter.specs.declared.place.Place.{Place}
 use Rattle.cutter.specs.declared.place.Place.the-variants.{Elsewhere, Named, Equated, InHex, InJump, Unclosed}

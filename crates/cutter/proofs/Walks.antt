@@ -3,13 +3,13 @@ use Prim.Native.Nat.{ℕ, zero, suc, _+_, _-_, _*_, _≤_, _<_}
 use mathlib.Core.Path.{_≡_, refl, sym, ap, ap₂, _∙_}
 use mathlib.Core.List.{List, [], _∷_}
 use mathlib.Core.Bool.{Bool, true, false, cond}
-use mathlib.Core.Option.{Option, none, some}
+use mathlib.Core.Option.{none, some}
 use native.Mathlib.Omega.{arith}
 use lib.Dec.{eqb}
 use native.Mathlib.Nat.{le-of-eq}
 use lib.ListN.{length, getD, take, drop, length-drop, drop-of-length-le}
 use lib.Seq.{drop-cons, drop-drop, take-all}
-use borrow.Author.Tests.{eq-eqb, ne-eqb, eqb-true, eqb-false}
+use borrow.Author.Tests.{eq-eqb, ne-eqb, eqb-false}
 use Rattle.cutter.specs.Glyph.{glyph}
 use Rattle.cutter.specs.Expr.{Tokens, Match, step, whole, better, walk, longest}
 use Rattle.cutter.specs.Table.{nextTable, endTable}
@@ -17,7 +17,7 @@ use Rattle.cutter.specs.Lent.{label, best, matchOf, Inside}
 use Rattle.cutter.specs.declared.matcher.Match as m
 use Rattle.cutter.specs.declared.matcher.Match.the-variants.{Found, Nothing}
 use Rattle.cutter.proofs.Tests.{next-at, end-at, ended, starts-none}
-use Rattle.cutter.proofs.Glyphs.{glyph-some, glyph-within, glyph-class, by-test}
+use Rattle.cutter.proofs.Glyphs.{glyph-some, glyph-within, glyph-class}
 
 -- bytes of the character taken last are passed over
 pub skipped : (m at k : ℕ) (ts : Tokens) (b : Match) (xs : List ℕ) → walk m at k ts b xs ≡ walk m at 0 ts b (drop k xs)

@@ -3,7 +3,8 @@ ghost use mathlib.Core.Path.{_≡_};
 ghost use Prim.Native.Nat.{_≤_, _<_};
 ghost use mathlib.Core.Bool.{cond, _&&_};
 ghost use lib.ListN.{getD};
-ghost use Rattle.cutter.specs.Glyph.{stray, two, three, four, plain, high, decoded, follower};
+ghost use Rattle.cutter.specs.Glyph.{two, three, four};
+ghost use Rattle.cutter.specs.Decoded.{stray, plain, high, decoded, follower};
 ghost use Rattle.cutter.specs.Lent.{numberOf};
 
 // A character's number and its length; the length 1 says that the bytes are none.

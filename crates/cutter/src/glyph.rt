@@ -7,7 +7,7 @@ ghost use mathlib.Core.Bool.{_&&_};
 ghost use lib.Dec.{leb};
 ghost use lib.ListN.{length};
 ghost use Rattle.cutter.specs.Classes.{wides, wideClass};
-ghost use Rattle.cutter.specs.Glyph.{high, glyph};
+ghost use Rattle.cutter.specs.Glyph.{glyph};
 ghost use Rattle.cutter.specs.Lent.{glyphOf};
 ghost use Rattle.cutter.specs.Table.{classTable};
 

@@ -159,24 +159,24 @@ end-same : (a b R : List ℕ) → End a R → End b R → length a ≡ length b 
 end-same a b R p q l = append-same (p .0) (q .0) a b (p .1 ∙ sym (q .1)) l
 
 -- only condition_blk is loose, and every production is sound
-loose-production : (a : Production) → T (loose (grammar a)) → T (loose (node a))
+loose-production : (E : Bool) (a : Production) → T (loose (grammar E a)) → T (loose (node a))
 unfolding productions grammar kind
-loose-production = each-if (λ a. loose (grammar a)) (λ a. loose (node a)) tt
+loose-production E = each-if (λ a. loose (grammar E a)) (λ a. loose (node a)) tt
 
-pub sound-productions : (a : Production) → T (sound (grammar a))
+pub sound-productions : (E : Bool) (a : Production) → T (sound (grammar E a))
 unfolding productions grammar kind
-sound-productions = each (λ a. sound (grammar a)) tt
+sound-productions E = each (λ a. sound (grammar E a)) tt
 
-pub to-memo : {a : Production} {r : List ℕ} {x : Res} → Peg (node a) r x → Peg (memo a) r x
+pub to-memo : {E : Bool} {a : Production} {r : List ℕ} {x : Res} → Peg E (node a) r x → Peg E (memo a) r x
 to-memo (node-is d) = memo-is d
 
-pub of-node : {a : Production} {r : List ℕ} {x : Res} → Peg (node a) r x → Peg (grammar a) r x
-of-node (node-is d) = d
+pub of-node : (E : Bool) {a : Production} {r : List ℕ} {x : Res} → Peg E (node a) r x → Peg E (grammar E a) r x
+of-node E (node-is d) = d
 
-module _ (R : List ℕ) where
+module _ (E : Bool) (R : List ℕ) where
   -- what the cache holds fails in the PEG
   abbrev pub Valid : List (ℕ × ℕ) → Type 0
-  Valid c = (a : Production) (r : List ℕ) → End r R → known c (length r) (kind a) ≡ true → Peg (grammar a) (strip r) Res.no
+  Valid c = (a : Production) (r : List ℕ) → End r R → known c (length r) (kind a) ≡ true → Peg E (grammar E a) (strip r) Res.no
 
   pub record Inv (s : State) : Type 0 where
     pub rows : End (s .rest) R
@@ -186,12 +186,12 @@ module _ (R : List ℕ) where
 
   -- from r the PEG comes to r′; or it fails, and a `recover` at the end let it pass
   abbrev pub Won : Prog → List ℕ → List ℕ → Type 0
-  Won p r r′ = Peg p r (Res.yes r′) ⊎ (T (loose p) × Peg p r Res.no × (r′ ≡ []))
+  Won p r r′ = Peg E p r (Res.yes r′) ⊎ (T (loose p) × Peg E p r Res.no × (r′ ≡ []))
 
   pub record Sim (p : Prog) (s t : State) : Type 0 where
     pub inv : Inv t
     pub good : s .mode ≡ ok → t .mode ≡ ok → Won p (strip (s .rest)) (strip (t .rest))
-    pub bad : s .mode ≡ ok → t .mode ≡ failed → Peg p (strip (s .rest)) Res.no
+    pub bad : s .mode ≡ ok → t .mode ≡ failed → Peg E p (strip (s .rest)) Res.no
     pub late : s .mode ≡ failed → t .mode ≡ ok → T (loose p) × (strip (t .rest) ≡ [])
 
   abbrev pub Good : Prog → Reader → Type 0
@@ -199,7 +199,7 @@ module _ (R : List ℕ) where
 
   -- the same from good order
   abbrev pub OkSim : Prog → State → State → Type 0
-  OkSim p s t = Inv t × (t .mode ≡ ok → Won p (strip (s .rest)) (strip (t .rest))) × (t .mode ≡ failed → Peg p (strip (s .rest)) Res.no)
+  OkSim p s t = Inv t × (t .mode ≡ ok → Won p (strip (s .rest)) (strip (t .rest))) × (t .mode ≡ failed → Peg E p (strip (s .rest)) Res.no)
 
   pub guarded : (p : Prog) (f : Reader) → ((s : State) → s .mode ≡ ok → Inv s → Fine (f s) → OkSim p s (f s)) → Good p (if-ok f)
   guarded p f g s = go (s .mode) s
@@ -266,15 +266,15 @@ module _ (R : List ℕ) where
       let x = F (trivia s) (inv-trivia s i) h in (
         x .inv,
         (λ e. subst (λ (l : List ℕ). Won p l (strip ((f (trivia s)) .rest))) (strip-gap (s .mode) (s .rest)) (x .good m e)),
-        λ e. subst (λ (l : List ℕ). Peg p l Res.no) (strip-gap (s .mode) (s .rest)) (x .bad m e),
+        λ e. subst (λ (l : List ℕ). Peg E p l Res.no) (strip-gap (s .mode) (s .rest)) (x .bad m e),
       )
 
   -- a result carried over to a program that has the same results and is loose where the first is
-  carry : (p q : Prog) (r r′ : List ℕ) → (T (loose p) → T (loose q)) → ((x : Res) → Peg p r x → Peg q r x) → Won p r r′ → Won q r r′
+  carry : (p q : Prog) (r r′ : List ℕ) → (T (loose p) → T (loose q)) → ((x : Res) → Peg E p r x → Peg E q r x) → Won p r r′ → Won q r r′
   carry p q r r′ l f (inl d) = inl (f (Res.yes r′) d)
   carry p q r r′ l f (inr x) = inr (l (x .0), f Res.no (x .1), x .2)
 
-  carried : (p q : Prog) (s t : State) → (T (loose p) → T (loose q)) → ((x : Res) → Peg p (strip (s .rest)) x → Peg q (strip (s .rest)) x) → OkSim p s t → OkSim q s t
+  carried : (p q : Prog) (s t : State) → (T (loose p) → T (loose q)) → ((x : Res) → Peg E p (strip (s .rest)) x → Peg E q (strip (s .rest)) x) → OkSim p s t → OkSim q s t
   carried p q s t l f x = (x .0, (λ e. carry p q (strip (s .rest)) (strip (t .rest)) l f (x .1 e)), λ e. f Res.no (x .2 e))
 
   branch-sim : (S : List ℕ) (p : Prog) (f : Reader) → Good p f → (s : State) → s .mode ≡ ok → Inv s → (x : Next) → next S (s .rest) ≡ x → Fine (branch (map idOf S) f x s) → OkSim (ifnext S p) s (branch (map idOf S) f x s)
@@ -287,7 +287,7 @@ module _ (R : List ℕ) where
   not-loose false n t = absurd t
 
   -- the PEG's own result, of a program that is not loose
-  pub firm : (p : Prog) (r r′ : List ℕ) → T (not (loose p)) → Won p r r′ → Peg p r (Res.yes r′)
+  pub firm : (p : Prog) (r r′ : List ℕ) → T (not (loose p)) → Won p r r′ → Peg E p r (Res.yes r′)
   firm p r r′ n (inl d) = d
   firm p r r′ n (inr x) = not-loose (loose p) n (x .0)
 
@@ -335,7 +335,7 @@ module _ (R : List ℕ) where
           let y = C (turn ok t) refl (x .0) (omega arith) h in
           (y .0, (λ e. carry-many d (y .1 e)), λ e. many-yes d (y .2 e))
         where
-          carry-many : {r r₁ r₂ : List ℕ} → Peg p r (Res.yes r₁) → Won (many p) r₁ r₂ → Won (many p) r r₂
+          carry-many : {r r₁ r₂ : List ℕ} → Peg E p r (Res.yes r₁) → Won (many p) r₁ r₂ → Won (many p) r r₂
           carry-many d (inl e) = inl (many-yes d e)
           carry-many d (inr x) = absurd (x .0)
       go failed t A B C h = let x = A (tt, h .1) in (inv-undone s (turn failed t) i refl (x .0), (λ e. inl (many-no (x .2 refl))), λ e. not-ok e)
@@ -365,7 +365,7 @@ module _ (R : List ℕ) where
       let y = G u (x .inv) h in
       record { inv = y .inv; good = λ m e. good′ x y m e (u .mode) refl (fu .0); bad = λ m e. bad′ x y m e (u .mode) refl (fu .0); late = λ m e. late′ x y m e (u .mode) refl (fu .0) }
     where
-      both : {r r₁ r₂ : List ℕ} → Peg p r (Res.yes r₁) → Won q r₁ r₂ → Won (p ⨟ q) r r₂
+      both : {r r₁ r₂ : List ℕ} → Peg E p r (Res.yes r₁) → Won q r₁ r₂ → Won (p ⨟ q) r r₂
       both d (inl e) = inl (seq-yes d e)
       both d (inr x) = inr (or-left (loose q) (loose p && not (taking q)) (x .0), seq-yes d (x .1), x .2)
 
@@ -378,11 +378,11 @@ module _ (R : List ℕ) where
       good′ x y n e failed m r = let z = y .late m e in inr (or-left (loose q) (loose p && not (taking q)) (z .0), seq-no (x .bad n m), z .1)
       good′ x y n e (stopped w) m r = absurd r
 
-      bad₁ : (f s) .mode ≡ ok → (g (f s)) .mode ≡ failed → Sim q (f s) (g (f s)) → Won p (strip (s .rest)) (strip ((f s) .rest)) → Peg (p ⨟ q) (strip (s .rest)) Res.no
+      bad₁ : (f s) .mode ≡ ok → (g (f s)) .mode ≡ failed → Sim q (f s) (g (f s)) → Won p (strip (s .rest)) (strip ((f s) .rest)) → Peg E (p ⨟ q) (strip (s .rest)) Res.no
       bad₁ m e y (inl d) = seq-yes d (y .bad m e)
       bad₁ m e y (inr x) = seq-no (x .1)
 
-      bad′ : Sim p s (f s) → Sim q (f s) (g (f s)) → s .mode ≡ ok → (g (f s)) .mode ≡ failed → (m : Mode) → (f s) .mode ≡ m → Running m → Peg (p ⨟ q) (strip (s .rest)) Res.no
+      bad′ : Sim p s (f s) → Sim q (f s) (g (f s)) → s .mode ≡ ok → (g (f s)) .mode ≡ failed → (m : Mode) → (f s) .mode ≡ m → Running m → Peg E (p ⨟ q) (strip (s .rest)) Res.no
       bad′ x y n e ok m r = bad₁ m e y (x .good n m)
       bad′ x y n e failed m r = seq-no (x .bad n m)
       bad′ x y n e (stopped w) m r = absurd r
@@ -425,12 +425,12 @@ module _ (R : List ℕ) where
       go (stopped w) s i h = absurd (h .0)
 
   -- a failure that is remembered
-  valid-more : (c : List (ℕ × ℕ)) (a : Production) (r : List ℕ) → End r R → Peg (grammar a) (strip r) Res.no → Valid c → Valid ((length r, kind a) ∷ c)
+  valid-more : (c : List (ℕ × ℕ)) (a : Production) (r : List ℕ) → End r R → Peg E (grammar E a) (strip r) Res.no → Valid c → Valid ((length r, kind a) ∷ c)
   valid-more c a r p d v b r′ p′ = go (eqb (length r′) (length r)) (eqb (kind b) (kind a)) (eqb→eq (length r′) (length r)) (eqb→eq (kind b) (kind a))
     where
-      go : (x y : Bool) → (T x → length r′ ≡ length r) → (T y → kind b ≡ kind a) → _≡_ {A = Bool} (elim (x && y) [ true ↦ true | false ↦ known c (length r′) (kind b) ]) true → Peg (grammar b) (strip r′) Res.no
+      go : (x y : Bool) → (T x → length r′ ≡ length r) → (T y → kind b ≡ kind a) → _≡_ {A = Bool} (elim (x && y) [ true ↦ true | false ↦ known c (length r′) (kind b) ]) true → Peg E (grammar E b) (strip r′) Res.no
       go true true l k e =
-          subst (λ (l : List ℕ). Peg (grammar b) (strip l) Res.no) (sym (end-same r′ r R p′ p (l tt))) (subst (λ (q : Production). Peg (grammar q) (strip r) Res.no) (sym (kind-inj b a (k tt))) d)
+          subst (λ (l : List ℕ). Peg E (grammar E b) (strip l) Res.no) (sym (end-same r′ r R p′ p (l tt))) (subst (λ (q : Production). Peg E (grammar E q) (strip r) Res.no) (sym (kind-inj b a (k tt))) d)
       go true false l k e = v b r′ p′ e
       go false y l k e = v b r′ p′ e
 
@@ -454,7 +454,7 @@ module _ (R : List ℕ) where
       go failed t A h =
           let x = A h in
           let d = x .bad m refl in
-          (record { rows = x .inv .rows; clear = x .inv .clear; valid = valid-more (t .cache) a (s .rest) (i .rows) (of-node d) (x .inv .valid); told = inr (noted-failed (turn failed t) refl (x .inv)) }, (λ e. not-failed e), λ _. to-memo d)
+          (record { rows = x .inv .rows; clear = x .inv .clear; valid = valid-more (t .cache) a (s .rest) (i .rows) (of-node E d) (x .inv .valid); told = inr (noted-failed (turn failed t) refl (x .inv)) }, (λ e. not-failed e), λ _. to-memo d)
       go (stopped w) t A h = absurd (h .0)
 
   -- a node's ends
@@ -487,7 +487,7 @@ module _ (R : List ℕ) where
       go true (stopped w) u A h = absurd (h .0)
       go false (stopped w) u A h = absurd (h .0)
 
-  nodes-sim : (d : ℕ) (o : Bool) (a : Production) (f : Reader) → Good (grammar a) f → ((s : State) → Grown s (f s)) → Good (node a) (nodes d o (kind a) f)
+  nodes-sim : (d : ℕ) (o : Bool) (a : Production) (f : Reader) → Good (grammar E a) f → ((s : State) → Grown s (f s)) → Good (node a) (nodes d o (kind a) f)
   nodes-sim d o a f F fg s i h =
       let t : State = begin d s in
       let c : State = charge d (s .fuel) (trivia s) in
@@ -497,9 +497,9 @@ module _ (R : List ℕ) where
       let r : strip (t .rest) ≡ strip (s .rest) = ap strip (charge-rest d (s .fuel) (trivia s)) ∙ strip-gap (s .mode) (s .rest) in
       record {
         inv = z .1;
-        good = λ m e. subst (λ (l : List ℕ). Won (node a) (strip (s .rest)) (strip l)) (sym (z .3)) (carry (grammar a) (node a) _ _ (loose-production a) (λ _ g. node-is g) (subst (λ (l : List ℕ). Won (grammar a) l (strip ((f t) .rest))) r (x .good (b .1 ∙ m) (sym (z .2) ∙ e))));
-        bad = λ m e. node-is (subst (λ (l : List ℕ). Peg (grammar a) l Res.no) r (x .bad (b .1 ∙ m) (sym (z .2) ∙ e)));
-        late = λ m e. let y = x .late (b .1 ∙ m) (sym (z .2) ∙ e) in (loose-production a (y .0), ap strip (z .3) ∙ y .1);
+        good = λ m e. subst (λ (l : List ℕ). Won (node a) (strip (s .rest)) (strip l)) (sym (z .3)) (carry (grammar E a) (node a) _ _ (loose-production E a) (λ _ g. node-is g) (subst (λ (l : List ℕ). Won (grammar E a) l (strip ((f t) .rest))) r (x .good (b .1 ∙ m) (sym (z .2) ∙ e))));
+        bad = λ m e. node-is (subst (λ (l : List ℕ). Peg E (grammar E a) l Res.no) r (x .bad (b .1 ∙ m) (sym (z .2) ∙ e)));
+        late = λ m e. let y = x .late (b .1 ∙ m) (sym (z .2) ∙ e) in (loose-production E a (y .0), ap strip (z .3) ∙ y .1);
       }
     where
       t-inv : Running ((begin d s) .mode) → Inv (begin d s)
@@ -537,12 +537,12 @@ module _ (R : List ℕ) where
     exec-sim (node a) t o = cm o a
     exec-sim (memo a) t o = guarded (memo a) _ (λ s m i h. memo-sim a (call o a) (cm o a) (cg o a) s m i (known (s .cache) (length (s .rest)) (kind a)) refl h)
 
-  pub run-sim : (d : ℕ) (o : Bool) (a : Production) → Good (node a) (run d o a)
-  run-sim zero o a s i h = absurd (run-zero o a s (h .0))
-  run-sim (suc d) o a s i h = nodes-sim (suc d) o a (exec d (run d) (grammar a) o) (exec-sim d (run d) (grows d) cs ct (λ o b s i h. run-sim d o b s i h) (grammar a) (sound-productions a) o) (exec-grown d (run d) (grows d) cs ct (grammar a) o) s i h
+  pub run-sim : (d : ℕ) (o : Bool) (a : Production) → Good (node a) (run E d o a)
+  run-sim zero o a s i h = absurd (run-zero E o a s (h .0))
+  run-sim (suc d) o a s i h = nodes-sim (suc d) o a (exec d (run E d) (grammar E a) o) (exec-sim d (run E d) (grows E d) cs ct (λ o b s i h. run-sim d o b s i h) (grammar E a) (sound-productions E a) o) (exec-grown d (run E d) (grows E d) cs ct (grammar E a) o) s i h
     where
-      cs : (o : Bool) (b : Production) (s : State) → (run d o b s) .mode ≡ ok → s .mode ≡ ok
-      cs o b s e = run-ok d o b s e .0
+      cs : (o : Bool) (b : Production) (s : State) → (run E d o b s) .mode ≡ ok → s .mode ≡ ok
+      cs o b s e = run-ok E d o b s e .0
 
-      ct : (o : Bool) (b : Production) (s : State) → (run d o b s) .mode ≡ ok → size (run d o b s) < size s
-      ct o b s e = run-ok d o b s e .1
+      ct : (o : Bool) (b : Production) (s : State) → (run E d o b s) .mode ≡ ok → size (run E d o b s) < size s
+      ct o b s e = run-ok E d o b s e .1

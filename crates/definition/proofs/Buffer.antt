@@ -3,22 +3,23 @@ use Prim.Native.Nat.{ℕ, zero, suc, _+_, _-_, _*_, _≤_, _<_}
 use mathlib.Core.Path.{_≡_, refl, ap, ap₂, sym, _∙_, subst}
 use mathlib.Core.List.{List, [], _∷_, _++_, append-nil, append-assoc}
 use mathlib.Core.Bool.{Bool, true, false}
-use lib.ListN.{length, set, length-set, length-append}
+use lib.Dec.{eqb}
+use lib.ListN.{length, getD, set, length-set, length-append}
 use native.Mathlib.Omega.{arith}
 use Rattle.kinds.specs.Kinds as kinds
 use Rattle.kinds.specs.Sets.{kindOf, trivial}
 use Rattle.shapes.specs.Sort as Sort
-use Rattle.shapes.specs.Shapes.{EVENT, KIND, END, Entry, event, flat}
+use Rattle.shapes.specs.Shapes.{EVENT, KIND, END, DEPTH, Entry, event, flat}
 use Rattle.definition.specs.Prog.{Prog, Production}
 use Rattle.definition.specs.Grammar.{item-of}
 use Rattle.definition.specs.Run.{State, Reader, Limits, Event, opened, leaf, closed, bad, Mode, ok, failed, stopped, next, past, trivia-out, trivia, seek-out, take, turn, charge, begin, finish, nodes, exec, run, read, Choice, stray, Next, end, other, hit, sought, seek, errors, rule-keywords, item-keywords, read-item, stray-item, item-at, flush, again, item}
 use Rattle.definition.specs.Render.{Source, starts-at, ends-at, span-end, bads, render, inside}
-use Rattle.definition.specs.Buffer.{patch, buffered, buffer}
+use Rattle.definition.specs.Buffer.{height, cell, next-depth, patch, buffered, buffer}
 use Rattle.definition.specs.Open.{Nest, Adds, Open}
 use Rattle.definition.proofs.Gap.{gap-out}
 use Rattle.definition.proofs.Induct.{exec-kept, run-kept}
 use Rattle.definition.proofs.Order.{Steps, stepped}
-use Rattle.definition.proofs.Tidy.{nest-trans, read-tidy}
+use Rattle.definition.proofs.Tidy.{nest-trans}
 
 -- APPENDING
 module _ (x : Source) where
@@ -26,15 +27,15 @@ module _ (x : Source) where
   unfolding buffered
   buffer-none = refl
 
-  pub buffer-opened : (n : ℕ) (o : List Event) → buffer x (opened n ∷ o) ≡ buffer x o ++ event Sort.BEGIN 0 (starts-at x n) (starts-at x n)
+  pub buffer-opened : (n : ℕ) (o : List Event) → buffer x (opened n ∷ o) ≡ buffer x o ++ event Sort.BEGIN 0 (starts-at x n) (starts-at x n) (cell (height o))
   unfolding buffered
   buffer-opened n o = refl
 
-  pub buffer-leaf : (a n : ℕ) (o : List Event) → buffer x (leaf a n ∷ o) ≡ buffer x o ++ event Sort.TOKEN a (starts-at x n) (ends-at x n)
+  pub buffer-leaf : (a n : ℕ) (o : List Event) → buffer x (leaf a n ∷ o) ≡ buffer x o ++ event Sort.TOKEN a (starts-at x n) (ends-at x n) (cell (height o))
   unfolding buffered
   buffer-leaf a n o = refl
 
-  pub buffer-bad : (n : ℕ) (c : Choice) (o : List Event) → buffer x (bad n c ∷ o) ≡ buffer x o ++ event Sort.ERROR (bads o) (starts-at x n) (ends-at x n)
+  pub buffer-bad : (n : ℕ) (c : Choice) (o : List Event) → buffer x (bad n c ∷ o) ≡ buffer x o ++ event Sort.ERROR (bads o) (starts-at x n) (ends-at x n) (cell (height o))
   unfolding buffered
   buffer-bad n c o = refl
 
@@ -69,13 +70,13 @@ patch-before p a e l q h g =
     ∙ set-before (set l (p - EVENT + KIND) a) q (p - EVENT + END) e (omega (arith, h, g, length-set l (p - EVENT + KIND) a))
 
 -- the provisional event is the last
-patch-last : (k a e s : ℕ) (l : List ℕ) → length l ≡ EVENT * k → patch (EVENT * suc k) a e (l ++ event Sort.BEGIN 0 s s) ≡ l ++ event Sort.BEGIN a s e
-patch-last k a e s l h =
+patch-last : (k a e s d : ℕ) (l : List ℕ) → length l ≡ EVENT * k → patch (EVENT * suc k) a e (l ++ event Sort.BEGIN 0 s s d) ≡ l ++ event Sort.BEGIN a s e d
+patch-last k a e s d l h =
     let i₁ : EVENT * suc k - EVENT + KIND ≡ length l + KIND = omega (arith, h) in
     let i₂ : EVENT * suc k - EVENT + END ≡ length l + END = omega (arith, h) in
-    ap₂ (λ (i j : ℕ). set (set (l ++ event Sort.BEGIN 0 s s) i a) j e) i₁ i₂
-    ∙ ap (λ (t : List ℕ). set t (length l + END) e) (set-after l (event Sort.BEGIN 0 s s) KIND a)
-    ∙ set-after l (event Sort.BEGIN a s s) END e
+    ap₂ (λ (i j : ℕ). set (set (l ++ event Sort.BEGIN 0 s s d) i a) j e) i₁ i₂
+    ∙ ap (λ (t : List ℕ). set t (length l + END) e) (set-after l (event Sort.BEGIN 0 s s d) KIND a)
+    ∙ set-after l (event Sort.BEGIN a s s d) END e
 
 module _ (x : Source) (t : ℕ × ℕ) (n : ℕ) (before : List Event) where
   abbrev spot : ℕ
@@ -93,38 +94,92 @@ module _ (x : Source) (t : ℕ × ℕ) (n : ℕ) (before : List Event) where
   -- a closing more at the stack's bottom reaches the opening that inner leaves open
   reaches : (st : List (ℕ × ℕ)) (inner : List Event) → Nest (length st) inner 0 → buffered x (st ++ (t ∷ [])) (all inner) ≡ patch spot (t .0) (t .1) (buffered x st (all inner))
   unfolding buffered
-  reaches [] [] p = sym (patch-last (length before) (t .0) (t .1) (starts-at x n) (buffered x [] before) (buffered-length x [] before))
+  reaches [] [] p = sym (patch-last (length before) (t .0) (t .1) (starts-at x n) (cell (height before)) (buffered x [] before) (buffered-length x [] before))
   reaches (u ∷ st) [] p = absurd (omega (arith, p))
   reaches [] (opened m ∷ w) p = absurd p
-  reaches (u ∷ st) (opened m ∷ w) p = one-more st (st ++ (t ∷ [])) w (event Sort.BEGIN (u .0) (starts-at x m) (u .1)) (reaches st w p)
-  reaches st (leaf a m ∷ w) p = one-more st (st ++ (t ∷ [])) w (event Sort.TOKEN a (starts-at x m) (ends-at x m)) (reaches st w p)
-  reaches st (closed a m k ∷ w) p = one-more ((a, span-end x m k) ∷ st) (((a, span-end x m k) ∷ st) ++ (t ∷ [])) w (event Sort.END a (starts-at x m) (span-end x m k)) (reaches ((a, span-end x m k) ∷ st) w p)
-  reaches st (bad m c ∷ w) p = one-more st (st ++ (t ∷ [])) w (event Sort.ERROR (bads (all w)) (starts-at x m) (ends-at x m)) (reaches st w p)
+  reaches (u ∷ st) (opened m ∷ w) p = one-more st (st ++ (t ∷ [])) w (event Sort.BEGIN (u .0) (starts-at x m) (u .1) (cell (height (all w)))) (reaches st w p)
+  reaches st (leaf a m ∷ w) p = one-more st (st ++ (t ∷ [])) w (event Sort.TOKEN a (starts-at x m) (ends-at x m) (cell (height (all w)))) (reaches st w p)
+  reaches st (closed a m k ∷ w) p = one-more ((a, span-end x m k) ∷ st) (((a, span-end x m k) ∷ st) ++ (t ∷ [])) w (event Sort.END a (starts-at x m) (span-end x m k) (cell (height (all w) - 1))) (reaches ((a, span-end x m k) ∷ st) w p)
+  reaches st (bad m c ∷ w) p = one-more st (st ++ (t ∷ [])) w (event Sort.ERROR (bads (all w)) (starts-at x m) (ends-at x m) (cell (height (all w)))) (reaches st w p)
 
 pub buffer-closed : (x : Source) (a n m j : ℕ) (inner before : List Event) → Nest 0 inner 0 → let o : List Event = inner ++ (opened j ∷ before) in
-    buffer x (closed a n m ∷ o) ≡ patch (EVENT * suc (length before)) a (span-end x n m) (buffer x o) ++ event Sort.END a (starts-at x n) (span-end x n m)
+    buffer x (closed a n m ∷ o) ≡ patch (EVENT * suc (length before)) a (span-end x n m) (buffer x o) ++ event Sort.END a (starts-at x n) (span-end x n m) (cell (height o - 1))
 unfolding buffered
-buffer-closed x a n m j inner before p = ap (λ (l : List ℕ). l ++ event Sort.END a (starts-at x n) (span-end x n m)) (reaches x (a, span-end x n m) j before [] inner p)
+buffer-closed x a n m j inner before p = ap (λ (l : List ℕ). l ++ event Sort.END a (starts-at x n) (span-end x n m) (cell (height (inner ++ (opened j ∷ before)) - 1))) (reaches x (a, span-end x n m) j before [] inner p)
 
--- FINISHED
-module _ (x : Source) where
-  entry-on : (l : List ℕ) (q : Entry) (z : List Entry) → l ++ flat (q ∷ z) ≡ (l ++ event (q .0) (q .1) (q .2) (q .3)) ++ flat z
-  entry-on l q z = sym (append-assoc l (event (q .0) (q .1) (q .2) (q .3)) (flat z))
+-- THE DEPTH, out of what stands before the place
+cell-suc : (n : ℕ) → cell (cell n + 1) ≡ cell (suc n)
+cell-suc n = native.Mathlib.Nat.mod-add-mod n 4294967296 1 ∙ ap cell (native.Mathlib.Numerals.add-one n)
 
-  finished : (st : List (ℕ × ℕ)) (o : List Event) (z : List Entry) (g : ℕ) → Nest (length st) o g → flat (render x st o z) ≡ buffered x st o ++ flat z
+-- the last event's sort and depth
+last-of : (l : List ℕ) (n : ℕ) (b : List ℕ) (s a c e d : ℕ) → length b ≡ EVENT * n → lib.ListN.take (EVENT * suc n) l ≡ b ++ event s a c e d → (getD l (EVENT * suc n - EVENT) 0 ≡ s) × (getD l (EVENT * suc n - EVENT + DEPTH) 0 ≡ d)
+last-of l n b s a c e d h t = (ap (λ (i : ℕ). getD l i 0) (sym (native.Mathlib.Nat.add-zero (EVENT * suc n - EVENT))) ∙ at 0 (omega arith), at DEPTH (omega arith))
+  where
+    at : (i : ℕ) → i < EVENT → getD l (EVENT * suc n - EVENT + i) 0 ≡ getD (event s a c e d) i 0
+    at i k =
+        sym (lib.Seq.getD-take (EVENT * suc n) l (EVENT * suc n - EVENT + i) 0 (omega (arith, k)))
+        ∙ ap₂ (λ (m : List ℕ) (j : ℕ). getD m j 0) t (omega (arith, h))
+        ∙ lib.Seq.getD-append-add b (event s a c e d) i 0
+
+next-behind : (l : List ℕ) (n : ℕ) (s d : ℕ) → (getD l (EVENT * suc n - EVENT) 0 ≡ s) × (getD l (EVENT * suc n - EVENT + DEPTH) 0 ≡ d) → next-depth l (EVENT * suc n) ≡ elim (eqb s Sort.BEGIN) [ true ↦ cell (d + 1) | false ↦ d ]
+next-behind l n s d p =
+    ap (λ (c : Bool). elim c [ true ↦ 1 | false ↦ elim (eqb (getD l (EVENT * suc n - EVENT) 0) Sort.BEGIN) [ true ↦ cell (getD l (EVENT * suc n - EVENT + DEPTH) 0 + 1) | false ↦ getD l (EVENT * suc n - EVENT + DEPTH) 0 ] ]) (borrow.Author.Tests.le-ltb (EVENT * suc n) EVENT (omega arith))
+    ∙ ap₂ (λ (i j : ℕ). elim (eqb i Sort.BEGIN) [ true ↦ cell (j + 1) | false ↦ j ]) (p .0) (p .1)
+
+pub next-is : (x : Source) (l : List ℕ) (o : List Event) → lib.ListN.take (EVENT * length o) l ≡ buffer x o → next-depth l (EVENT * length o) ≡ cell (height o)
+unfolding buffered
+next-is x l [] t = refl
+next-is x l (opened n ∷ o) t = next-behind l (length o) Sort.BEGIN (cell (height o)) (last-of l (length o) (buffered x [] o) Sort.BEGIN 0 (starts-at x n) (starts-at x n) (cell (height o)) (buffered-length x [] o) t) ∙ cell-suc (height o)
+next-is x l (leaf a n ∷ o) t = next-behind l (length o) Sort.TOKEN (cell (height o)) (last-of l (length o) (buffered x [] o) Sort.TOKEN a (starts-at x n) (ends-at x n) (cell (height o)) (buffered-length x [] o) t)
+next-is x l (closed a n m ∷ o) t = let st : List (ℕ × ℕ) = (a, span-end x n m) ∷ [] in next-behind l (length o) Sort.END (cell (height o - 1)) (last-of l (length o) (buffered x st o) Sort.END a (starts-at x n) (span-end x n m) (cell (height o - 1)) (buffered-length x st o) t)
+next-is x l (bad n c ∷ o) t = next-behind l (length o) Sort.ERROR (cell (height o)) (last-of l (length o) (buffered x [] o) Sort.ERROR (bads o) (starts-at x n) (ends-at x n) (cell (height o)) (buffered-length x [] o) t)
+
+-- FINISHED: where every node is closed, and none lies so deep that a cell cannot hold its depth
+abbrev pub Low : ℕ → List Event → Type 0
+Low m [] = 1 ≤ m
+Low m (e ∷ o) = (height (e ∷ o) ≤ m) × Low m o
+
+pub low-here : (m : ℕ) (o : List Event) → Low m o → height o ≤ m
+low-here m [] l = l
+low-here m (e ∷ o) l = l .0
+
+-- what w leaves open is counted
+pub height-nest : (h : ℕ) (w a : List Event) → Nest h w 0 → height (w ++ a) ≡ height a + h
+height-nest h [] a p = omega (arith, p)
+height-nest zero (opened n ∷ w) a p = absurd p
+height-nest (suc h) (opened n ∷ w) a p = omega (arith, height-nest h w a p)
+height-nest h (leaf k n ∷ w) a p = height-nest h w a p
+height-nest h (closed k n m ∷ w) a p = omega (arith, height-nest (suc h) w a p)
+height-nest h (bad n c ∷ w) a p = height-nest h w a p
+
+pub cell-small : (n : ℕ) → n < 4294967296 → cell n ≡ n
+cell-small n h = omega (arith, h)
+
+module _ (x : Source) (m : ℕ) (small : m < 4294967296) where
+  level : (h : ℕ) (o : List Event) → Nest h o 0 → Low m o → suc h ≡ cell (height o)
+  level h o p l =
+      let e : height o ≡ suc h = ap height (sym (append-nil o)) ∙ height-nest h o [] p ∙ omega arith in
+      sym (cell-small (height o) (omega (arith, low-here m o l, small)) ∙ e)
+
+  behind : (h : ℕ) (o : List Event) → Nest (suc h) o 0 → Low m o → suc h ≡ cell (height o - 1)
+  behind h o p l =
+      let e : height o ≡ suc (suc h) = ap height (sym (append-nil o)) ∙ height-nest (suc h) o [] p ∙ omega arith in
+      sym (cell-small (height o - 1) (omega (arith, low-here m o l, small)) ∙ omega (arith, e))
+
+  entry-on : (l : List ℕ) (s a b c : ℕ) {d d′ : ℕ} (z : List Entry) → d ≡ d′ → l ++ flat ((s, a, b, c, d) ∷ z) ≡ (l ++ event s a b c d′) ++ flat z
+  entry-on l s a b c {d} z e = ap (λ (i : ℕ). l ++ flat ((s, a, b, c, i) ∷ z)) e ∙ sym (append-assoc l (event s a b c _) (flat z))
+
+  finished : (st : List (ℕ × ℕ)) (o : List Event) (z : List Entry) → Nest (length st) o 0 → Low m o → flat (render x st o z) ≡ buffered x st o ++ flat z
   unfolding buffered
-  finished st [] z g p = refl
-  finished [] (opened n ∷ es) z g p = absurd p
-  finished (t ∷ st) (opened n ∷ es) z g p = finished st es ((Sort.BEGIN, t .0, starts-at x n, t .1) ∷ z) g p ∙ entry-on (buffered x st es) (Sort.BEGIN, t .0, starts-at x n, t .1) z
-  finished st (leaf a n ∷ es) z g p = finished st es ((Sort.TOKEN, a, starts-at x n, ends-at x n) ∷ z) g p ∙ entry-on (buffered x st es) (Sort.TOKEN, a, starts-at x n, ends-at x n) z
-  finished st (closed a n m ∷ es) z g p = finished ((a, span-end x n m) ∷ st) es ((Sort.END, a, starts-at x n, span-end x n m) ∷ z) g p ∙ entry-on (buffered x ((a, span-end x n m) ∷ st) es) (Sort.END, a, starts-at x n, span-end x n m) z
-  finished st (bad n c ∷ es) z g p = finished st es ((Sort.ERROR, bads es, starts-at x n, ends-at x n) ∷ z) g p ∙ entry-on (buffered x st es) (Sort.ERROR, bads es, starts-at x n, ends-at x n) z
+  finished st [] z p l = refl
+  finished [] (opened n ∷ es) z p l = absurd p
+  finished (t ∷ st) (opened n ∷ es) z p l = finished st es ((Sort.BEGIN, t .0, starts-at x n, t .1, suc (length st)) ∷ z) p (l .1) ∙ entry-on (buffered x st es) Sort.BEGIN (t .0) (starts-at x n) (t .1) z (level (length st) es p (l .1))
+  finished st (leaf a n ∷ es) z p l = finished st es ((Sort.TOKEN, a, starts-at x n, ends-at x n, suc (length st)) ∷ z) p (l .1) ∙ entry-on (buffered x st es) Sort.TOKEN a (starts-at x n) (ends-at x n) z (level (length st) es p (l .1))
+  finished st (closed a n j ∷ es) z p l = finished ((a, span-end x n j) ∷ st) es ((Sort.END, a, starts-at x n, span-end x n j, suc (length st)) ∷ z) p (l .1) ∙ entry-on (buffered x ((a, span-end x n j) ∷ st) es) Sort.END a (starts-at x n) (span-end x n j) z (behind (length st) es p (l .1))
+  finished st (bad n c ∷ es) z p l = finished st es ((Sort.ERROR, bads es, starts-at x n, ends-at x n, suc (length st)) ∷ z) p (l .1) ∙ entry-on (buffered x st es) Sort.ERROR (bads es) (starts-at x n) (ends-at x n) z (level (length st) es p (l .1))
 
-  pub buffer-finished : (o : List Event) → Nest 0 o 0 → buffer x o ≡ flat (inside x o)
-  buffer-finished o p = sym (finished [] o [] 0 p ∙ append-nil (buffered x [] o))
-
-  pub buffer-read : (L : Limits) (r : List ℕ) (f : ℕ) → buffer x ((read L r f) .out) ≡ flat (inside x ((read L r f) .out))
-  buffer-read L r f = buffer-finished ((read L r f) .out) (read-tidy L r f .1)
+  pub buffer-finished : (o : List Event) → Nest 0 o 0 → Low m o → buffer x o ≡ flat (inside x o)
+  buffer-finished o p l = sym (finished [] o [] p l ∙ append-nil (buffered x [] o))
 
 -- BALANCE: what any reader adds is nested, every closing with its opening. No hypothesis on the state.
 abbrev pub Adding : State → State → Type 0
@@ -212,25 +267,22 @@ adding = record {
   at-node = nodes-added;
 }
 
-pub exec-adds : (d : ℕ) (p : Prog) (o : Bool) (s : State) → Adding s (exec d (run d) p o s)
-exec-adds d p o = exec-kept (stepped Adding adding) d (run d) (run-kept (stepped Adding adding) d) p o
-
-pub run-adds : (d : ℕ) (o : Bool) (a : Production) (s : State) → Adding s (run d o a s)
-run-adds d o a = run-kept (stepped Adding adding) d o a
+pub exec-adds : (E : Bool) (d : ℕ) (p : Prog) (o : Bool) (s : State) → Adding s (exec d (run E d) p o s)
+exec-adds E d p o = exec-kept (stepped Adding adding) d (run E d) (run-kept (stepped Adding adding) E d) p o
 
 -- CLOSING, as the code meets it: o is what stood written when the node's opening had been, b what stands when its body has run. The opening
 -- ends at EVENT * length o.
 pub buffer-closes : (x : Source) (a n m j : ℕ) (before o b : List Event) → o ≡ opened j ∷ before → Adds o b →
-    buffer x (closed a n m ∷ b) ≡ patch (EVENT * length o) a (span-end x n m) (buffer x b) ++ event Sort.END a (starts-at x n) (span-end x n m)
+    buffer x (closed a n m ∷ b) ≡ patch (EVENT * length o) a (span-end x n m) (buffer x b) ++ event Sort.END a (starts-at x n) (span-end x n m) (cell (height b - 1))
 buffer-closes x a n m j before o b e p =
     let q : p .new ++ (opened j ∷ before) ≡ b = ap (λ (l : List Event). p .new ++ l) (sym e) ∙ p .joins in
     let l : EVENT * suc (length before) ≡ EVENT * length o = ap (λ (l : List Event). EVENT * length l) (sym e) in
     ap (λ (l : List Event). buffer x (closed a n m ∷ l)) (sym q)
     ∙ buffer-closed x a n m j (p .new) before (p .nest 0)
-    ∙ ap₂ (λ (i : ℕ) (l : List Event). patch i a (span-end x n m) (buffer x l) ++ event Sort.END a (starts-at x n) (span-end x n m)) l q
+    ∙ ap₂ (λ (i : ℕ) (l : List Event). patch i a (span-end x n m) (buffer x l) ++ event Sort.END a (starts-at x n) (span-end x n m) (cell (height l - 1))) l q
 
-pub buffer-shut : (x : Source) (a n m p : ℕ) (o : List Event) → Open p o → buffer x (closed a n m ∷ o) ≡ patch p a (span-end x n m) (buffer x o) ++ event Sort.END a (starts-at x n) (span-end x n m)
-buffer-shut x a n m p o w = buffer-closes x a n m (w .row) (w .before) (opened (w .row) ∷ w .before) o refl (w .added) ∙ ap (λ (i : ℕ). patch i a (span-end x n m) (buffer x o) ++ event Sort.END a (starts-at x n) (span-end x n m)) (sym (w .place))
+pub buffer-shut : (x : Source) (a n m p : ℕ) (o : List Event) → Open p o → buffer x (closed a n m ∷ o) ≡ patch p a (span-end x n m) (buffer x o) ++ event Sort.END a (starts-at x n) (span-end x n m) (cell (height o - 1))
+buffer-shut x a n m p o w = buffer-closes x a n m (w .row) (w .before) (opened (w .row) ∷ w .before) o refl (w .added) ∙ ap (λ (i : ℕ). patch i a (span-end x n m) (buffer x o) ++ event Sort.END a (starts-at x n) (span-end x n m) (cell (height o - 1))) (sym (w .place))
 
 -- a body that adds leaves its node's opening open
 pub begun-open : (d p : ℕ) (s : State) (b : List Event) → p ≡ EVENT * length ((begin d s) .out) → Adds ((begin d s) .out) b → Open p b
@@ -238,7 +290,7 @@ begun-open d p s b e w = record { row = length ((trivia s) .rest); before = (tri
 
 -- a node: what the buffer holds when it is closed, by what it held when its body f had run
 pub buffer-node : (x : Source) (d : ℕ) (o : Bool) (a : ℕ) (f : Reader) → ((s : State) → Adding s (f s)) → (s : State) → let t : State = begin d s in let u : State = f t in let n : ℕ = length (t .rest) in let k : ℕ = closing (u .mode) a in let e : ℕ = span-end x n (length (u .rest)) in
-    buffer x ((nodes d o a f s) .out) ≡ patch (EVENT * length (t .out)) k e (buffer x (u .out)) ++ event Sort.END k (starts-at x n) e
+    buffer x ((nodes d o a f s) .out) ≡ patch (EVENT * length (t .out)) k e (buffer x (u .out)) ++ event Sort.END k (starts-at x n) e (cell (height (u .out) - 1))
 buffer-node x d o a f F s =
     let t : State = begin d s in
     let u : State = f t in
@@ -252,16 +304,27 @@ module _ (x : Source) (a : List Event) where
   grown [] [] p = ([], sym (append-nil (buffered x [] a)))
   grown (u ∷ st) [] p = absurd (omega (arith, p))
   grown [] (opened m ∷ w) p = absurd p
-  grown (u ∷ st) (opened m ∷ w) p = let g = grown st w p in let l : List ℕ = event Sort.BEGIN (u .0) (starts-at x m) (u .1) in (g .0 ++ l, ap (λ (i : List ℕ). i ++ l) (g .1) ∙ append-assoc (buffered x [] a) (g .0) l)
-  grown st (leaf k m ∷ w) p = let g = grown st w p in let l : List ℕ = event Sort.TOKEN k (starts-at x m) (ends-at x m) in (g .0 ++ l, ap (λ (i : List ℕ). i ++ l) (g .1) ∙ append-assoc (buffered x [] a) (g .0) l)
-  grown st (closed k m j ∷ w) p = let g = grown ((k, span-end x m j) ∷ st) w p in let l : List ℕ = event Sort.END k (starts-at x m) (span-end x m j) in (g .0 ++ l, ap (λ (i : List ℕ). i ++ l) (g .1) ∙ append-assoc (buffered x [] a) (g .0) l)
-  grown st (bad m c ∷ w) p = let g = grown st w p in let l : List ℕ = event Sort.ERROR (bads (w ++ a)) (starts-at x m) (ends-at x m) in (g .0 ++ l, ap (λ (i : List ℕ). i ++ l) (g .1) ∙ append-assoc (buffered x [] a) (g .0) l)
+  grown (u ∷ st) (opened m ∷ w) p = let g = grown st w p in let l : List ℕ = event Sort.BEGIN (u .0) (starts-at x m) (u .1) (cell (height (w ++ a))) in (g .0 ++ l, ap (λ (i : List ℕ). i ++ l) (g .1) ∙ append-assoc (buffered x [] a) (g .0) l)
+  grown st (leaf k m ∷ w) p = let g = grown st w p in let l : List ℕ = event Sort.TOKEN k (starts-at x m) (ends-at x m) (cell (height (w ++ a))) in (g .0 ++ l, ap (λ (i : List ℕ). i ++ l) (g .1) ∙ append-assoc (buffered x [] a) (g .0) l)
+  grown st (closed k m j ∷ w) p = let g = grown ((k, span-end x m j) ∷ st) w p in let l : List ℕ = event Sort.END k (starts-at x m) (span-end x m j) (cell (height (w ++ a) - 1)) in (g .0 ++ l, ap (λ (i : List ℕ). i ++ l) (g .1) ∙ append-assoc (buffered x [] a) (g .0) l)
+  grown st (bad m c ∷ w) p = let g = grown st w p in let l : List ℕ = event Sort.ERROR (bads (w ++ a)) (starts-at x m) (ends-at x m) (cell (height (w ++ a))) in (g .0 ++ l, ap (λ (i : List ℕ). i ++ l) (g .1) ∙ append-assoc (buffered x [] a) (g .0) l)
 
   pub buffer-grows : (b : List Event) → Adds a b → (q : List ℕ) × (buffer x b ≡ buffer x a ++ q)
   buffer-grows b p = let g = grown [] (p .new) (p .nest 0) in (g .0, ap (buffer x) (sym (p .joins)) ∙ g .1)
 
   pub buffer-back : (b : List Event) → Adds a b → lib.ListN.take (EVENT * length a) (buffer x b) ≡ buffer x a
   buffer-back b p = let g = buffer-grows b p in ap (lib.ListN.take (EVENT * length a)) (g .1) ∙ lib.Seq.take-at (buffer x a) (g .0) (EVENT * length a) (buffered-length x [] a)
+
+-- an open node's depth stands in its begin event
+pub begin-depth : (x : Source) (l : List ℕ) (p : ℕ) (o : List Event) → Open p o → lib.ListN.take (EVENT * length o) l ≡ buffer x o → getD l (p - EVENT + DEPTH) 0 ≡ cell (height o - 1)
+begin-depth x l p o w t =
+    let before : List Event = w .before in
+    let b : List Event = opened (w .row) ∷ before in
+    let e : height o ≡ suc (height before) = ap height (sym (w .added .joins)) ∙ height-nest 0 (w .added .new) b (w .added .nest 0) ∙ omega arith in
+    let n : EVENT * length b ≤ EVENT * length o = omega (arith, ap length (w .added .joins), length-append (w .added .new) b) in
+    let u : lib.ListN.take (EVENT * length b) l ≡ buffer x b = sym (lib.Seq.take-take (EVENT * length b) (EVENT * length o) l n) ∙ ap (lib.ListN.take (EVENT * length b)) t ∙ buffer-back x b o (w .added) in
+    let d = last-of l (length before) (buffer x before) Sort.BEGIN 0 (starts-at x (w .row)) (starts-at x (w .row)) (cell (height before)) (buffer-length x before) (u ∙ buffer-opened x (w .row) before) .1 in
+    ap (λ (i : ℕ). getD l (i - EVENT + DEPTH) 0) (w .place) ∙ d ∙ ap cell (omega (arith, e))
 
 -- items and the whole reading, at every moment between items
 errors-added : (c : List (ℕ × Choice)) (o : List Event) → Adds o (errors c o)
@@ -270,7 +333,7 @@ errors-added (e ∷ c) o = adds-trans o (bad (e .0) (e .1) ∷ o) (errors c (bad
 
 reads-adds : (L : Limits) (p : Prog) (s : State) → Adding s (read-item L p s)
 unfolding read-item
-reads-adds L p s = exec-adds (L .depth) p false s
+reads-adds L p s = exec-adds (L .entrypoint) (L .depth) p false s
 
 stray-adds : (s : State) → Adding s (stray-item s)
 stray-adds s =

@@ -2,6 +2,7 @@
 use Prim.Native.Nat.{ℕ}
 use mathlib.Core.Path.{_≡_, refl, sym, subst}
 use mathlib.Core.List.{List}
+use mathlib.Core.Bool.{Bool}
 use Rattle.definition.specs.Prog.{Prog}
 use Rattle.definition.specs.Run.{Next, hit}
 use Rattle.definition.specs.Ford.{Res}
@@ -17,10 +18,10 @@ yes-is e = cc
 pub yes-no : (r : List ℕ) → _≡_ {A = Res} (Res.yes r) Res.no → ⊥
 yes-no r e = never cc
 
-pub move : {p : Prog} {r r′ : List ℕ} {y : Res} → r ≡ r′ → Peg p r′ y → Peg p r y
-move {p = p} {y = y} e h = subst (λ (l : List ℕ). Peg p l y) (sym e) h
+pub move : {E : Bool} {p : Prog} {r r′ : List ℕ} {y : Res} → r ≡ r′ → Peg E p r′ y → Peg E p r y
+move {E} {p = p} {y = y} e h = subst (λ (l : List ℕ). Peg E p l y) (sym e) h
 
-pub det : {p : Prog} {r : List ℕ} {x : Res} → Peg p r x → (y : Res) → Peg p r y → x ≡ y
+pub det : {E : Bool} {p : Prog} {r : List ℕ} {x : Res} → Peg E p r x → (y : Res) → Peg E p r y → x ≡ y
 det (eat-yes a e) y (eat-yes b f) = cc
 det (eat-yes a e) y (eat-no m) = absurd (miss-hit _ _ _ m e)
 det (eat-no m) y (eat-yes b f) = absurd (miss-hit _ _ _ m f)

@@ -87,19 +87,19 @@ echo S (node a) = false
 echo S (memo a) = false
 
 -- what follows a `recover` fails where a row of its set is not next, or is another such `recover`; what may be undone is plain
-abbrev pub fit : Bool → Prog → Bool
-fit o (eat S N) = true
-fit o (unless S) = true
-fit o (ifnext S p) = fit o p
-fit o (opt p) = plain p
-fit o (many p) = plain p
-fit o (then p) = fit o p
-fit o (p ⨟ q) = (fit o p && fit o q) && (not (trailing p) || (dies (trail p) q || echo (trail p) q))
-fit o (p / q) = plain p && fit o q
-fit o (last p) = plain p
-fit o (recover S) = true
-fit o (node a) = not o || inner a
-fit o (memo a) = not o || inner a
+abbrev pub fit : (E : Bool) → Bool → Prog → Bool
+fit E o (eat S N) = true
+fit E o (unless S) = true
+fit E o (ifnext S p) = fit E o p
+fit E o (opt p) = plain p
+fit E o (many p) = plain p
+fit E o (then p) = fit E o p
+fit E o (p ⨟ q) = (fit E o p && fit E o q) && (not (trailing p) || (dies E (trail p) q || echo (trail p) q))
+fit E o (p / q) = plain p && fit E o q
+fit E o (last p) = plain p
+fit E o (recover S) = true
+fit E o (node a) = not o || inner a
+fit E o (memo a) = not o || inner a
 
 -- it does nothing in failure
 abbrev pub blocked : Prog → Bool
@@ -136,56 +136,56 @@ low e u (node a) = u a
 low e u (memo a) = u a
 
 -- for_expr and with_expr: a keyword first
-pub record Keyed (a : Production) : Type 0 where
+pub record Keyed (E : Bool) (a : Production) : Type 0 where
   pub word : ℕ
   pub names : List ℕ
   pub rest : Prog
-  pub is : grammar a ≡ eat (word ∷ []) names ⨟ rest
+  pub is : grammar E a ≡ eat (word ∷ []) names ⨟ rest
   pub own : idOf word ≡ word
   pub no-brace : word ≡ kinds.R-BRACE → ⊥
   pub behind : T (not (heads a))
   pub still : T (blocked rest)
-  pub ends : T (not (trailing (grammar a)))
-  pub fits : T (fit true (grammar a))
-  pub alone : Others word a (word ∷ []) names rest
+  pub ends : T (not (trailing (grammar E a)))
+  pub fits : T (fit E true (grammar E a))
+  pub alone : Others E word a (word ∷ []) names rest
   pub bare-rest : T (bare word rest)
 
-for-keyed : Keyed FOR-EXPR
+for-keyed : (E : Bool) → Keyed E FOR-EXPR
 unfolding grammar idOf kind for-rest
-for-keyed = record { alone = only-for; bare-rest = bare-for; word = kinds.FOR-KW; names = kinds.EXPRESSION ∷ []; rest = for-rest (grammar FOR-EXPR); is = refl; own = refl; no-brace = λ e. omega arith; behind = tt; still = tt; ends = tt; fits = tt }
+for-keyed E = record { alone = only-for E; bare-rest = bare-for E; word = kinds.FOR-KW; names = kinds.EXPRESSION ∷ []; rest = for-rest (grammar E FOR-EXPR); is = refl; own = refl; no-brace = λ e. omega arith; behind = tt; still = tt; ends = tt; fits = tt }
 
-with-keyed : Keyed WITH-EXPR
+with-keyed : (E : Bool) → Keyed E WITH-EXPR
 unfolding grammar idOf kind for-rest
-with-keyed = record { alone = only-with; bare-rest = bare-with; word = kinds.WITH-KW; names = kinds.EXPRESSION ∷ []; rest = for-rest (grammar WITH-EXPR); is = refl; own = refl; no-brace = λ e. omega arith; behind = tt; still = tt; ends = tt; fits = tt }
+with-keyed E = record { alone = only-with E; bare-rest = bare-with E; word = kinds.WITH-KW; names = kinds.EXPRESSION ∷ []; rest = for-rest (grammar E WITH-EXPR); is = refl; own = refl; no-brace = λ e. omega arith; behind = tt; still = tt; ends = tt; fits = tt }
 
 -- every production that an optional part may enter is plain or one of the two
-sort : (a : Production) → T (inner a) → T (plain (grammar a)) ⊎ Keyed a
+sort : (E : Bool) (a : Production) → T (inner a) → T (plain (grammar E a)) ⊎ Keyed E a
 unfolding productions grammar kind
-sort a t = go (or-cases (is FOR-EXPR a) (plain-or-with a) (each-if inner (λ a. is FOR-EXPR a || plain-or-with a) tt a t))
+sort E a t = go (or-cases (is FOR-EXPR a) (plain-or-with a) (each-if inner (λ a. is FOR-EXPR a || plain-or-with a) tt a t))
   where
     plain-or-with : Production → Bool
-    plain-or-with a = is WITH-EXPR a || plain (grammar a)
+    plain-or-with a = is WITH-EXPR a || plain (grammar E a)
 
-    at : {k : Production} → Keyed k → T (is k a) → Keyed a
-    at {k = k} K e = subst Keyed (sym (kind-inj a k (eqb→eq (kind a) (kind k) e))) K
+    at : {k : Production} → Keyed E k → T (is k a) → Keyed E a
+    at {k = k} K e = subst (Keyed E) (sym (kind-inj a k (eqb→eq (kind a) (kind k) e))) K
 
-    or-with : T (is WITH-EXPR a) ⊎ T (plain (grammar a)) → T (plain (grammar a)) ⊎ Keyed a
-    or-with (inl e) = inr (at with-keyed e)
+    or-with : T (is WITH-EXPR a) ⊎ T (plain (grammar E a)) → T (plain (grammar E a)) ⊎ Keyed E a
+    or-with (inl e) = inr (at (with-keyed E) e)
     or-with (inr p) = inl p
 
-    go : T (is FOR-EXPR a) ⊎ T (plain-or-with a) → T (plain (grammar a)) ⊎ Keyed a
-    go (inl e) = inr (at for-keyed e)
-    go (inr e) = or-with (or-cases (is WITH-EXPR a) (plain (grammar a)) e)
+    go : T (is FOR-EXPR a) ⊎ T (plain-or-with a) → T (plain (grammar E a)) ⊎ Keyed E a
+    go (inl e) = inr (at (for-keyed E) e)
+    go (inr e) = or-with (or-cases (is WITH-EXPR a) (plain (grammar E a)) e)
 
-fit-productions : (a : Production) → T (fit false (grammar a))
+fit-productions : (E : Bool) (a : Production) → T (fit E false (grammar E a))
 unfolding productions grammar kind idOf
-fit-productions = each (λ a. fit false (grammar a)) tt
+fit-productions E = each (λ a. fit E false (grammar E a)) tt
 
-trail-production : (a : Production) → T (trailing (grammar a)) → T (trailing (node a)) × (trail (grammar a) ≡ trail (node a))
+trail-production : (E : Bool) (a : Production) → T (trailing (grammar E a)) → T (trailing (node a)) × (trail (grammar E a) ≡ trail (node a))
 unfolding productions grammar kind
-trail-production a t =
-    let e = each-if (λ a. trailing (grammar a)) (is CONDITION-BLK) tt a t in
-    (e, ap (λ (b : Production). trail (grammar b)) (kind-inj a CONDITION-BLK (eqb→eq (kind a) (kind CONDITION-BLK) e)))
+trail-production E a t =
+    let e = each-if (λ a. trailing (grammar E a)) (is CONDITION-BLK) tt a t in
+    (e, ap (λ (b : Production). trail (grammar E b)) (kind-inj a CONDITION-BLK (eqb→eq (kind a) (kind CONDITION-BLK) e)))
 
 if-ok-failed : (r s : State) → s .mode ≡ failed → if-ok (λ _. r) s ≡ s
 if-ok-failed r s = go (s .mode) s
@@ -237,8 +237,8 @@ next-off S r e = go (sought S (strip r)) (next-miss S r (subst Miss (sym e) tt))
 pub begin-strip : (d : ℕ) (s : State) → strip ((begin d s) .rest) ≡ strip (s .rest)
 begin-strip d s = ap strip (charge-rest d (s .fuel) (trivia s)) ∙ strip-gap (s .mode) (s .rest)
 
-pub begin-inv : (R : List ℕ) (d : ℕ) (s : State) → agree.Inv R s → Running ((begin d s) .mode) → agree.Inv R (begin d s) × ((begin d s) .mode ≡ s .mode)
-begin-inv R d s i r = let j = agree.begun R d (s .fuel) (trivia s) (agree.inv-trivia R s i) r in (record { rows = j .0 .rows; clear = j .0 .clear; valid = j .0 .valid; told = j .0 .told }, j .1)
+pub begin-inv : (E : Bool) (R : List ℕ) (d : ℕ) (s : State) → agree.Inv E R s → Running ((begin d s) .mode) → agree.Inv E R (begin d s) × ((begin d s) .mode ≡ s .mode)
+begin-inv E R d s i r = let j = agree.begun E R d (s .fuel) (trivia s) (agree.inv-trivia E R s i) r in (record { rows = j .0 .rows; clear = j .0 .clear; valid = j .0 .valid; told = j .0 .told }, j .1)
 
 -- where the reader is in good order, its rows are on the way
 abbrev pub Zone : (List ℕ → Type 0) → Mode → List ℕ → Type 0
@@ -246,7 +246,7 @@ Zone W ok r = W r
 Zone W failed r = Unit
 Zone W (stopped w) r = ⊥
 
-pub eat-word : (w : ℕ) (N r r′ : List ℕ) → idOf w ≡ w → Peg (eat (w ∷ []) N) r (Res.yes r′) → r ≡ w ∷ r′
+pub eat-word : {E : Bool} (w : ℕ) (N r r′ : List ℕ) → idOf w ≡ w → Peg E (eat (w ∷ []) N) r (Res.yes r′) → r ≡ w ∷ r′
 eat-word w N r r′ own (eat-yes a e) =
     let p = sought-hit (w ∷ []) r a r′ e in
     p .1 ∙ ap (λ (i : ℕ). i ∷ r′) (go (p .0) (eqb (p .0) (idOf w)) (eqb→eq (p .0) (idOf w)) (ap (sought (w ∷ [])) (sym (p .1)) ∙ e) ∙ own)
@@ -257,67 +257,67 @@ eat-word w N r r′ own (eat-yes a e) =
 
 -- productions that call one another alone, and rows that their programs stay within; no `for` and no `with` on the way fails its
 -- production
-module _ (R : List ℕ) (takes : List ℕ → Bool) (calls : Production → Bool) (Way : List ℕ → Type 0) (at-end : Way [])
-    (onward : (p : Prog) → T (low takes calls p) → (r r′ : List ℕ) → Peg p r (Res.yes r′) → Way r → Way r′)
-    (shut : (a : Production) → T (calls a) → T (low takes calls (grammar a)))
-    (whole : (a : Production) (K : Keyed a) → T (calls a) → (r : List ℕ) → Way (K .word ∷ r) → Peg (grammar a) (K .word ∷ r) Res.no → ⊥) where
+module _ (E : Bool) (R : List ℕ) (takes : List ℕ → Bool) (calls : Production → Bool) (Way : List ℕ → Type 0) (at-end : Way [])
+    (onward : (p : Prog) → T (low takes calls p) → (r r′ : List ℕ) → Peg E p r (Res.yes r′) → Way r → Way r′)
+    (shut : (a : Production) → T (calls a) → T (low takes calls (grammar E a)))
+    (whole : (a : Production) (K : Keyed E a) → T (calls a) → (r : List ℕ) → Way (K .word ∷ r) → Peg E (grammar E a) (K .word ∷ r) Res.no → ⊥) where
   pub record Inv (s : State) : Type 0 where
-    pub base : agree.Inv R s
+    pub base : agree.Inv E R s
     pub zone : Zone Way (s .mode) (strip (s .rest))
 
   pub record Sim (p : Prog) (s t : State) : Type 0 where
     pub inv : Inv t
-    pub good : s .mode ≡ ok → t .mode ≡ ok → Won R p (strip (s .rest)) (strip (t .rest))
-    pub bad : s .mode ≡ ok → t .mode ≡ failed → Peg p (strip (s .rest)) Res.no
+    pub good : s .mode ≡ ok → t .mode ≡ ok → Won E R p (strip (s .rest)) (strip (t .rest))
+    pub bad : s .mode ≡ ok → t .mode ≡ failed → Peg E p (strip (s .rest)) Res.no
 
   abbrev Good : Prog → Reader → Type 0
   Good p f = (s : State) → Inv s → Fine (f s) → Sim p s (f s)
 
   abbrev OkSim : Prog → State → State → Type 0
-  OkSim p s t = Inv t × (t .mode ≡ ok → Won R p (strip (s .rest)) (strip (t .rest))) × (t .mode ≡ failed → Peg p (strip (s .rest)) Res.no)
+  OkSim p s t = Inv t × (t .mode ≡ ok → Won E R p (strip (s .rest)) (strip (t .rest))) × (t .mode ≡ failed → Peg E p (strip (s .rest)) Res.no)
 
-  lift : (p : Prog) (f : Reader) → T (low takes calls p) → agree.Good R p f → Good p f
+  lift : (p : Prog) (f : Reader) → T (low takes calls p) → agree.Good E R p f → Good p f
   lift p f l F s i h = let x = F s (i .base) h in record { inv = record { base = x .inv; zone = go ((f s) .mode) refl (h .0) x }; good = x .good; bad = x .bad }
     where
-      from : (m : Mode) → s .mode ≡ m → Zone Way m (strip (s .rest)) → (f s) .mode ≡ ok → agree.Sim R p s (f s) → Way (strip ((f s) .rest))
+      from : (m : Mode) → s .mode ≡ m → Zone Way m (strip (s .rest)) → (f s) .mode ≡ ok → agree.Sim E R p s (f s) → Way (strip ((f s) .rest))
       from ok e z k x = won (x .good e k)
         where
-          won : Won R p (strip (s .rest)) (strip ((f s) .rest)) → Way (strip ((f s) .rest))
+          won : Won E R p (strip (s .rest)) (strip ((f s) .rest)) → Way (strip ((f s) .rest))
           won (inl d) = onward p l (strip (s .rest)) (strip ((f s) .rest)) d z
           won (inr y) = subst Way (sym (y .2)) at-end
       from failed e z k x = subst Way (sym (x .late e k .1)) at-end
       from (stopped w) e z k x = absurd z
 
-      go : (m : Mode) → (f s) .mode ≡ m → Running m → agree.Sim R p s (f s) → Zone Way m (strip ((f s) .rest))
+      go : (m : Mode) → (f s) .mode ≡ m → Running m → agree.Sim E R p s (f s) → Zone Way m (strip ((f s) .rest))
       go ok e r x = from (s .mode) refl (i .zone) e x
       go failed e r x = tt
       go (stopped w) e r x = absurd r
 
   inv-trivia : (s : State) → Inv s → Inv (trivia s)
-  inv-trivia s i = record { base = agree.inv-trivia R s (i .base); zone = subst (Zone Way (s .mode)) (sym (strip-gap (s .mode) (s .rest))) (i .zone) }
+  inv-trivia s i = record { base = agree.inv-trivia E R s (i .base); zone = subst (Zone Way (s .mode)) (sym (strip-gap (s .mode) (s .rest))) (i .zone) }
 
   on-way : (s : State) → s .mode ≡ ok → Inv s → Way (strip (s .rest))
   on-way s m i = subst (λ (n : Mode). Zone Way n (strip (s .rest))) m (i .zone)
 
   inv-undone : (s t : State) → s .mode ≡ ok → Inv s → t .mode ≡ failed → Inv t → Inv (turn ok (back s t))
-  inv-undone s t m i e j = record { base = agree.inv-undone R s t (i .base) e (j .base); zone = on-way s m i }
+  inv-undone s t m i e j = record { base = agree.inv-undone E R s t (i .base) e (j .base); zone = on-way s m i }
 
   after : (p : Prog) (f : Reader) → Good p f → (s : State) → s .mode ≡ ok → Inv s → Fine (f (trivia s)) → OkSim p s (f (trivia s))
   after p f F s m i h =
       let x = F (trivia s) (inv-trivia s i) h in (
         x .inv,
-        (λ e. subst (λ (l : List ℕ). Won R p l (strip ((f (trivia s)) .rest))) (strip-gap (s .mode) (s .rest)) (x .good m e)),
-        λ e. subst (λ (l : List ℕ). Peg p l Res.no) (strip-gap (s .mode) (s .rest)) (x .bad m e),
+        (λ e. subst (λ (l : List ℕ). Won E R p l (strip ((f (trivia s)) .rest))) (strip-gap (s .mode) (s .rest)) (x .good m e)),
+        λ e. subst (λ (l : List ℕ). Peg E p l Res.no) (strip-gap (s .mode) (s .rest)) (x .bad m e),
       )
 
   begin-in : (d : ℕ) (s : State) → Inv s → Running ((begin d s) .mode) → Inv (begin d s) × ((begin d s) .mode ≡ s .mode)
   begin-in d s i r =
-      let j = begin-inv R d s (i .base) r in
+      let j = begin-inv E R d s (i .base) r in
       (record { base = j .0; zone = subst (λ (l : List ℕ). Zone Way ((begin d s) .mode) l) (sym (begin-strip d s)) (subst (λ (n : Mode). Zone Way n (strip (s .rest))) (sym (j .1)) (i .zone)) }, j .1)
 
   -- the PEG fails; or it goes on, and a row that the last `recover` looks for is not next
   abbrev pub Bad : Prog → List ℕ → Type 0
-  Bad p r = Peg p r Res.no ⊎ ((r′ : List ℕ) × Peg p r (Res.yes r′) × T (trailing p) × Off (sought (trail p) r′))
+  Bad p r = Peg E p r Res.no ⊎ ((r′ : List ℕ) × Peg E p r (Res.yes r′) × T (trailing p) × Off (sought (trail p) r′))
 
   abbrev Calm : State → Type 0
   Calm t = t .chosen ≡ []
@@ -422,11 +422,11 @@ module _ (R : List ℕ) (takes : List ℕ → Bool) (calls : Production → Bool
       let rf = subst Running (z .1) r in
       z .0 ∙ F t (begin-in d s i (running-before t (f t) (fg t) rf) .0) rf
 
-  bad-as : (p q : Prog) (r : List ℕ) → ((x : Res) → Peg p r x → Peg q r x) → (T (trailing p) → T (trailing q) × (trail p ≡ trail q)) → Bad p r → Bad q r
+  bad-as : (p q : Prog) (r : List ℕ) → ((x : Res) → Peg E p r x → Peg E q r x) → (T (trailing p) → T (trailing q) × (trail p ≡ trail q)) → Bad p r → Bad q r
   bad-as p q r f t (inl n) = inl (f Res.no n)
   bad-as p q r f t (inr x) = let y = t (x .2) in inr (x .0, f (Res.yes (x .0)) (x .1), y .0, subst (λ (l : List ℕ). Off (sought l (x .0))) (y .1) (x .3))
 
-  bad-in : (p q : Prog) (r : List ℕ) (t : State) → ((x : Res) → Peg p r x → Peg q r x) → (T (trailing p) → T (trailing q) × (trail p ≡ trail q)) → Calm t ⊎ Bad p r → Calm t ⊎ Bad q r
+  bad-in : (p q : Prog) (r : List ℕ) (t : State) → ((x : Res) → Peg E p r x → Peg E q r x) → (T (trailing p) → T (trailing q) × (trail p ≡ trail q)) → Calm t ⊎ Bad p r → Calm t ⊎ Bad q r
   bad-in p q r t f h (inl c) = inl c
   bad-in p q r t f h (inr b) = inr (bad-as p q r f h b)
 
@@ -463,9 +463,9 @@ module _ (R : List ℕ) (takes : List ℕ → Bool) (calls : Production → Bool
       go (stopped w) s e i r = inl (i .base .clear)
 
   -- a row that a `recover` looked for was not next: what follows fails, or looks for it too
-  pub follow : (p q : Prog) (r : List ℕ) → T (not (trailing p) || (dies (trail p) q || echo (trail p) q)) → Bad p r → Bad (p ⨟ q) r
+  pub follow : (p q : Prog) (r : List ℕ) → T (not (trailing p) || (dies E (trail p) q || echo (trail p) q)) → Bad p r → Bad (p ⨟ q) r
   follow p q r t (inl n) = inl (seq-no n)
-  follow p q r t (inr x) = go (or-cases (not (trailing p)) (dies (trail p) q || echo (trail p) q) t)
+  follow p q r t (inr x) = go (or-cases (not (trailing p)) (dies E (trail p) q || echo (trail p) q) t)
     where
       echoed : (q : Prog) → T (echo (trail p) q) → Bad (p ⨟ q) r
       echoed (recover S) e = inr (x .0, seq-yes (x .1) recover-is, tt, sub-off S (trail p) (x .0) e (x .3))
@@ -481,20 +481,20 @@ module _ (R : List ℕ) (takes : List ℕ → Bool) (calls : Production → Bool
       echoed (node a) e = absurd e
       echoed (memo a) e = absurd e
 
-      on : T (dies (trail p) q) ⊎ T (echo (trail p) q) → Bad (p ⨟ q) r
+      on : T (dies E (trail p) q) ⊎ T (echo (trail p) q) → Bad (p ⨟ q) r
       on (inl d) = inl (seq-yes (x .1) (dies-no (trail p) (x .0) q d (off-miss (sought (trail p) (x .0)) (x .3))))
       on (inr e) = echoed q e
 
-      go : T (not (trailing p)) ⊎ T (dies (trail p) q || echo (trail p) q) → Bad (p ⨟ q) r
+      go : T (not (trailing p)) ⊎ T (dies E (trail p) q || echo (trail p) q) → Bad (p ⨟ q) r
       go (inl n) = clash (trailing p) n (x .2)
-      go (inr t) = on (or-cases (dies (trail p) q) (echo (trail p) q) t)
+      go (inr t) = on (or-cases (dies E (trail p) q) (echo (trail p) q) t)
 
-  d-seq : (p q : Prog) (f g : Reader) → T (not (trailing p) || (dies (trail p) q || echo (trail p) q)) → Good p f → Doomed p f → Doomed q g → ((s : State) → Grown s (g s)) → Doomed (p ⨟ q) (λ s. g (f s))
+  d-seq : (p q : Prog) (f g : Reader) → T (not (trailing p) || (dies E (trail p) q || echo (trail p) q)) → Good p f → Doomed p f → Doomed q g → ((s : State) → Grown s (g s)) → Doomed (p ⨟ q) (λ s. g (f s))
   d-seq p q f g t H F G gg s m i r =
       let ru = running-before (f s) (g (f s)) (gg (f s)) r in
       on ru (F s m i ru)
     where
-      then-q : (d : Sim p s (f s)) → (f s) .mode ≡ ok → Won R p (strip (s .rest)) (strip ((f s) .rest)) → Calm (g (f s)) ⊎ Bad (p ⨟ q) (strip (s .rest))
+      then-q : (d : Sim p s (f s)) → (f s) .mode ≡ ok → Won E R p (strip (s .rest)) (strip ((f s) .rest)) → Calm (g (f s)) ⊎ Bad (p ⨟ q) (strip (s .rest))
       then-q x e (inr y) = inr (inl (seq-no (y .1)))
       then-q x e (inl d) = on-q (G (f s) e (x .inv) r)
         where
@@ -519,7 +519,7 @@ module _ (R : List ℕ) (takes : List ℕ → Bool) (calls : Production → Bool
       bad-in (node a) (memo a) (strip (s .rest)) (remember (length (s .rest)) (kind a) (f s)) (λ _ d. to-memo d) (λ t. (t, refl)) (calm-as (f s) (remember (length (s .rest)) (kind a) (f s)) (z .0) (F s m i (subst Running (z .1) r)))
 
   -- a node outside optional parts
-  d-nodes : (d : ℕ) (a : Production) (f : Reader) → ((s : State) → Grown s (f s)) → Good (grammar a) f → Doomed (grammar a) f → Doomed (node a) (nodes d false (kind a) f)
+  d-nodes : (d : ℕ) (a : Production) (f : Reader) → ((s : State) → Grown s (f s)) → Good (grammar E a) f → Doomed (grammar E a) f → Doomed (node a) (nodes d false (kind a) f)
   d-nodes d a f fg H F s m i r = go ((f t) .mode) refl
     where
       t : State
@@ -542,13 +542,13 @@ module _ (R : List ℕ) (takes : List ℕ → Bool) (calls : Production → Bool
       b : Inv (begin d s) × ((begin d s) .mode ≡ s .mode)
       b = begin-in d s i (running-before (begin d s) (f (begin d s)) (fg (begin d s)) ru)
 
-      body : Calm (f (begin d s)) ⊎ Bad (grammar a) (strip (s .rest))
-      body = subst (λ (l : List ℕ). Calm (f (begin d s)) ⊎ Bad (grammar a) l) (begin-strip d s) (F (begin d s) (b .1 ∙ m) (b .0) ru)
+      body : Calm (f (begin d s)) ⊎ Bad (grammar E a) (strip (s .rest))
+      body = subst (λ (l : List ℕ). Calm (f (begin d s)) ⊎ Bad (grammar E a) l) (begin-strip d s) (F (begin d s) (b .1 ∙ m) (b .0) ru)
 
-      on : (n : Mode) → (f (begin d s)) .mode ≡ n → Running n → Calm (f (begin d s)) ⊎ Bad (grammar a) (strip (s .rest)) → Calm (nodes d false (kind a) f s) ⊎ Bad (node a) (strip (s .rest))
-      on n e k (inr x) = inr (bad-as (grammar a) (node a) (strip (s .rest)) (λ _ g. node-is g) (trail-production a) x)
+      on : (n : Mode) → (f (begin d s)) .mode ≡ n → Running n → Calm (f (begin d s)) ⊎ Bad (grammar E a) (strip (s .rest)) → Calm (nodes d false (kind a) f s) ⊎ Bad (node a) (strip (s .rest))
+      on n e k (inr x) = inr (bad-as (grammar E a) (node a) (strip (s .rest)) (λ _ g. node-is g) (trail-production E a) x)
       on ok e k (inl c) = inl (finish-ok′ (f (begin d s)) (length ((begin d s) .rest)) e ∙ c)
-      on failed e k (inl c) = inr (inl (node-is (subst (λ (l : List ℕ). Peg (grammar a) l Res.no) (begin-strip d s) (H (begin d s) (b .0) (ru, c) .bad (b .1 ∙ m) e))))
+      on failed e k (inl c) = inr (inl (node-is (subst (λ (l : List ℕ). Peg E (grammar E a) l Res.no) (begin-strip d s) (H (begin d s) (b .0) (ru, c) .bad (b .1 ∙ m) e))))
       on (stopped w) e k (inl c) = absurd k
 
       go : (n : Mode) → (f (begin d s)) .mode ≡ n → Calm (nodes d false (kind a) f s) ⊎ Bad (node a) (strip (s .rest))
@@ -558,11 +558,11 @@ module _ (R : List ℕ) (takes : List ℕ → Bool) (calls : Production → Bool
       (cg : (o : Bool) (a : Production) (s : State) → Grown s (call o a s))
       (cs : (o : Bool) (a : Production) (s : State) → (call o a s) .mode ≡ ok → s .mode ≡ ok)
       (ct : (o : Bool) (a : Production) (s : State) → (call o a s) .mode ≡ ok → size (call o a s) < size s)
-      (cm : (o : Bool) (a : Production) → agree.Good R (node a) (call o a))
+      (cm : (o : Bool) (a : Production) → agree.Good E R (node a) (call o a))
       (cq : (a : Production) → T (calls a) → T (inner a) → Quietly (call true a))
       (cd : (a : Production) → T (calls a) → Doomed (node a) (call false a)) where
     sim : (p : Prog) → T (sound p) → T (low takes calls p) → (o : Bool) → Good p (exec d call p o)
-    sim p t l o = lift p (exec d call p o) l (exec-sim R d call cg cs ct cm p t o)
+    sim p t l o = lift p (exec d call p o) l (exec-sim E R d call cg cs ct cm p t o)
 
     calm-exec : (p : Prog) → T (sound p) → T (plain p) → T (low takes calls p) → Quietly (exec d call p true)
     calm-exec (eat S N) t k l = q-guard _ (λ s m i r. eat-calm N (next S (s .rest)) s ∙ i .base .clear)
@@ -598,7 +598,7 @@ module _ (R : List ℕ) (takes : List ℕ → Bool) (calls : Production → Bool
     node-doom false a t l = cd a l
     node-doom true a t l = λ s m i r. inl (cq a l t s i r)
 
-    pub doom-exec : (p : Prog) (o : Bool) → T (sound p) → T (fit o p) → T (low takes calls p) → Doomed p (exec d call p o)
+    pub doom-exec : (p : Prog) (o : Bool) → T (sound p) → T (fit E o p) → T (low takes calls p) → Doomed p (exec d call p o)
     doom-exec (eat S N) o t k l = d-guard (eat S N) _ (λ s m i r. inl (eat-calm N (next S (s .rest)) s ∙ i .base .clear))
     doom-exec (unless S) o t k l = d-guard (unless S) _ (λ s m i r. inl (refuse-calm (next S (s .rest)) s ∙ i .base .clear))
     doom-exec (ifnext S p) o t k l = d-guard (ifnext S p) _ (λ s m i r. d-branch S p (exec d call p o) (doom-exec p o t k l) (next S (s .rest)) s refl m i r)
@@ -606,13 +606,13 @@ module _ (R : List ℕ) (takes : List ℕ → Bool) (calls : Production → Bool
     doom-exec (many p) o t k l = λ s m i r. inl (calm-exec (many p) t k l s i r)
     doom-exec (then p) o t k l = d-guard (then p) _ (λ s m i r. bad-in p (then p) (strip (s .rest)) (exec d call p o (trivia s)) (λ _ g. then-is g) (λ t. (t, refl)) (d-after p (exec d call p o) (doom-exec p o t k l) s m i r))
     doom-exec (p ⨟ q) o t k l =
-        let k₁ = and-left (fit o p && fit o q) (not (trailing p) || (dies (trail p) q || echo (trail p) q)) k in
-        d-seq p q (exec d call p o) (exec d call q o) (and-right (fit o p && fit o q) (not (trailing p) || (dies (trail p) q || echo (trail p) q)) k) (sim p (and-left (sound p) (sound q) t) (and-left (low takes calls p) (low takes calls q) l) o) (doom-exec p o (and-left (sound p) (sound q) t) (and-left (fit o p) (fit o q) k₁) (and-left (low takes calls p) (low takes calls q) l)) (doom-exec q o (and-right (sound p) (sound q) t) (and-right (fit o p) (fit o q) k₁) (and-right (low takes calls p) (low takes calls q) l)) (exec-grown d call cg cs ct q o)
+        let k₁ = and-left (fit E o p && fit E o q) (not (trailing p) || (dies E (trail p) q || echo (trail p) q)) k in
+        d-seq p q (exec d call p o) (exec d call q o) (and-right (fit E o p && fit E o q) (not (trailing p) || (dies E (trail p) q || echo (trail p) q)) k) (sim p (and-left (sound p) (sound q) t) (and-left (low takes calls p) (low takes calls q) l) o) (doom-exec p o (and-left (sound p) (sound q) t) (and-left (fit E o p) (fit E o q) k₁) (and-left (low takes calls p) (low takes calls q) l)) (doom-exec q o (and-right (sound p) (sound q) t) (and-right (fit E o p) (fit E o q) k₁) (and-right (low takes calls p) (low takes calls q) l)) (exec-grown d call cg cs ct q o)
     doom-exec (p / q) o t k l =
         let f : Reader = exec d call p true in
         let t₂ = and-right (not (loose p) && not (loose q)) (sound p && sound q) t in
         let tp = and-left (sound p) (sound q) t₂ in
-        d-guard (p / q) (λ s. or-else (exec d call q o) s (f (trivia s))) (λ s m i r. d-or-else p q (exec d call q o) (doom-exec q o (and-right (sound p) (sound q) t₂) (and-right (plain p) (fit o q) k) (and-right (low takes calls p) (low takes calls q) l)) s (f (trivia s)) m i (calm-exec p tp (and-left (plain p) (fit o q) k) (and-left (low takes calls p) (low takes calls q) l) (trivia s) (inv-trivia s i)) (λ h. after p f (sim p tp (and-left (low takes calls p) (low takes calls q) l) true) s m i h) r)
+        d-guard (p / q) (λ s. or-else (exec d call q o) s (f (trivia s))) (λ s m i r. d-or-else p q (exec d call q o) (doom-exec q o (and-right (sound p) (sound q) t₂) (and-right (plain p) (fit E o q) k) (and-right (low takes calls p) (low takes calls q) l)) s (f (trivia s)) m i (calm-exec p tp (and-left (plain p) (fit E o q) k) (and-left (low takes calls p) (low takes calls q) l) (trivia s) (inv-trivia s i)) (λ h. after p f (sim p tp (and-left (low takes calls p) (low takes calls q) l) true) s m i h) r)
     doom-exec (last p) o t k l = λ s m i r. inl (calm-exec (last p) t k l s i r)
     doom-exec (recover S) o t k l = d-recover d o S
     doom-exec (node a) o t k l = node-doom o a k l
@@ -633,7 +633,7 @@ module _ (R : List ℕ) (takes : List ℕ → Bool) (calls : Production → Bool
     blocked-same (memo a) o t s e = if-ok-failed _ s e
 
     -- for_expr and with_expr: a choice inside is behind their keyword
-    keyed-calm : (a : Production) → Keyed a → T (calls a) → T (sound (grammar a)) → Quietly (exec d call (grammar a) true)
+    keyed-calm : (a : Production) → Keyed E a → T (calls a) → T (sound (grammar E a)) → Quietly (exec d call (grammar E a) true)
     keyed-calm a K l t s i r = by-mode (s .mode) refl
       where
         w : ℕ
@@ -642,7 +642,7 @@ module _ (R : List ℕ) (takes : List ℕ → Bool) (calls : Production → Bool
         first : State
         first = exec d call (eat (K .word ∷ []) (K .names)) true s
 
-        as-seq : exec d call (grammar a) true s ≡ exec d call (K .rest) true (exec d call (eat (K .word ∷ []) (K .names)) true s)
+        as-seq : exec d call (grammar E a) true s ≡ exec d call (K .rest) true (exec d call (eat (K .word ∷ []) (K .names)) true s)
         as-seq = ap (λ (p : Prog). exec d call p true s) (K .is)
 
         first-calm : (exec d call (eat (K .word ∷ []) (K .names)) true s) .chosen ≡ s .chosen
@@ -653,52 +653,52 @@ module _ (R : List ℕ) (takes : List ℕ → Bool) (calls : Production → Bool
             go failed s = refl
             go (stopped w) s = refl
 
-        still-calm : (exec d call (eat (K .word ∷ []) (K .names)) true s) .mode ≡ failed → Calm (exec d call (grammar a) true s)
+        still-calm : (exec d call (eat (K .word ∷ []) (K .names)) true s) .mode ≡ failed → Calm (exec d call (grammar E a) true s)
         still-calm e = ap (λ (u : State). u .chosen) (as-seq ∙ blocked-same (K .rest) true (K .still) (exec d call (eat (K .word ∷ []) (K .names)) true s) e) ∙ first-calm ∙ i .base .clear
 
         rf : Running ((exec d call (eat (K .word ∷ []) (K .names)) true s) .mode)
         rf = running-before (exec d call (eat (K .word ∷ []) (K .names)) true s) (exec d call (K .rest) true (exec d call (eat (K .word ∷ []) (K .names)) true s)) (exec-grown d call cg cs ct (K .rest) true (exec d call (eat (K .word ∷ []) (K .names)) true s)) (subst (λ (u : State). Running (u .mode)) as-seq r)
 
         at-word : s .mode ≡ ok → (exec d call (eat (K .word ∷ []) (K .names)) true s) .mode ≡ ok → (r′ : List ℕ) × (strip (s .rest) ≡ K .word ∷ r′)
-        at-word m e = go (exec-sim R d call cg cs ct cm (eat (K .word ∷ []) (K .names)) tt true s (i .base) (rf, first-calm ∙ i .base .clear) .good m e)
+        at-word m e = go (exec-sim E R d call cg cs ct cm (eat (K .word ∷ []) (K .names)) tt true s (i .base) (rf, first-calm ∙ i .base .clear) .good m e)
           where
-            go : Won R (eat (K .word ∷ []) (K .names)) (strip (s .rest)) (strip ((exec d call (eat (K .word ∷ []) (K .names)) true s) .rest)) → (r′ : List ℕ) × (strip (s .rest) ≡ K .word ∷ r′)
+            go : Won E R (eat (K .word ∷ []) (K .names)) (strip (s .rest)) (strip ((exec d call (eat (K .word ∷ []) (K .names)) true s) .rest)) → (r′ : List ℕ) × (strip (s .rest) ≡ K .word ∷ r′)
             go (inl g) = (strip ((exec d call (eat (K .word ∷ []) (K .names)) true s) .rest), eat-word (K .word) (K .names) (strip (s .rest)) (strip ((exec d call (eat (K .word ∷ []) (K .names)) true s) .rest)) (K .own) g)
             go (inr x) = absurd (x .0)
 
-        found : s .mode ≡ ok → (exec d call (eat (K .word ∷ []) (K .names)) true s) .mode ≡ ok → Calm (exec d call (grammar a) true s) ⊎ Bad (grammar a) (strip (s .rest)) → Calm (exec d call (grammar a) true s)
+        found : s .mode ≡ ok → (exec d call (eat (K .word ∷ []) (K .names)) true s) .mode ≡ ok → Calm (exec d call (grammar E a) true s) ⊎ Bad (grammar E a) (strip (s .rest)) → Calm (exec d call (grammar E a) true s)
         found m e (inl c) = c
-        found m e (inr (inr x)) = clash (trailing (grammar a)) (K .ends) (x .2)
+        found m e (inr (inr x)) = clash (trailing (grammar E a)) (K .ends) (x .2)
         found m e (inr (inl n)) =
             let q = at-word m e in
-            absurd (whole a K l (q .0) (subst Way (q .1) (on-way s m i)) (subst (λ (l : List ℕ). Peg (grammar a) l Res.no) (q .1) n))
+            absurd (whole a K l (q .0) (subst Way (q .1) (on-way s m i)) (subst (λ (l : List ℕ). Peg E (grammar E a) l Res.no) (q .1) n))
 
-        by-first : s .mode ≡ ok → (n : Mode) → (exec d call (eat (K .word ∷ []) (K .names)) true s) .mode ≡ n → Running n → Calm (exec d call (grammar a) true s)
-        by-first m ok e k = found m e (doom-exec (grammar a) true t (K .fits) (shut a l) s m i r)
+        by-first : s .mode ≡ ok → (n : Mode) → (exec d call (eat (K .word ∷ []) (K .names)) true s) .mode ≡ n → Running n → Calm (exec d call (grammar E a) true s)
+        by-first m ok e k = found m e (doom-exec (grammar E a) true t (K .fits) (shut a l) s m i r)
         by-first m failed e k = still-calm e
         by-first m (stopped w) e k = absurd k
 
-        by-mode : (n : Mode) → s .mode ≡ n → Calm (exec d call (grammar a) true s)
+        by-mode : (n : Mode) → s .mode ≡ n → Calm (exec d call (grammar E a) true s)
         by-mode ok m = by-first m ((exec d call (eat (K .word ∷ []) (K .names)) true s) .mode) refl rf
         by-mode failed m = ap (λ (u : State). u .chosen) (as-seq ∙ ap (exec d call (K .rest) true) (if-ok-failed _ s m) ∙ blocked-same (K .rest) true (K .still) s m) ∙ i .base .clear
-        by-mode (stopped w) m = absurd (subst Running m (running-before s (exec d call (grammar a) true s) (exec-grown d call cg cs ct (grammar a) true s) r))
+        by-mode (stopped w) m = absurd (subst Running m (running-before s (exec d call (grammar E a) true s) (exec-grown d call cg cs ct (grammar E a) true s) r))
 
-  pub run-both : (d : ℕ) → ((a : Production) → T (calls a) → T (inner a) → Quietly (run d true a)) × ((a : Production) → T (calls a) → Doomed (node a) (run d false a))
-  run-both zero = ((λ a l t s i r. absurd (run-zero true a s r)), λ a l s m i r. absurd (run-zero false a s r))
+  pub run-both : (d : ℕ) → ((a : Production) → T (calls a) → T (inner a) → Quietly (run E d true a)) × ((a : Production) → T (calls a) → Doomed (node a) (run E d false a))
+  run-both zero = ((λ a l t s i r. absurd (run-zero E true a s r)), λ a l s m i r. absurd (run-zero E false a s r))
   run-both (suc d) = step (run-both d)
     where
-      cs : (o : Bool) (b : Production) (s : State) → (run d o b s) .mode ≡ ok → s .mode ≡ ok
-      cs o b s e = run-ok d o b s e .0
+      cs : (o : Bool) (b : Production) (s : State) → (run E d o b s) .mode ≡ ok → s .mode ≡ ok
+      cs o b s e = run-ok E d o b s e .0
 
-      ct : (o : Bool) (b : Production) (s : State) → (run d o b s) .mode ≡ ok → size (run d o b s) < size s
-      ct o b s e = run-ok d o b s e .1
+      ct : (o : Bool) (b : Production) (s : State) → (run E d o b s) .mode ≡ ok → size (run E d o b s) < size s
+      ct o b s e = run-ok E d o b s e .1
 
-      inside : ((a : Production) → T (calls a) → T (inner a) → Quietly (run d true a)) × ((a : Production) → T (calls a) → Doomed (node a) (run d false a)) → (a : Production) → T (calls a) → T (plain (grammar a)) ⊎ Keyed a → Quietly (exec d (run d) (grammar a) true)
-      inside h a l (inl p) = calm-exec d (run d) (grows d) cs ct (run-sim R d) (h .0) (h .1) (grammar a) (sound-productions a) p (shut a l)
-      inside h a l (inr K) = keyed-calm d (run d) (grows d) cs ct (run-sim R d) (h .0) (h .1) a K l (sound-productions a)
+      inside : ((a : Production) → T (calls a) → T (inner a) → Quietly (run E d true a)) × ((a : Production) → T (calls a) → Doomed (node a) (run E d false a)) → (a : Production) → T (calls a) → T (plain (grammar E a)) ⊎ Keyed E a → Quietly (exec d (run E d) (grammar E a) true)
+      inside h a l (inl p) = calm-exec d (run E d) (grows E d) cs ct (run-sim E R d) (h .0) (h .1) (grammar E a) (sound-productions E a) p (shut a l)
+      inside h a l (inr K) = keyed-calm d (run E d) (grows E d) cs ct (run-sim E R d) (h .0) (h .1) a K l (sound-productions E a)
 
-      step : ((a : Production) → T (calls a) → T (inner a) → Quietly (run d true a)) × ((a : Production) → T (calls a) → Doomed (node a) (run d false a)) → ((a : Production) → T (calls a) → T (inner a) → Quietly (run (suc d) true a)) × ((a : Production) → T (calls a) → Doomed (node a) (run (suc d) false a))
+      step : ((a : Production) → T (calls a) → T (inner a) → Quietly (run E d true a)) × ((a : Production) → T (calls a) → Doomed (node a) (run E d false a)) → ((a : Production) → T (calls a) → T (inner a) → Quietly (run E (suc d) true a)) × ((a : Production) → T (calls a) → Doomed (node a) (run E (suc d) false a))
       step h = (
-        (λ a l t. q-nodes (suc d) (kind a) (exec d (run d) (grammar a) true) (exec-grown d (run d) (grows d) cs ct (grammar a) true) (inside h a l (sort a t))),
-        λ a l. d-nodes (suc d) a (exec d (run d) (grammar a) false) (exec-grown d (run d) (grows d) cs ct (grammar a) false) (lift (grammar a) (exec d (run d) (grammar a) false) (shut a l) (exec-sim R d (run d) (grows d) cs ct (run-sim R d) (grammar a) (sound-productions a) false)) (doom-exec d (run d) (grows d) cs ct (run-sim R d) (h .0) (h .1) (grammar a) false (sound-productions a) (fit-productions a) (shut a l)),
+        (λ a l t. q-nodes (suc d) (kind a) (exec d (run E d) (grammar E a) true) (exec-grown d (run E d) (grows E d) cs ct (grammar E a) true) (inside h a l (sort E a t))),
+        λ a l. d-nodes (suc d) a (exec d (run E d) (grammar E a) false) (exec-grown d (run E d) (grows E d) cs ct (grammar E a) false) (lift (grammar E a) (exec d (run E d) (grammar E a) false) (shut a l) (exec-sim E R d (run E d) (grows E d) cs ct (run-sim E R d) (grammar E a) (sound-productions E a) false)) (doom-exec d (run E d) (grows E d) cs ct (run-sim E R d) (h .0) (h .1) (grammar E a) false (sound-productions E a) (fit-productions E a) (shut a l)),
       )

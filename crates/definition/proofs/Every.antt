@@ -9,6 +9,7 @@ use lib.ListN.{getD}
 use native.Mathlib.Omega.{arith}
 use Rattle.kinds.specs.Kinds as kinds
 use Rattle.definition.specs.Prog.{Production, RULE-DECL, RULE-MODS, RULE-TAGS, META-BLK, META-DEF, PATTERNS-BLK, PATTERN-DEF, PATTERN-MODS, PATTERN-MOD, HEX-PATTERN, HEX-SUB-PATTERN, HEX-ALTERNATIVE, HEX-JUMP, CONDITION-BLK, BOOLEAN-EXPR, BOOLEAN-TERM, EXPR, FUNC-CALL, RANGE, TERM, PRIMARY-EXPR, FOR-EXPR, OF-EXPR, WITH-EXPR, WITH-DECLS, WITH-DECL, QUANTIFIER, ITERABLE, BOOLEAN-EXPR-TUPLE, EXPR-TUPLE, PATTERN-IDENT-TUPLE, IMPORT-STMT, INCLUDE-STMT}
+unfoldable pub use Rattle.definition.specs.Prog.{productions}
 use Rattle.definition.specs.Grammar.{kind}
 
 -- what cannot be: `never cc`, where two different constructors are said to be one
@@ -35,12 +36,10 @@ pub clash : {A : Type 0} (b : Bool) → T (not b) → T b → A
 clash true n t = absurd n
 clash false n t = absurd t
 
-unfoldable pub productions : List Production
-productions =
-    RULE-DECL ∷ RULE-MODS ∷ RULE-TAGS ∷ META-BLK ∷ META-DEF ∷ PATTERNS-BLK ∷ PATTERN-DEF ∷ PATTERN-MODS ∷ PATTERN-MOD ∷ HEX-PATTERN ∷ HEX-SUB-PATTERN
-    ∷ HEX-ALTERNATIVE ∷ HEX-JUMP ∷ CONDITION-BLK ∷ BOOLEAN-EXPR ∷ BOOLEAN-TERM ∷ EXPR ∷ FUNC-CALL ∷ RANGE ∷ TERM ∷ PRIMARY-EXPR
-    ∷ FOR-EXPR ∷ OF-EXPR ∷ WITH-EXPR ∷ WITH-DECLS ∷ WITH-DECL ∷ QUANTIFIER ∷ ITERABLE ∷ BOOLEAN-EXPR-TUPLE ∷ EXPR-TUPLE ∷ PATTERN-IDENT-TUPLE
-    ∷ IMPORT-STMT ∷ INCLUDE-STMT ∷ []
+-- what holds where entrypoint is allowed and where it is not holds of both, E which of the two
+pub either-way : (P : Bool → Type 0) → P true → P false → (E : Bool) → P E
+either-way P t f true = t
+either-way P t f false = f
 
 unkind : ℕ → Production
 unkind n = getD productions (n - kinds.RULE-DECL) RULE-DECL

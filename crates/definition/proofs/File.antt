@@ -63,7 +63,7 @@ no-chosen (x ∷ c) o e = absurd (omega (arith, errors-bads (x ∷ c) o))
 
 pub reads-unsaid : (L : Limits) (p : Prog) (s : State) → bads ((read-item L p s) .out) ≡ bads (s .out)
 unfolding read-item
-reads-unsaid L p s = exec-kept (ordered Unsaid unsaid) (L .depth) (run (L .depth)) (run-kept (ordered Unsaid unsaid) (L .depth)) p false s
+reads-unsaid L p s = exec-kept (ordered Unsaid unsaid) (L .depth) (run (L .entrypoint) (L .depth)) (run-kept (ordered Unsaid unsaid) (L .entrypoint) (L .depth)) p false s
 
 pub trivia-fresh : (s : State) → Fresh s → Fresh (trivia s)
 trivia-fresh s f = record { is-ok = f .is-ok; no-want = f .no-want; no-unwant = f .no-unwant; no-chosen = f .no-chosen; no-cache = f .no-cache }
@@ -89,7 +89,7 @@ again-running u = go (u .mode) u
 stray-said : (s : State) → bads (s .out) < bads ((stray-item s) .out)
 stray-said s = omega (arith, seek-bads rule-keywords (s .rest) (Event.opened (length (s .rest)) ∷ Event.bad (length (s .rest)) stray ∷ s .out))
 
-item-grows : (L : Limits) → (x : Next) (s : State) → bads (s .out) ≤ bads ((item-at L x s) .out)
+pub item-grows : (L : Limits) → (x : Next) (s : State) → bads (s .out) ≤ bads ((item-at L x s) .out)
 item-grows L end s = omega arith
 item-grows L other s = omega (arith, stray-said s)
 item-grows L (hit a is) s = omega (arith, reads-unsaid L (item-of a) s)
@@ -142,15 +142,15 @@ here s f a is h =
     gap-ok (stopped v) e = Rattle.definition.proofs.Shrink.not-stopped v e
 
 -- no error: items from here to the last row
-sound-items : (L : Limits) → (n : ℕ) (s : State) → Fresh s → size s ≤ n → Running ((items L n s) .mode) → bads ((items L n s) .out) ≡ bads (s .out) → Items (strip (s .rest))
-sound-items L zero s f l r e = subst Items (sym (size-nil (strip (s .rest)) l)) no-more
+sound-items : (L : Limits) → (n : ℕ) (s : State) → Fresh s → size s ≤ n → Running ((items L n s) .mode) → bads ((items L n s) .out) ≡ bads (s .out) → Items (L .entrypoint) (strip (s .rest))
+sound-items L zero s f l r e = subst (Items (L .entrypoint)) (sym (size-nil (strip (s .rest)) l)) no-more
 sound-items L (suc n) s f l r e = by-rest (s .rest) refl (sound-items L n)
   where
     t : State
     t = trivia s
 
-    by-next : (x : Next) → sought item-keywords ((trivia s) .rest) ≡ x → let v : State = again (flush (item-at L x (trivia s))) in ((u : State) → Fresh u → size u ≤ n → Running ((items L n u) .mode) → bads ((items L n u) .out) ≡ bads (u .out) → Items (strip (u .rest))) → Running ((items L n v) .mode) → bads ((items L n v) .out) ≡ bads (s .out) → Items (strip (s .rest))
-    by-next end h H r e = subst Items (ap strip (sym (sought-end item-keywords ((trivia s) .rest) h)) ∙ strip-gap (s .mode) (s .rest)) no-more
+    by-next : (x : Next) → sought item-keywords ((trivia s) .rest) ≡ x → let v : State = again (flush (item-at L x (trivia s))) in ((u : State) → Fresh u → size u ≤ n → Running ((items L n u) .mode) → bads ((items L n u) .out) ≡ bads (u .out) → Items (L .entrypoint) (strip (u .rest))) → Running ((items L n v) .mode) → bads ((items L n v) .out) ≡ bads (s .out) → Items (L .entrypoint) (strip (s .rest))
+    by-next end h H r e = subst (Items (L .entrypoint)) (ap strip (sym (sought-end item-keywords ((trivia s) .rest) h)) ∙ strip-gap (s .mode) (s .rest)) no-more
     by-next other h H r e =
         let u : State = stray-item (trivia s) in
         let v : State = again (flush u) in
@@ -166,46 +166,46 @@ sound-items L (suc n) s f l r e = by-rest (s .rest) refl (sound-items L n)
         let c : u .chosen ≡ [] = no-chosen (u .chosen) (u .out) (omega (arith, errors-bads (u .chosen) (u .out), ap bads (z .2), reads-unsaid L (item-of a) (trivia s), gap-bads (s .mode) (s .rest) (s .out))) in
         let b = here s f a is h in
         let p = accepted L (trivia s) (b .0) a (strip is) (b .1) (b .2) (trivia-fresh s f) (again-running u rv, c) in
-        let w : Items (strip (v .rest)) = H v (z .0) (omega (arith, p .1, ap (λ (q : List ℕ). length (strip q)) (z .1), ap length (strip-gap (s .mode) (s .rest)))) r (omega (arith, errors-bads (u .chosen) (u .out), ap bads (z .2), reads-unsaid L (item-of a) (trivia s), gap-bads (s .mode) (s .rest) (s .out), ap length c)) in
-        one-item (to-ford (subst (λ (q : List ℕ). Peg an-item q (Res.yes (strip (u .rest)))) (strip-gap (s .mode) (s .rest)) (p .0)) .1) (subst (λ (q : List ℕ). Items (strip q)) (z .1) w)
+        let w : Items (L .entrypoint) (strip (v .rest)) = H v (z .0) (omega (arith, p .1, ap (λ (q : List ℕ). length (strip q)) (z .1), ap length (strip-gap (s .mode) (s .rest)))) r (omega (arith, errors-bads (u .chosen) (u .out), ap bads (z .2), reads-unsaid L (item-of a) (trivia s), gap-bads (s .mode) (s .rest) (s .out), ap length c)) in
+        one-item (to-ford (subst (λ (q : List ℕ). Peg (L .entrypoint) an-item q (Res.yes (strip (u .rest)))) (strip-gap (s .mode) (s .rest)) (p .0)) .1) (subst (λ (q : List ℕ). Items (L .entrypoint) (strip q)) (z .1) w)
 
-    by-rest : (q : List ℕ) → s .rest ≡ q → ((u : State) → Fresh u → size u ≤ n → Running ((items L n u) .mode) → bads ((items L n u) .out) ≡ bads (u .out) → Items (strip (u .rest))) → Items (strip (s .rest))
-    by-rest [] h H = subst (λ (q : List ℕ). Items (strip q)) (sym h) no-more
+    by-rest : (q : List ℕ) → s .rest ≡ q → ((u : State) → Fresh u → size u ≤ n → Running ((items L n u) .mode) → bads ((items L n u) .out) ≡ bads (u .out) → Items (L .entrypoint) (strip (u .rest))) → Items (L .entrypoint) (strip (s .rest))
+    by-rest [] h H = subst (λ (q : List ℕ). Items (L .entrypoint) (strip q)) (sym h) no-more
     by-rest (i ∷ is) h H =
         let k = items-step L n s i is h (f .is-ok) in
         by-next (sought item-keywords ((trivia s) .rest)) refl H (subst (λ (u : State). Running (u .mode)) k r) (ap (λ (u : State). bads (u .out)) (sym k) ∙ e)
 
 -- items from here to the last row: no error
-full-items : (L : Limits) → (n : ℕ) (s : State) → Fresh s → Running ((items L n s) .mode) → Items (strip (s .rest)) → bads ((items L n s) .out) ≡ bads (s .out)
+full-items : (L : Limits) → (n : ℕ) (s : State) → Fresh s → Running ((items L n s) .mode) → Items (L .entrypoint) (strip (s .rest)) → bads ((items L n s) .out) ≡ bads (s .out)
 full-items L zero s f r w = refl
 full-items L (suc n) s f r w = by-rest (s .rest) refl (full-items L n)
   where
-    off : (q : List ℕ) → Items (strip q) → Off (sought item-keywords (strip q)) → ⊥
+    off : (q : List ℕ) → Items (L .entrypoint) (strip q) → Off (sought item-keywords (strip q)) → ⊥
     off q w o = go (strip q) w o
       where
-        go : (l : List ℕ) → Items l → Off (sought item-keywords l) → ⊥
+        go : (l : List ℕ) → Items (L .entrypoint) l → Off (sought item-keywords l) → ⊥
         go l no-more o = o
-        go l (one-item {r′ = r′} g rs) o = yes-no r′ (det (from-ford an-item g) Res.no (dies-no item-keywords l an-item item-dies (off-miss (sought item-keywords l) o)))
+        go l (one-item {r′ = r′} g rs) o = yes-no r′ (det (from-ford an-item g) Res.no (dies-no item-keywords l an-item (item-dies (L .entrypoint)) (off-miss (sought item-keywords l) o)))
 
-    behind : (l r′ : List ℕ) → Items l → Peg an-item l (Res.yes r′) → Items r′
-    behind l r′ no-more d = absurd (yes-no r′ (det d Res.no (dies-no item-keywords [] an-item item-dies tt)))
-    behind l r′ (one-item {r′ = r₁} g rs) d = let e = det (from-ford an-item g) (Res.yes r′) d in let y : r₁ ≡ r′ = cc in subst Items y rs
+    behind : (l r′ : List ℕ) → Items (L .entrypoint) l → Peg (L .entrypoint) an-item l (Res.yes r′) → Items (L .entrypoint) r′
+    behind l r′ no-more d = absurd (yes-no r′ (det d Res.no (dies-no item-keywords [] an-item (item-dies (L .entrypoint)) tt)))
+    behind l r′ (one-item {r′ = r₁} g rs) d = let e = det (from-ford an-item g) (Res.yes r′) d in let y : r₁ ≡ r′ = cc in subst (Items (L .entrypoint)) y rs
 
     skip-skip : (m : Mode) → m ≡ ok → sought item-keywords (gap m (s .rest)) ≡ Rattle.definition.specs.Run.next item-keywords (s .rest)
     skip-skip ok e = refl
     skip-skip failed e = not-failed e
     skip-skip (stopped v) e = Rattle.definition.proofs.Shrink.not-stopped v e
 
-    items-t : Items (strip ((trivia s) .rest))
-    items-t = subst Items (sym (strip-gap (s .mode) (s .rest))) w
+    items-t : Items (L .entrypoint) (strip ((trivia s) .rest))
+    items-t = subst (Items (L .entrypoint)) (sym (strip-gap (s .mode) (s .rest))) w
 
-    by-next : (x : Next) → sought item-keywords ((trivia s) .rest) ≡ x → let v : State = again (flush (item-at L x (trivia s))) in ((u : State) → Fresh u → Running ((items L n u) .mode) → Items (strip (u .rest)) → bads ((items L n u) .out) ≡ bads (u .out)) → Running ((items L n v) .mode) → bads ((items L n v) .out) ≡ bads (s .out)
+    by-next : (x : Next) → sought item-keywords ((trivia s) .rest) ≡ x → let v : State = again (flush (item-at L x (trivia s))) in ((u : State) → Fresh u → Running ((items L n u) .mode) → Items (L .entrypoint) (strip (u .rest)) → bads ((items L n u) .out) ≡ bads (u .out)) → Running ((items L n v) .mode) → bads ((items L n v) .out) ≡ bads (s .out)
     by-next end h H r =
         let u : State = trivia s in
         let v : State = again (flush u) in
         let rv = items-stopped L n v r in
         let z = after-item u (again-running u rv) in
-        let k = H v (z .0) r (subst (λ (q : List ℕ). Items (strip q)) (sym (z .1)) items-t) in
+        let k = H v (z .0) r (subst (λ (q : List ℕ). Items (L .entrypoint) (strip q)) (sym (z .1)) items-t) in
         omega (arith, k, ap bads (z .2), errors-bads (u .chosen) (u .out), gap-bads (s .mode) (s .rest) (s .out), ap length (f .no-chosen))
     by-next other h H r = absurd (off (s .rest) w (next-off item-keywords (s .rest) (sym (skip-skip (s .mode) (f .is-ok)) ∙ h)))
     by-next (hit a is) h H r =
@@ -217,10 +217,10 @@ full-items L (suc n) s f r w = by-rest (s .rest) refl (full-items L n)
         let b = here s f a is h in
         let c : u .chosen ≡ [] = unblamed L (trivia s) (b .0) a (strip is) (b .1) (b .2) (trivia-fresh s f) ru items-t in
         let q = accepted L (trivia s) (b .0) a (strip is) (b .1) (b .2) (trivia-fresh s f) (ru, c) in
-        let k = H v (z .0) r (subst (λ (q : List ℕ). Items (strip q)) (sym (z .1)) (behind (strip ((trivia s) .rest)) (strip (u .rest)) items-t (q .0))) in
+        let k = H v (z .0) r (subst (λ (q : List ℕ). Items (L .entrypoint) (strip q)) (sym (z .1)) (behind (strip ((trivia s) .rest)) (strip (u .rest)) items-t (q .0))) in
         omega (arith, k, ap bads (z .2), errors-bads (u .chosen) (u .out), reads-unsaid L (item-of a) (trivia s), gap-bads (s .mode) (s .rest) (s .out), ap length c)
 
-    by-rest : (q : List ℕ) → s .rest ≡ q → ((u : State) → Fresh u → Running ((items L n u) .mode) → Items (strip (u .rest)) → bads ((items L n u) .out) ≡ bads (u .out)) → bads ((items L (suc n) s) .out) ≡ bads (s .out)
+    by-rest : (q : List ℕ) → s .rest ≡ q → ((u : State) → Fresh u → Running ((items L n u) .mode) → Items (L .entrypoint) (strip (u .rest)) → bads ((items L n u) .out) ≡ bads (u .out)) → bads ((items L (suc n) s) .out) ≡ bads (s .out)
     by-rest [] h H = ap (λ (u : State). bads (u .out)) (items-end L n s h)
     by-rest (i ∷ is) h H =
         let k = items-step L n s i is h (f .is-ok) in
@@ -230,5 +230,5 @@ pub start-fresh : (r : List ℕ) (f : ℕ) → Fresh (start r f)
 start-fresh r f = record { is-ok = refl; no-want = refl; no-unwant = refl; no-chosen = refl; no-cache = refl }
 
 -- THE THEOREM: a reading that did not stop has no error exactly where the PEG accepts every item.
-pub no-error-iff-accepted : (L : Limits) (r : List ℕ) (f : ℕ) → Running ((read L r f) .mode) → (bads ((read L r f) .out) ≡ 0) ↔ Items (strip r)
+pub no-error-iff-accepted : (L : Limits) (r : List ℕ) (f : ℕ) → Running ((read L r f) .mode) → (bads ((read L r f) .out) ≡ 0) ↔ (Items (L .entrypoint)) (strip r)
 no-error-iff-accepted L r f h = ((λ e. sound-items L (length r) (start r f) (start-fresh r f) (strip-le r) h e), λ w. full-items L (length r) (start r f) (start-fresh r f) h w)

@@ -79,59 +79,59 @@ fate c S (recover S′) = same
 fate c S (node a) = c S a
 fate c S (memo a) = open-ended
 
-abbrev pub fate-of : ℕ → List ℕ → Production → Fate
-fate-of zero S a = open-ended
-fate-of (suc n) S a = fate (λ S b. fate-of n S b) S (grammar a)
+abbrev pub fate-of : (E : Bool) → ℕ → List ℕ → Production → Fate
+fate-of E zero S a = open-ended
+fate-of E (suc n) S a = fate (λ S b. fate-of E n S b) S (grammar E a)
 
-abbrev pub Meets : Fate → Prog → List ℕ → Type 0
-Meets dead p r = Peg p r Res.no
-Meets same p r = Peg p r (Res.yes r)
-Meets open-ended p r = Unit
+abbrev pub Meets : (E : Bool) → Fate → Prog → List ℕ → Type 0
+Meets E dead p r = Peg E p r Res.no
+Meets E same p r = Peg E p r (Res.yes r)
+Meets E open-ended p r = Unit
 
-module _ (S r : List ℕ) (m : Miss (sought S r)) where
-  meets-sub : (S′ N : List ℕ) (b : Bool) → (T b → Miss (sought S′ r)) → Meets (if-sub b dead) (eat S′ N) r
+module _ (E : Bool) (S r : List ℕ) (m : Miss (sought S r)) where
+  meets-sub : (S′ N : List ℕ) (b : Bool) → (T b → Miss (sought S′ r)) → Meets E (if-sub b dead) (eat S′ N) r
   meets-sub S′ N true h = eat-no (h tt)
   meets-sub S′ N false h = tt
 
-  meets-if : (S′ : List ℕ) (p : Prog) (b : Bool) → (T b → Miss (sought S′ r)) → Meets (if-sub b same) (ifnext S′ p) r
+  meets-if : (S′ : List ℕ) (p : Prog) (b : Bool) → (T b → Miss (sought S′ r)) → Meets E (if-sub b same) (ifnext S′ p) r
   meets-if S′ p true h = ifnext-miss (h tt)
   meets-if S′ p false h = tt
 
-  meets-opt : (p : Prog) (x : Fate) → Meets x p r → Meets (tried x) (opt p) r
+  meets-opt : (p : Prog) (x : Fate) → Meets E x p r → Meets E (tried x) (opt p) r
   meets-opt p dead d = opt-no d
   meets-opt p same d = tt
   meets-opt p open-ended d = tt
 
-  meets-then : (p : Prog) (x : Fate) → Meets x p r → Meets x (then p) r
+  meets-then : (p : Prog) (x : Fate) → Meets E x p r → Meets E x (then p) r
   meets-then p dead d = then-is d
   meets-then p same d = then-is d
   meets-then p open-ended d = tt
 
-  meets-last : (p : Prog) (x : Fate) → Meets x p r → Meets x (last p) r
+  meets-last : (p : Prog) (x : Fate) → Meets E x p r → Meets E x (last p) r
   meets-last p dead d = last-is d
   meets-last p same d = last-is d
   meets-last p open-ended d = tt
 
-  meets-node : (a : Production) (x : Fate) → Meets x (grammar a) r → Meets x (node a) r
+  meets-node : (a : Production) (x : Fate) → Meets E x (grammar E a) r → Meets E x (node a) r
   meets-node a dead d = node-is d
   meets-node a same d = node-is d
   meets-node a open-ended d = tt
 
-  meets-seq : (p q : Prog) (x y : Fate) → Meets x p r → Meets y q r → Meets (first-of x y) (p ⨟ q) r
+  meets-seq : (p q : Prog) (x y : Fate) → Meets E x p r → Meets E y q r → Meets E (first-of x y) (p ⨟ q) r
   meets-seq p q dead y d e = seq-no d
   meets-seq p q same dead d e = seq-yes d e
   meets-seq p q same same d e = seq-yes d e
   meets-seq p q same open-ended d e = tt
   meets-seq p q open-ended y d e = tt
 
-  meets-alt : (p q : Prog) (x y : Fate) → Meets x p r → Meets y q r → Meets (else-of x y) (p / q) r
+  meets-alt : (p q : Prog) (x y : Fate) → Meets E x p r → Meets E y q r → Meets E (else-of x y) (p / q) r
   meets-alt p q dead dead d e = alt-no d e
   meets-alt p q dead same d e = alt-no d e
   meets-alt p q dead open-ended d e = tt
   meets-alt p q same y d e = Rattle.definition.proofs.Peg.alt-yes d
   meets-alt p q open-ended y d e = tt
 
-  fate-meets : (c : List ℕ → Production → Fate) → ((a : Production) → Meets (c S a) (node a) r) → (p : Prog) → Meets (fate c S p) p r
+  fate-meets : (c : List ℕ → Production → Fate) → ((a : Production) → Meets E (c S a) (node a) r) → (p : Prog) → Meets E (fate c S p) p r
   fate-meets c h (eat S′ N) = meets-sub S′ N (sub S′ S) (λ t. sub-miss S′ S r t m)
   fate-meets c h (unless S′) = tt
   fate-meets c h (ifnext S′ p) = meets-if S′ p (sub S′ S) (λ t. sub-miss S′ S r t m)
@@ -145,9 +145,9 @@ module _ (S r : List ℕ) (m : Miss (sought S r)) where
   fate-meets c h (node a) = h a
   fate-meets c h (memo a) = tt
 
-  fate-of-meets : (n : ℕ) (a : Production) → Meets (fate-of n S a) (node a) r
+  fate-of-meets : (n : ℕ) (a : Production) → Meets E (fate-of E n S a) (node a) r
   fate-of-meets zero a = tt
-  fate-of-meets (suc n) a = meets-node a (fate-of (suc n) S a) (fate-meets (fate-of n) (fate-of-meets n) (grammar a))
+  fate-of-meets (suc n) a = meets-node a (fate-of E (suc n) S a) (fate-meets (fate-of E n) (fate-of-meets n) (grammar E a))
 
 -- where the next row is not of S, p fails
 abbrev is-dead : Fate → Bool
@@ -155,13 +155,13 @@ is-dead dead = true
 is-dead same = false
 is-dead open-ended = false
 
-abbrev pub dies : List ℕ → Prog → Bool
-dies S p = is-dead (fate (fate-of 3) S p)
+abbrev pub dies : (E : Bool) → List ℕ → Prog → Bool
+dies E S p = is-dead (fate (fate-of E 3) S p)
 
-pub dies-no : (S r : List ℕ) (p : Prog) → T (dies S p) → Miss (sought S r) → Peg p r Res.no
-dies-no S r p t m = go (fate (fate-of 3) S p) t (fate-meets S r m (fate-of 3) (fate-of-meets S r m 3) p)
+pub dies-no : {E : Bool} (S r : List ℕ) (p : Prog) → T (dies E S p) → Miss (sought S r) → Peg E p r Res.no
+dies-no {E} S r p t m = go (fate (fate-of E 3) S p) t (fate-meets E S r m (fate-of E 3) (fate-of-meets E S r m 3) p)
   where
-    go : (x : Fate) → T (is-dead x) → Meets x p r → Peg p r Res.no
+    go : (x : Fate) → T (is-dead x) → Meets E x p r → Peg E p r Res.no
     go dead t d = d
     go same t d = absurd t
     go open-ended t d = absurd t

@@ -60,9 +60,6 @@ module _ (k : ℕ) (q : List Event) (b : List ℕ) (dr : List Draft) where
   pub skip-to-h : (S : List ℕ) (s : State) → skip-to S (h s) ≡ h (skip-to S s)
   skip-to-h S s = ap (λ (o : List Event). mark (put (seek S (s .rest)) o (h s))) (seek-out-q S (s .rest) (s .out))
 
-  pub choose-h : (s : State) → choose (h s) ≡ h (choose s)
-  choose-h s = refl
-
   -- a step that good order alone lets happen
   guarded : (f : Reader) → ((s : State) → Live ((f (turn ok s)) .mode) → f (h (turn ok s)) ≡ h (f (turn ok s))) → Framed (if-ok f)
   guarded f g s = go (s .mode) s
@@ -236,5 +233,5 @@ module _ (k : ℕ) (q : List Event) (b : List ℕ) (dr : List Draft) where
       alt-h f g F G s l = ap (or-else g (h s)) (after f F s (or-else-live g s (f (trivia s)) l)) ∙ or-else-h g G s (f (trivia s)) l
 
 -- Fuel: a reading that does not stop is the same with more fuel, but for the fuel that is left.
-pub more-fuel : (d : ℕ) (o : Bool) (a : Production) (k : ℕ) (q : List Event) (b : List ℕ) (dr : List Draft) → Framed k q b dr (run d o a)
-more-fuel d o a k q b dr = run-kept (frames k q b dr) d o a
+pub more-fuel : (E : Bool) (d : ℕ) (o : Bool) (a : Production) (k : ℕ) (q : List Event) (b : List ℕ) (dr : List Draft) → Framed k q b dr (run E d o a)
+more-fuel E d o a k q b dr = run-kept (frames k q b dr) E d o a

@@ -149,8 +149,8 @@ grown = record {
   at-back = λ s t p. record { rows = end-refl (s .rest); events = end-refl (s .out); errors = p .errors; fuels = p .fuels; stops = p .stops };
 }
 
-pub grows : (d : ℕ) (o : Bool) (a : Production) (s : State) → Grown s (run d o a s)
-grows d o a = run-kept (ordered Grown grown) d o a
+pub grows : (E : Bool) (d : ℕ) (o : Bool) (a : Production) (s : State) → Grown s (run E d o a s)
+grows E d o a = run-kept (ordered Grown grown) E d o a
 
 pub running-before : (s t : State) → Grown s t → Running (t .mode) → Running (s .mode)
 running-before s t g r = go (s .mode) refl
@@ -165,8 +165,8 @@ charge-not zero t r = halted-not spent (t .mode) r
 charge-not (suc f) t r = halted-not deep (t .mode) r
 
 -- with no depth left a production stops
-pub run-zero : (o : Bool) (a : Production) (s : State) → Running ((run zero o a s) .mode) → ⊥
-run-zero o a s r = let t : State = begin zero s in charge-not (s .fuel) (trivia s) (running-before t (finish o (kind a) (length (t .rest)) t) (finish-up Grown grown o (kind a) (length (t .rest)) t) r)
+pub run-zero : (E : Bool) (o : Bool) (a : Production) (s : State) → Running ((run E zero o a s) .mode) → ⊥
+run-zero E o a s r = let t : State = begin zero s in charge-not (s .fuel) (trivia s) (running-before t (finish o (kind a) (length (t .rest)) t) (finish-up Grown grown o (kind a) (length (t .rest)) t) r)
 
 -- no error event is written inside an item
 abbrev pub Unsaid : State → State → Type 0

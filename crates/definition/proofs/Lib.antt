@@ -17,8 +17,10 @@ pub mod File
 pub mod Whole
 pub mod Takes
 pub mod Suffix
+pub mod Numbers
 pub mod Tidy
 pub mod Buffer
+pub mod Height
 pub mod Shown
 pub mod Cut
 pub mod Text

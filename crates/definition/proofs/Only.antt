@@ -13,7 +13,7 @@ use Rattle.definition.specs.Grammar.{grammar, kind}
 use Rattle.definition.specs.Run.{Next, end, other, hit, sought}
 use Rattle.definition.specs.Ford.{Res}
 use Rattle.definition.proofs.Peg.{Peg, eat-yes, unless-yes, ifnext-hit, ifnext-miss, opt-yes, opt-no, many-yes, many-no, then-is, seq-yes, alt-yes, alt-no, last-is, recover-is, node-is, memo-is}
-use Rattle.definition.proofs.Every.{and-left, and-right, productions, all, is, each-but, never}
+use Rattle.definition.proofs.Every.{and-left, and-right, either-way, productions, all, is, each-but, never}
 use Rattle.definition.proofs.Grows.{sought-hit}
 
 abbrev free : ℕ → Next → Bool
@@ -36,11 +36,11 @@ bare w (recover S) = true
 bare w (node a) = true
 bare w (memo a) = true
 
-module _ (w : ℕ) (k : Production) (S N : List ℕ) (q : Prog) where
+module _ (E : Bool) (w : ℕ) (k : Production) (S N : List ℕ) (q : Prog) where
   -- from r down to r′ row by row, with the production accepted at each row of id w
   pub data Each : List ℕ → List ℕ → Type 0 where
     none-left : {r : List ℕ} → Each r r
-    one-more : {i : ℕ} {is r : List ℕ} → (i ≡ w → (r₁ : List ℕ) × Peg (grammar k) (i ∷ is) (Res.yes r₁)) → Each is r → Each (i ∷ is) r
+    one-more : {i : ℕ} {is r : List ℕ} → (i ≡ w → (r₁ : List ℕ) × Peg E (grammar E k) (i ∷ is) (Res.yes r₁)) → Each is r → Each (i ∷ is) r
 
   pub each-trans : {a b c : List ℕ} → Each a b → Each b c → Each a c
   each-trans none-left e = e
@@ -72,22 +72,22 @@ module _ (w : ℕ) (k : Production) (S N : List ℕ) (q : Prog) where
 
   -- a production's row
   abbrev pub Others : Type 0
-  Others = (a : Production) → T (bare w (grammar a)) ⊎ ((grammar a ≡ eat S N ⨟ q) × (a ≡ k))
+  Others = (a : Production) → T (bare w (grammar E a)) ⊎ ((grammar E a ≡ eat S N ⨟ q) × (a ≡ k))
 
-  abbrev fit-of : (a : Production) → T (bare w (grammar a)) ⊎ ((grammar a ≡ eat S N ⨟ q) × (a ≡ k)) → Fit (grammar a)
+  abbrev fit-of : (a : Production) → T (bare w (grammar E a)) ⊎ ((grammar E a ≡ eat S N ⨟ q) × (a ≡ k)) → Fit (grammar E a)
   fit-of a (inl t) = inl t
   fit-of a (inr e) = inr (e .0)
 
-  each-node : (a : Production) (o : T (bare w (grammar a)) ⊎ ((grammar a ≡ eat S N ⨟ q) × (a ≡ k))) (r r′ : List ℕ) → Peg (grammar a) r (Res.yes r′) → Goes (fit-of a o) r r′ → Each r r′
+  each-node : (a : Production) (o : T (bare w (grammar E a)) ⊎ ((grammar E a ≡ eat S N ⨟ q) × (a ≡ k))) (r r′ : List ℕ) → Peg E (grammar E a) r (Res.yes r′) → Goes (fit-of a o) r r′ → Each r r′
   each-node a (inl t) r r′ d g = g
   each-node a (inr e) r r′ d g =
-      subst (λ (l : List ℕ). Each l r′) (sym (g .2)) (one-more (λ _. (r′, subst (λ (b : Production). Peg (grammar b) (g .0 ∷ g .1) (Res.yes r′)) (e .1) (subst (λ (l : List ℕ). Peg (grammar a) l (Res.yes r′)) (g .2) d))) (g .3))
+      subst (λ (l : List ℕ). Each l r′) (sym (g .2)) (one-more (λ _. (r′, subst (λ (b : Production). Peg E (grammar E b) (g .0 ∷ g .1) (Res.yes r′)) (e .1) (subst (λ (l : List ℕ). Peg E (grammar E a) l (Res.yes r′)) (g .2) d))) (g .3))
 
-  eat-inv : {S′ N′ r r′ : List ℕ} → Peg (eat S′ N′) r (Res.yes r′) → (i : ℕ) × (r ≡ i ∷ r′)
+  eat-inv : {S′ N′ r r′ : List ℕ} → Peg E (eat S′ N′) r (Res.yes r′) → (i : ℕ) × (r ≡ i ∷ r′)
   eat-inv {r = r} {r′ = r′} (eat-yes {S = S₁} a f) = eaten S₁ r r′ r′ a f refl
 
   module _ (others : Others) (bare-q : T (bare w q)) where
-    pub each : {p : Prog} {r r′ : List ℕ} → Peg p r (Res.yes r′) → (h : Fit p) → Goes h r r′
+    pub each : {p : Prog} {r r′ : List ℕ} → Peg E p r (Res.yes r′) → (h : Fit p) → Goes h r r′
     each {r = r} {r′ = r′} (eat-yes {S = S₁} a f) (inl t) = each-eat S₁ r r′ r′ a f refl t
     each (eat-yes a f) (inr g) = never cc
     each (unless-yes m) (inl t) = none-left
@@ -110,7 +110,7 @@ module _ (w : ℕ) (k : Production) (S N : List ℕ) (q : Prog) where
     each {r = r} (seq-yes {p = p₁} {q = q₁} {r′ = r₁} d d′) (inr g) =
         let g₁ : p₁ ≡ eat S N = cc in
         let g₂ : q ≡ q₁ = cc in
-        let i = eat-inv {S′ = S} {N′ = N} (subst (λ (z : Prog). Peg z r (Res.yes r₁)) g₁ d) in
+        let i = eat-inv {S′ = S} {N′ = N} (subst (λ (z : Prog). Peg E z r (Res.yes r₁)) g₁ d) in
         (i .0, r₁, i .1, each d′ (inl (subst (λ (z : Prog). T (bare w z)) g₂ bare-q)))
     each (alt-yes {p = p₁} {q = q₁} d) (inl t) = each d (inl (and-left (bare w p₁) (bare w q₁) t))
     each (alt-yes d) (inr g) = never cc
@@ -141,32 +141,32 @@ for-rest (node a) = unless []
 for-rest (memo a) = unless []
 
 -- one law over the keyword and its production
-only : (w : ℕ) (k : Production) (S N : List ℕ) (q : Prog) → grammar k ≡ eat S N ⨟ q → T (all (λ a. bare w (grammar a) || is k a) productions) → Others w k S N q
-only w k S N q e t a = go (each-but k (λ a. bare w (grammar a)) t a)
+only : (E : Bool) (w : ℕ) (k : Production) (S N : List ℕ) (q : Prog) → grammar E k ≡ eat S N ⨟ q → T (all (λ a. bare w (grammar E a) || is k a) productions) → Others E w k S N q
+only E w k S N q e t a = go (each-but k (λ a. bare w (grammar E a)) t a)
   where
-    go : T (bare w (grammar a)) ⊎ (a ≡ k) → T (bare w (grammar a)) ⊎ ((grammar a ≡ eat S N ⨟ q) × (a ≡ k))
+    go : T (bare w (grammar E a)) ⊎ (a ≡ k) → T (bare w (grammar E a)) ⊎ ((grammar E a ≡ eat S N ⨟ q) × (a ≡ k))
     go (inl x) = inl x
-    go (inr x) = inr (ap grammar x ∙ e, x)
+    go (inr x) = inr (ap (grammar E) x ∙ e, x)
 
-pub only-for : Others kinds.FOR-KW FOR-EXPR (kinds.FOR-KW ∷ []) (kinds.EXPRESSION ∷ []) (for-rest (grammar FOR-EXPR))
+pub only-for : (E : Bool) → Others E kinds.FOR-KW FOR-EXPR (kinds.FOR-KW ∷ []) (kinds.EXPRESSION ∷ []) (for-rest (grammar E FOR-EXPR))
 unfolding productions grammar kind idOf for-rest
-only-for = only kinds.FOR-KW FOR-EXPR (kinds.FOR-KW ∷ []) (kinds.EXPRESSION ∷ []) (for-rest (grammar FOR-EXPR)) refl tt
+only-for E = only E kinds.FOR-KW FOR-EXPR (kinds.FOR-KW ∷ []) (kinds.EXPRESSION ∷ []) (for-rest (grammar E FOR-EXPR)) refl (either-way (λ E. T (all (λ a. bare kinds.FOR-KW (grammar E a) || is FOR-EXPR a) productions)) tt tt E)
 
-pub bare-for : T (bare kinds.FOR-KW (for-rest (grammar FOR-EXPR)))
+pub bare-for : (E : Bool) → T (bare kinds.FOR-KW (for-rest (grammar E FOR-EXPR)))
 unfolding grammar idOf for-rest
-bare-for = tt
+bare-for E = tt
 
-pub only-with : Others kinds.WITH-KW WITH-EXPR (kinds.WITH-KW ∷ []) (kinds.EXPRESSION ∷ []) (for-rest (grammar WITH-EXPR))
+pub only-with : (E : Bool) → Others E kinds.WITH-KW WITH-EXPR (kinds.WITH-KW ∷ []) (kinds.EXPRESSION ∷ []) (for-rest (grammar E WITH-EXPR))
 unfolding productions grammar kind idOf for-rest
-only-with = only kinds.WITH-KW WITH-EXPR (kinds.WITH-KW ∷ []) (kinds.EXPRESSION ∷ []) (for-rest (grammar WITH-EXPR)) refl tt
+only-with E = only E kinds.WITH-KW WITH-EXPR (kinds.WITH-KW ∷ []) (kinds.EXPRESSION ∷ []) (for-rest (grammar E WITH-EXPR)) refl (either-way (λ E. T (all (λ a. bare kinds.WITH-KW (grammar E a) || is WITH-EXPR a) productions)) tt tt E)
 
-pub bare-with : T (bare kinds.WITH-KW (for-rest (grammar WITH-EXPR)))
+pub bare-with : (E : Bool) → T (bare kinds.WITH-KW (for-rest (grammar E WITH-EXPR)))
 unfolding grammar idOf for-rest
-bare-with = tt
+bare-with E = tt
 
 -- Where a PEG over the productions took rows from r down to r′, for_expr was accepted at each `for` among them; with_expr at each `with`.
-pub every-for : {p : Prog} {r r′ : List ℕ} → Peg p r (Res.yes r′) → T (bare kinds.FOR-KW p) → Each kinds.FOR-KW FOR-EXPR (kinds.FOR-KW ∷ []) (kinds.EXPRESSION ∷ []) (for-rest (grammar FOR-EXPR)) r r′
-every-for d t = each kinds.FOR-KW FOR-EXPR _ _ _ only-for bare-for d (inl t)
+pub every-for : (E : Bool) {p : Prog} {r r′ : List ℕ} → Peg E p r (Res.yes r′) → T (bare kinds.FOR-KW p) → Each E kinds.FOR-KW FOR-EXPR (kinds.FOR-KW ∷ []) (kinds.EXPRESSION ∷ []) (for-rest (grammar E FOR-EXPR)) r r′
+every-for E d t = each E kinds.FOR-KW FOR-EXPR _ _ _ (only-for E) (bare-for E) d (inl t)
 
-pub every-with : {p : Prog} {r r′ : List ℕ} → Peg p r (Res.yes r′) → T (bare kinds.WITH-KW p) → Each kinds.WITH-KW WITH-EXPR (kinds.WITH-KW ∷ []) (kinds.EXPRESSION ∷ []) (for-rest (grammar WITH-EXPR)) r r′
-every-with d t = each kinds.WITH-KW WITH-EXPR _ _ _ only-with bare-with d (inl t)
+pub every-with : (E : Bool) {p : Prog} {r r′ : List ℕ} → Peg E p r (Res.yes r′) → T (bare kinds.WITH-KW p) → Each E kinds.WITH-KW WITH-EXPR (kinds.WITH-KW ∷ []) (kinds.EXPRESSION ∷ []) (for-rest (grammar E WITH-EXPR)) r r′
+every-with E d t = each E kinds.WITH-KW WITH-EXPR _ _ _ (only-with E) (bare-with E) d (inl t)

@@ -12,7 +12,7 @@ use Rattle.kinds.specs.Kinds as kinds
 use Rattle.kinds.specs.Sets.{idOf}
 use Rattle.definition.specs.Run.{count, State, Reader, Mode, ok, failed, stopped, Stop, spent, deep, Event, opened, leaf, closed, bad, Choice, Next, end, other, hit, next, turn, pay, note, keep, emit, take, back, halt, if-ok, trivia, expected, unexpected, choose, charge, begin, finish, unless-optional, skip-to, swallow, first-names, recovered, recovery, eat-row, refuse-row, branch, or-else, loop, go-on, known, remember, memo-row, nodes, halted}
 pub use Rattle.definition.specs.Remaining.{Running}
-use Rattle.definition.proofs.Induct.{Kept, KeptIf}
+use Rattle.definition.proofs.Induct.{Kept, JoinedIf, KeptIf}
 
 pub halted-not : (w : Stop) (m : Mode) → Running (halted w m) → ⊥
 halted-not w ok r = r
@@ -55,6 +55,20 @@ pub record StepsIf (c : List ℕ → Bool) (Q : State → State → Type 0) : Ty
   pub at-back : (s t : State) → Q s t → Q s (back s t)
   pub at-node : (d : ℕ) (o : Bool) (a : ℕ) (f : Reader) → ((s : State) → Q s (f s)) → (s : State) → Q s (nodes d o a f s)
 
+-- and with a node around skipped rows in place of any node
+pub record PartsIf (c : List ℕ → Bool) (Q : State → State → Type 0) : Type 0 where
+  pub same : (s : State) → Q s s
+  pub trans : (s t u : State) → Q s t → Q t u → Q s u
+  pub at-turn : (m : Mode) (s : State) → Running (s .mode) → Q s (turn m s)
+  pub at-expected : (N : List ℕ) → T (c N) → (s : State) → Q s (expected N s)
+  pub at-unexpected : (S : List ℕ) (s : State) (a : ℕ) (is : List ℕ) → next S (s .rest) ≡ hit a is → Q s (unexpected s)
+  pub at-choose : (s : State) → Q s (choose s)
+  pub at-keep : (r a : ℕ) (s : State) → Q s (keep ((r, a) ∷ s .cache) s)
+  pub at-trivia : (s : State) → Q s (trivia s)
+  pub at-take : (S : List ℕ) (s : State) (a : ℕ) (is : List ℕ) → s .mode ≡ ok → next S (s .rest) ≡ hit a is → Q s (take a is (trivia s))
+  pub at-back : (s t : State) → Q s t → Q s (back s t)
+  pub at-swallow : (d : ℕ) (o : Bool) (S : List ℕ) (s : State) → Q s (swallow d o S s)
+
 pub record Order (Q : State → State → Type 0) : Type 0 where
   pub same : (s : State) → Q s s
   pub trans : (s t u : State) → Q s t → Q t u → Q s u
@@ -73,7 +87,7 @@ pub record Order (Q : State → State → Type 0) : Type 0 where
 abbrev pub Up : (State → State → Type 0) → Reader → Type 0
 Up Q f = (s : State) → Q s (f s)
 
-module _ {c : List ℕ → Bool} (Q : State → State → Type 0) (O : StepsIf c Q) where
+module _ {c : List ℕ → Bool} (Q : State → State → Type 0) (O : PartsIf c Q) where
   guarded : (f : Reader) → ((s : State) → s .mode ≡ ok → Q s (f s)) → Up Q (if-ok f)
   guarded f g s = go (s .mode) s
     where
@@ -140,9 +154,6 @@ module _ {c : List ℕ → Bool} (Q : State → State → Type 0) (O : StepsIf c
   memo-row-up a f F s e true = O .at-turn failed s (running (s .mode) e)
   memo-row-up a f F s e false = O .trans s (f s) (remember (length (s .rest)) a (f s)) (F s) (remember-up (length (s .rest)) a (f s))
 
-  swallow-if : (d : ℕ) (o : Bool) (S : List ℕ) → Up Q (swallow d o S)
-  swallow-if d o S = O .at-node d o kinds.ERROR (skip-to S) (λ t. O .at-skip S t)
-
   first-names-up : (p : List (ℕ × Choice)) (S : List ℕ) → T (c (map idOf S)) → Up Q (first-names p S)
   first-names-up [] S t s = O .at-expected (map idOf S) t s
   first-names-up (e ∷ es) S t s = O .same s
@@ -154,9 +165,9 @@ module _ {c : List ℕ → Bool} (Q : State → State → Type 0) (O : StepsIf c
   recovered-up d o S k (hit a is) (stopped w) s = O .at-choose s
   recovered-up d o S k other m s =
       let t : State = first-names (s .chosen) S s in
-      O .trans s (choose t) (swallow d o S (choose t)) (O .trans s t (choose t) (first-names-up (s .chosen) S k s) (O .at-choose t)) (swallow-if d o S (choose t))
+      O .trans s (choose t) (swallow d o S (choose t)) (O .trans s t (choose t) (first-names-up (s .chosen) S k s) (O .at-choose t)) (O .at-swallow d o S (choose t))
 
-  pub recover-up : (d : ℕ) (o : Bool) (S : List ℕ) → T (c (map idOf S)) → Up Q (recovery d o S)
+  recover-up : (d : ℕ) (o : Bool) (S : List ℕ) → T (c (map idOf S)) → Up Q (recovery d o S)
   recover-up d o S k s = go (s .mode) s
     where
       go : (m : Mode) (s : State) → Q (turn m s) (recovery d o S (turn m s))
@@ -164,9 +175,8 @@ module _ {c : List ℕ → Bool} (Q : State → State → Type 0) (O : StepsIf c
       go failed s = O .trans (turn failed s) (turn ok s) (recovered d o S (next S (s .rest)) failed (turn ok s)) (O .at-turn ok (turn failed s) tt) (recovered-up d o S k (next S (s .rest)) failed (turn ok s))
       go (stopped w) s = O .same (turn (stopped w) s)
 
-  pub stepped-if : KeptIf c (Up Q)
-  stepped-if = record {
-    at-id = λ s. O .same s;
+  pub joined-if : JoinedIf c (Up Q)
+  joined-if = record {
     at-eat = λ S N t. guarded (λ s. eat-row N (next S (s .rest)) s) (λ s e. eat-row-up S N t s e (next S (s .rest)) refl);
     at-unless = λ S. guarded (λ s. refuse-row (next S (s .rest)) s) (λ s e. refuse-row-up S s e (next S (s .rest)) refl);
     at-ifnext = λ S t f F. guarded (λ s. branch (map idOf S) f (next S (s .rest)) s) (λ s e. branch-up (map idOf S) t f F s (next S (s .rest)));
@@ -178,23 +188,32 @@ module _ {c : List ℕ → Bool} (Q : State → State → Type 0) (O : StepsIf c
     at-fail = guarded (λ s. turn failed s) (λ s e. O .at-turn failed s (running (s .mode) e));
     at-recover = recover-up;
     at-memo = λ a f F. guarded (λ s. memo-row a f (known (s .cache) (length (s .rest)) a) s) (λ s e. memo-row-up a f F s e (known (s .cache) (length (s .rest)) a));
-    at-node = O .at-node;
   }
+
+module _ {c : List ℕ → Bool} (Q : State → State → Type 0) (O : StepsIf c Q) where
+  swallow-if : (d : ℕ) (o : Bool) (S : List ℕ) → Up Q (swallow d o S)
+  swallow-if d o S = O .at-node d o kinds.ERROR (skip-to S) (λ t. O .at-skip S t)
+
+  parts-if : PartsIf c Q
+  parts-if = record { same = O .same; trans = O .trans; at-turn = O .at-turn; at-expected = O .at-expected; at-unexpected = O .at-unexpected; at-choose = O .at-choose; at-keep = O .at-keep; at-trivia = O .at-trivia; at-take = O .at-take; at-back = O .at-back; at-swallow = swallow-if }
+
+  pub stepped-if : KeptIf c (Up Q)
+  stepped-if = record { joined = joined-if Q parts-if; at-id = O .same; at-node = O .at-node }
 
 module _ (Q : State → State → Type 0) (O : Steps Q) where
   whatever : StepsIf (λ N. true) Q
   whatever = record { same = O .same; trans = O .trans; at-turn = O .at-turn; at-expected = λ N t. O .at-expected N; at-unexpected = O .at-unexpected; at-choose = O .at-choose; at-keep = O .at-keep; at-trivia = O .at-trivia; at-take = O .at-take; at-skip = O .at-skip; at-back = O .at-back; at-node = O .at-node }
 
   pub loop-up : (f : Reader) → Up Q f → (n : ℕ) → Up Q (loop f n)
-  loop-up = loop-if Q whatever
+  loop-up = loop-if Q (parts-if Q whatever)
 
   pub swallow-up : (d : ℕ) (o : Bool) (S : List ℕ) → Up Q (swallow d o S)
   swallow-up = swallow-if Q whatever
 
   pub stepped : Kept (Up Q)
   stepped =
-      let K = stepped-if Q whatever in
-      record { at-id = K .at-id; at-eat = λ S N. K .at-eat S N tt; at-unless = K .at-unless; at-ifnext = λ S. K .at-ifnext S tt; at-opt = K .at-opt; at-many = K .at-many; at-then = K .at-then; at-seq = K .at-seq; at-alt = K .at-alt; at-fail = K .at-fail; at-recover = λ d o S. K .at-recover d o S tt; at-memo = K .at-memo; at-node = K .at-node }
+      let K = joined-if Q (parts-if Q whatever) in
+      record { at-id = O .same; at-eat = λ S N. K .at-eat S N tt; at-unless = K .at-unless; at-ifnext = λ S. K .at-ifnext S tt; at-opt = K .at-opt; at-many = K .at-many; at-then = K .at-then; at-seq = K .at-seq; at-alt = K .at-alt; at-fail = K .at-fail; at-recover = λ d o S. K .at-recover d o S tt; at-memo = K .at-memo; at-node = O .at-node }
 
 -- a step at a time, the writing of an event one of them
 module _ (Q : State → State → Type 0) (O : Order Q) where
@@ -239,7 +258,7 @@ module _ (Q : State → State → Type 0) (O : Order Q) where
   steps = record { same = O .same; trans = O .trans; at-turn = O .at-turn; at-expected = λ N s. O .at-note _ _ s; at-unexpected = λ S s a is h. O .at-note _ _ s; at-choose = O .at-choose; at-keep = O .at-keep; at-trivia = O .at-trivia; at-take = O .at-take; at-skip = O .at-skip; at-back = O .at-back; at-node = nodes-up }
 
   pub recovery-up : (d : ℕ) (o : Bool) (S : List ℕ) → Up Q (recovery d o S)
-  recovery-up d o S = recover-up Q (whatever Q steps) d o S tt
+  recovery-up d o S = recover-up Q (parts-if Q (whatever Q steps)) d o S tt
 
   pub ordered : Kept (Up Q)
   ordered = stepped Q steps

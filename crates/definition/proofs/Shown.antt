@@ -66,10 +66,10 @@ bads-append (bad n c ∷ w) q = omega (arith, bads-append w q)
 pub render-keeps : (x : Source) (st : List (ℕ × ℕ)) (w : List Event) (l l′ : List Entry) → render x st w (l ++ l′) ≡ render x st w l ++ l′
 render-keeps x st [] l l′ = refl
 render-keeps x [] (opened n ∷ w) l l′ = render-keeps x [] w l l′
-render-keeps x (t ∷ st) (opened n ∷ w) l l′ = render-keeps x st w ((Sort.BEGIN, t .0, starts-at x n, t .1) ∷ l) l′
-render-keeps x st (leaf a n ∷ w) l l′ = render-keeps x st w ((Sort.TOKEN, a, starts-at x n, ends-at x n) ∷ l) l′
-render-keeps x st (closed a n m ∷ w) l l′ = render-keeps x ((a, span-end x n m) ∷ st) w ((Sort.END, a, starts-at x n, span-end x n m) ∷ l) l′
-render-keeps x st (bad n c ∷ w) l l′ = render-keeps x st w ((Sort.ERROR, bads w, starts-at x n, ends-at x n) ∷ l) l′
+render-keeps x (t ∷ st) (opened n ∷ w) l l′ = render-keeps x st w ((Sort.BEGIN, t .0, starts-at x n, t .1, suc (length st)) ∷ l) l′
+render-keeps x st (leaf a n ∷ w) l l′ = render-keeps x st w ((Sort.TOKEN, a, starts-at x n, ends-at x n, suc (length st)) ∷ l) l′
+render-keeps x st (closed a n m ∷ w) l l′ = render-keeps x ((a, span-end x n m) ∷ st) w ((Sort.END, a, starts-at x n, span-end x n m, suc (length st)) ∷ l) l′
+render-keeps x st (bad n c ∷ w) l l′ = render-keeps x st w ((Sort.ERROR, bads w, starts-at x n, ends-at x n, suc (length st)) ∷ l) l′
 
 nil-of : {A : Type 0} (l : List A) → length l ≡ 0 → l ≡ []
 nil-of [] e = refl
@@ -104,6 +104,10 @@ records-keep x L (bad n c ∷ w) l l′ = records-keep x L w (record-of L x n c 
 abbrev ups : ℕ → List (ℕ × ℕ) → List (ℕ × ℕ)
 ups p [] = []
 ups p (t ∷ st) = (t .0, p + t .1) ∷ ups p st
+
+ups-length : (p : ℕ) (st : List (ℕ × ℕ)) → length (ups p st) ≡ length st
+ups-length p [] = refl
+ups-length p (t ∷ st) = ap suc (ups-length p st)
 
 module _ (pre a e : List ℕ) (B : Before pre a e) (y : Source) where
   abbrev P : ℕ
@@ -171,13 +175,19 @@ module _ (pre a e : List ℕ) (B : Before pre a e) (y : Source) where
   shown : (w q : List Event) (st : List (ℕ × ℕ)) (l : List Entry) → Ins N w → Nest (length st) w 0 → render x (ups P st) (w ++ q) (shifts P (bads q) l) ≡ render x [] q (shifts P (bads q) (render y st w l))
   shown [] q st l i p = ap (λ (s : List (ℕ × ℕ)). render x (ups P s) q (shifts P (bads q) l)) (nil-of st p)
   shown (opened n ∷ w) q [] l i p = absurd p
-  shown (opened n ∷ w) q (t ∷ st) l i p = ap (λ (s : ℕ). render x (ups P st) (w ++ q) ((Sort.BEGIN, t .0, s, P + t .1) ∷ shifts P (bads q) l)) (starts-later n (i .0)) ∙ shown w q st ((Sort.BEGIN, t .0, starts-at y n, t .1) ∷ l) (i .1) p
-  shown (leaf k n ∷ w) q st l i p = ap₂ (λ (s z : ℕ). render x (ups P st) (w ++ q) ((2, k, s, z) ∷ shifts P (bads q) l)) (starts-later n (i .0)) (ends-later n (i .0)) ∙ shown w q st ((2, k, starts-at y n, ends-at y n) ∷ l) (i .1) p
-  shown (closed k n m ∷ w) q st l i p = ap₂ (λ (s z : ℕ). render x ((k, z) ∷ ups P st) (w ++ q) ((3, k, s, z) ∷ shifts P (bads q) l)) (starts-later n (i .0 .0)) (span-later n m (i .0 .0) (i .0 .1)) ∙ shown w q ((k, span-end y n m) ∷ st) ((3, k, starts-at y n, span-end y n m) ∷ l) (i .1) p
-  shown (bad n h ∷ w) q st l i p =
-      ap (λ (j : ℕ). render x (ups P st) (w ++ q) ((Sort.ERROR, j, starts-at x n, ends-at x n) ∷ shifts P (bads q) l)) (bads-append w q)
-      ∙ ap₂ (λ (s z : ℕ). render x (ups P st) (w ++ q) ((Sort.ERROR, bads w + bads q, s, z) ∷ shifts P (bads q) l)) (starts-later n (i .0)) (ends-later n (i .0))
-      ∙ shown w q st ((Sort.ERROR, bads w, starts-at y n, ends-at y n) ∷ l) (i .1) p
+  shown (opened n ∷ w) q (t ∷ st) l i p = ap₂ (λ (s h : ℕ). render x (ups P st) (w ++ q) ((Sort.BEGIN, t .0, s, P + t .1, suc h) ∷ shifts P (bads q) l)) (starts-later n (i .0)) (ups-length P st) ∙ shown w q st ((Sort.BEGIN, t .0, starts-at y n, t .1, suc (length st)) ∷ l) (i .1) p
+  shown (leaf k n ∷ w) q st l i p =
+      ap (λ (h : ℕ). render x (ups P st) (w ++ q) ((Sort.TOKEN, k, starts-at x n, ends-at x n, suc h) ∷ shifts P (bads q) l)) (ups-length P st)
+      ∙ ap₂ (λ (s z : ℕ). render x (ups P st) (w ++ q) ((Sort.TOKEN, k, s, z, suc (length st)) ∷ shifts P (bads q) l)) (starts-later n (i .0)) (ends-later n (i .0))
+      ∙ shown w q st ((Sort.TOKEN, k, starts-at y n, ends-at y n, suc (length st)) ∷ l) (i .1) p
+  shown (closed k n m ∷ w) q st l i p =
+      ap (λ (h : ℕ). render x ((k, span-end x n m) ∷ ups P st) (w ++ q) ((Sort.END, k, starts-at x n, span-end x n m, suc h) ∷ shifts P (bads q) l)) (ups-length P st)
+      ∙ ap₂ (λ (s z : ℕ). render x ((k, z) ∷ ups P st) (w ++ q) ((Sort.END, k, s, z, suc (length st)) ∷ shifts P (bads q) l)) (starts-later n (i .0 .0)) (span-later n m (i .0 .0) (i .0 .1))
+      ∙ shown w q ((k, span-end y n m) ∷ st) ((Sort.END, k, starts-at y n, span-end y n m, suc (length st)) ∷ l) (i .1) p
+  shown (bad n c ∷ w) q st l i p =
+      ap₂ (λ (j h : ℕ). render x (ups P st) (w ++ q) ((Sort.ERROR, j, starts-at x n, ends-at x n, suc h) ∷ shifts P (bads q) l)) (bads-append w q) (ups-length P st)
+      ∙ ap₂ (λ (s z : ℕ). render x (ups P st) (w ++ q) ((Sort.ERROR, bads w + bads q, s, z, suc (length st)) ∷ shifts P (bads q) l)) (starts-later n (i .0)) (ends-later n (i .0))
+      ∙ shown w q st ((Sort.ERROR, bads w, starts-at y n, ends-at y n, suc (length st)) ∷ l) (i .1) p
 
   pub inside-later : (w q : List Event) → Ins N w → Nest 0 w 0 → inside x (w ++ q) ≡ inside x q ++ shifts P (bads q) (inside y w)
   inside-later w q i p = shown w q [] [] i p ∙ render-keeps x [] q [] (shifts P (bads q) (inside y w))

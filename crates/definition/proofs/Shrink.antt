@@ -237,24 +237,24 @@ module _ (d : ℕ) (call : Bool → Production → Reader)
           let z = ct o a s (g .0) in
           omega (arith, ap (λ (l : List ℕ). length (strip l)) (g .1))
 
-pub strict-productions : (a : Production) → T (strict (grammar a))
+pub strict-productions : (E : Bool) (a : Production) → T (strict (grammar E a))
 unfolding productions grammar
-strict-productions = each (λ a. strict (grammar a)) tt
+strict-productions E = each (λ a. strict (grammar E a)) tt
 
-pub taking-productions : (a : Production) → T (taking (grammar a))
+pub taking-productions : (E : Bool) (a : Production) → T (taking (grammar E a))
 unfolding productions grammar
-taking-productions = each (λ a. taking (grammar a)) tt
+taking-productions E = each (λ a. taking (grammar E a)) tt
 
-pub run-ok : (d : ℕ) (o : Bool) (a : Production) (s : State) → (run d o a s) .mode ≡ ok → (s .mode ≡ ok) × (size (run d o a s) < size s)
-run-ok zero o a s e = absurd (run-zero o a s (subst Running (sym e) tt))
-run-ok (suc d) o a s e =
+pub run-ok : (E : Bool) (d : ℕ) (o : Bool) (a : Production) (s : State) → (run E d o a s) .mode ≡ ok → (s .mode ≡ ok) × (size (run E d o a s) < size s)
+run-ok E zero o a s e = absurd (run-zero E o a s (subst Running (sym e) tt))
+run-ok E (suc d) o a s e =
     let t : State = begin (suc d) s in
-    let u : State = exec d (run d) (grammar a) o t in
+    let u : State = exec d (run E d) (grammar E a) o t in
     let f = finish-ok o (kind a) (length (t .rest)) u e in
-    let cs : (o : Bool) (b : Production) (s : State) → (run d o b s) .mode ≡ ok → s .mode ≡ ok = λ o b s e. run-ok d o b s e .0 in
-    let ct : (o : Bool) (b : Production) (s : State) → (run d o b s) .mode ≡ ok → size (run d o b s) < size s = λ o b s e. run-ok d o b s e .1 in
-    let h = shrinks d (run d) (grows d) cs ct (grammar a) (taking-productions a) o t (f .0) in
-    let m = strict-exec d (run d) (grows d) cs ct (grammar a) (strict-productions a) o t (f .0) in
+    let cs : (o : Bool) (b : Production) (s : State) → (run E d o b s) .mode ≡ ok → s .mode ≡ ok = λ o b s e. run-ok E d o b s e .0 in
+    let ct : (o : Bool) (b : Production) (s : State) → (run E d o b s) .mode ≡ ok → size (run E d o b s) < size s = λ o b s e. run-ok E d o b s e .1 in
+    let h = shrinks d (run E d) (grows E d) cs ct (grammar E a) (taking-productions E a) o t (f .0) in
+    let m = strict-exec d (run E d) (grows E d) cs ct (grammar E a) (strict-productions E a) o t (f .0) in
     (charge-ok (suc d) (s .fuel) (trivia s) m, omega (arith, ap (λ (l : List ℕ). length (strip l)) (f .1), size-begin d s))
   where
     size-begin : (d : ℕ) (s : State) → size (begin (suc d) s) ≡ size s

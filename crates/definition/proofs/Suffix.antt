@@ -125,11 +125,11 @@ items-between L (suc n) s b r = go (s .rest) (s .mode) s b (items-between L n) r
         let u : State = item-at L (sought item-keywords ((trivia t) .rest)) (trivia t) in
         H (item L t) (flush-between u (again-running u (items-stopped L n (item L t) r))) r
 
-start-between : (r : List ℕ) (f : ℕ) → Between (start r f)
+pub start-between : (r : List ℕ) (f : ℕ) → Between (start r f)
 start-between r f = record { fresh = start-fresh r f; before = []; drafted = refl }
 
 -- such a state is a start, with what was written before
-rebuilt : (s : State) (b : Between s) → s ≡ h 0 (s .out) (s .begun) (b .before) (start (s .rest) (s .fuel))
+pub rebuilt : (s : State) (b : Between s) → s ≡ h 0 (s .out) (s .begun) (b .before) (start (s .rest) (s .fuel))
 rebuilt s b =
     ap (λ (m : Mode). st m (s .fuel) (s .want) (s .unwant) (s .chosen) (s .cache) (s .drafts)) (b .fresh .is-ok)
     ∙ ap (λ (f : ℕ). st ok f (s .want) (s .unwant) (s .chosen) (s .cache) (s .drafts)) (sym (add-zero (s .fuel)))

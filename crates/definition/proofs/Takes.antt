@@ -82,16 +82,16 @@ alts-never f g s h = go ((f (trivia (turn ok s))) .mode) (f (trivia (turn ok s))
     go (stopped w) t h e = not-stop w e
 
 -- `private` or `global` in front: the modifiers do not fail
-mods-private : (d : ℕ) (call : Bool → Production → Reader) (is : List ℕ) (s : State) → (exec d call (grammar RULE-MODS) true (turn ok (put (kinds.PRIVATE-KW ∷ is) (s .out) s))) .mode ≡ failed → ⊥
+mods-private : (E : Bool) (d : ℕ) (call : Bool → Production → Reader) (is : List ℕ) (s : State) → (exec d call (grammar E RULE-MODS) true (turn ok (put (kinds.PRIVATE-KW ∷ is) (s .out) s))) .mode ≡ failed → ⊥
 unfolding grammar idOf
-mods-private d call is s =
+mods-private E d call is s =
     let w : State = put (kinds.PRIVATE-KW ∷ is) (s .out) s in
     let g : Reader = exec d call (last (one kinds.GLOBAL-KW ⨟ opt (one kinds.PRIVATE-KW))) true in
     alts-never (exec d call (one kinds.PRIVATE-KW ⨟ opt (one kinds.GLOBAL-KW)) true) g w (opts-never (exec d call (one kinds.GLOBAL-KW) true) (exec d call (one kinds.PRIVATE-KW) true (trivia (turn ok w))))
 
-mods-global : (d : ℕ) (call : Bool → Production → Reader) (is : List ℕ) (s : State) → (exec d call (grammar RULE-MODS) true (turn ok (put (kinds.GLOBAL-KW ∷ is) (s .out) s))) .mode ≡ failed → ⊥
+mods-global : (E : Bool) (d : ℕ) (call : Bool → Production → Reader) (is : List ℕ) (s : State) → (exec d call (grammar E RULE-MODS) true (turn ok (put (kinds.GLOBAL-KW ∷ is) (s .out) s))) .mode ≡ failed → ⊥
 unfolding grammar idOf
-mods-global d call is s =
+mods-global E d call is s =
     let w : State = turn ok (put (kinds.GLOBAL-KW ∷ is) (s .out) s) in
     let v : State = back w (exec d call (one kinds.PRIVATE-KW ⨟ opt (one kinds.GLOBAL-KW)) true (trivia w)) in
     alts-never (exec d call (one kinds.GLOBAL-KW ⨟ opt (one kinds.PRIVATE-KW)) true) fails v (opts-never (exec d call (one kinds.PRIVATE-KW) true) (exec d call (one kinds.GLOBAL-KW) true (trivia (turn ok v))))
@@ -131,66 +131,66 @@ gap-ok (stopped w) r e = not-stopped w e
 begin-rows : (d : ℕ) (s : State) (i : ℕ) (is : List ℕ) → skip (i ∷ is) ≡ i ∷ is → s .mode ≡ ok → s .rest ≡ i ∷ is → (begin d s) .rest ≡ i ∷ is
 begin-rows d s i is k e h = charge-rest d (s .fuel) (trivia s) ∙ gap-ok (s .mode) (s .rest) e ∙ ap skip h ∙ k
 
-pub exec-grows : (d : ℕ) (p : Prog) (o : Bool) (s : State) → Grown s (exec d (run d) p o s)
-exec-grows d p o s = exec-kept (ordered Grown grown) d (run d) (grows d) p o s
+pub exec-grows : (E : Bool) (d : ℕ) (p : Prog) (o : Bool) (s : State) → Grown s (exec d (run E d) p o s)
+exec-grows E d p o s = exec-kept (ordered Grown grown) d (run E d) (grows E d) p o s
 
 -- a production that starts at a row that is no trivia: its grammar is run there
-starting : (d : ℕ) (o : Bool) (a : Production) (s : State) (i : ℕ) (is : List ℕ) → skip (i ∷ is) ≡ i ∷ is → s .mode ≡ ok → s .rest ≡ i ∷ is → Running ((run (suc d) o a s) .mode) → let t : State = begin (suc d) s in (t .mode ≡ ok) × (t .rest ≡ i ∷ is)
-starting d o a s i is k e h r =
+starting : (E : Bool) (d : ℕ) (o : Bool) (a : Production) (s : State) (i : ℕ) (is : List ℕ) → skip (i ∷ is) ≡ i ∷ is → s .mode ≡ ok → s .rest ≡ i ∷ is → Running ((run E (suc d) o a s) .mode) → let t : State = begin (suc d) s in (t .mode ≡ ok) × (t .rest ≡ i ∷ is)
+starting E d o a s i is k e h r =
     let t : State = begin (suc d) s in
-    let f : Reader = exec d (run d) (grammar a) o in
+    let f : Reader = exec d (run E d) (grammar E a) o in
     let x = running-before (f t) (finish o (kind a) (length (t .rest)) (f t)) (finish-up Grown grown o (kind a) (length (t .rest)) (f t)) r in
-    (begin-ok (suc d) s e (running-before t (f t) (exec-grows d (grammar a) o t) x), begin-rows (suc d) s i is k e h)
+    (begin-ok (suc d) s e (running-before t (f t) (exec-grows E d (grammar E a) o t) x), begin-rows (suc d) s i is k e h)
 
 -- the modifiers do not fail at `private` or `global`
-abbrev Mods : ℕ → Type 0
-Mods i = (d : ℕ) (is : List ℕ) (s : State) → s .mode ≡ ok → s .rest ≡ i ∷ is → (run d true RULE-MODS s) .mode ≡ failed → ⊥
+abbrev Mods : (E : Bool) → ℕ → Type 0
+Mods E i = (d : ℕ) (is : List ℕ) (s : State) → s .mode ≡ ok → s .rest ≡ i ∷ is → (run E d true RULE-MODS s) .mode ≡ failed → ⊥
 
-mods-at : (i : ℕ) → ((is : List ℕ) → skip (i ∷ is) ≡ i ∷ is) → ((d : ℕ) (call : Bool → Production → Reader) (is : List ℕ) (s : State) → (exec d call (grammar RULE-MODS) true (turn ok (put (i ∷ is) (s .out) s))) .mode ≡ failed → ⊥) → Mods i
-mods-at i k m zero is s e h b = run-zero true RULE-MODS s (subst Running (sym b) tt)
-mods-at i k m (suc d) is s e h b =
+mods-at : (E : Bool) (i : ℕ) → ((is : List ℕ) → skip (i ∷ is) ≡ i ∷ is) → ((d : ℕ) (call : Bool → Production → Reader) (is : List ℕ) (s : State) → (exec d call (grammar E RULE-MODS) true (turn ok (put (i ∷ is) (s .out) s))) .mode ≡ failed → ⊥) → Mods E i
+mods-at E i k m zero is s e h b = run-zero E true RULE-MODS s (subst Running (sym b) tt)
+mods-at E i k m (suc d) is s e h b =
     let t : State = begin (suc d) s in
-    let f : Reader = exec d (run d) (grammar RULE-MODS) true in
-    let x = starting d true RULE-MODS s i is (k is) e h (subst Running (sym b) tt) in
-    m d (run d) is t (ap (λ (y : State). (f y) .mode) (sym (as-is t ok (i ∷ is) (x .0) (x .1))) ∙ finish-failed true (kind RULE-MODS) (length (t .rest)) (f t) b)
+    let f : Reader = exec d (run E d) (grammar E RULE-MODS) true in
+    let x = starting E d true RULE-MODS s i is (k is) e h (subst Running (sym b) tt) in
+    m d (run E d) is t (ap (λ (y : State). (f y) .mode) (sym (as-is t ok (i ∷ is) (x .0) (x .1))) ∙ finish-failed true (kind RULE-MODS) (length (t .rest)) (f t) b)
 
-past-private : Mods kinds.PRIVATE-KW
-past-private = mods-at kinds.PRIVATE-KW (λ is. refl) mods-private
+past-private : (E : Bool) → Mods E kinds.PRIVATE-KW
+past-private E = mods-at E kinds.PRIVATE-KW (λ is. refl) (mods-private E)
 
-past-global : Mods kinds.GLOBAL-KW
-past-global = mods-at kinds.GLOBAL-KW (λ is. refl) mods-global
+past-global : (E : Bool) → Mods E kinds.GLOBAL-KW
+past-global E = mods-at E kinds.GLOBAL-KW (λ is. refl) (mods-global E)
 
-run-takes : (d : ℕ) (s : State) (i : ℕ) (is : List ℕ) → skip (i ∷ is) ≡ i ∷ is → (Mods i ⊎ (next (kinds.RULE-KW ∷ []) (i ∷ is) ≡ other → ⊥)) → s .mode ≡ ok → s .rest ≡ i ∷ is → Running ((run d false RULE-DECL s) .mode) → size (run d false RULE-DECL s) < size s
+run-takes : (E : Bool) (d : ℕ) (s : State) (i : ℕ) (is : List ℕ) → skip (i ∷ is) ≡ i ∷ is → (Mods E i ⊎ (next (kinds.RULE-KW ∷ []) (i ∷ is) ≡ other → ⊥)) → s .mode ≡ ok → s .rest ≡ i ∷ is → Running ((run E d false RULE-DECL s) .mode) → size (run E d false RULE-DECL s) < size s
 unfolding grammar idOf for-rest
-run-takes zero s i is k m e h r = absurd (run-zero false RULE-DECL s r)
-run-takes (suc d) s i is k m e h r = by-two (eats-end d (run d) (grows d) (λ o b x z. run-ok d o b x z .1) u (ou .0)) (ou .1)
+run-takes E zero s i is k m e h r = absurd (run-zero E false RULE-DECL s r)
+run-takes E (suc d) s i is k m e h r = by-two (eats-end d (run E d) (grows E d) (λ o b x z. run-ok E d o b x z .1) u (ou .0)) (ou .1)
   where
     t : State
     t = begin (suc d) s
 
     u : State
-    u = opts (run d true RULE-MODS) (begin (suc d) s)
+    u = opts (run E d true RULE-MODS) (begin (suc d) s)
 
     v : State
-    v = first-two d (run d) (grows d) (λ o b x z. run-ok d o b x z .1) (begin (suc d) s)
+    v = first-two d (run E d) (grows E d) (λ o b x z. run-ok E d o b x z .1) (begin (suc d) s)
 
     w : State
-    w = run (suc d) false RULE-DECL s
+    w = run E (suc d) false RULE-DECL s
 
     x : ((begin (suc d) s) .mode ≡ ok) × ((begin (suc d) s) .rest ≡ i ∷ is)
-    x = starting d false RULE-DECL s i is k e h r
+    x = starting E d false RULE-DECL s i is k e h r
 
     vg : Grown v w
-    vg = let f : State = exec d (run d) (grammar RULE-DECL) false t in grown .trans v f w (exec-grows d (for-rest (for-rest (grammar RULE-DECL))) false v) (finish-up Grown grown false (kind RULE-DECL) (length (t .rest)) f)
+    vg = let f : State = exec d (run E d) (grammar E RULE-DECL) false t in grown .trans v f w (exec-grows E d (for-rest (for-rest (grammar E RULE-DECL))) false v) (finish-up Grown grown false (kind RULE-DECL) (length (t .rest)) f)
 
     ug : Grown u v
-    ug = exec-grows d (one kinds.RULE-KW) false u
+    ug = exec-grows E d (one kinds.RULE-KW) false u
 
     tu : Grown t u
-    tu = exec-grows d (opt (node RULE-MODS)) false t
+    tu = exec-grows E d (opt (node RULE-MODS)) false t
 
-    ou : (u .mode ≡ ok) × ((size u < size t) ⊎ ((u .rest ≡ t .rest) × ((run d true RULE-MODS (trivia (turn ok t))) .mode ≡ failed)))
-    ou = subst (λ (y : State). Running ((opts (run d true RULE-MODS) y) .mode) → ((opts (run d true RULE-MODS) y) .mode ≡ ok) × ((size (opts (run d true RULE-MODS) y) < size t) ⊎ (((opts (run d true RULE-MODS) y) .rest ≡ t .rest) × ((run d true RULE-MODS (trivia (turn ok t))) .mode ≡ failed)))) (sym (as-is t ok (t .rest) (x .0) refl)) (opts-end d (run d) (grows d) (λ o b x z. run-ok d o b x z .1) t) (running-before u w (grown .trans u v w ug vg) r)
+    ou : (u .mode ≡ ok) × ((size u < size t) ⊎ ((u .rest ≡ t .rest) × ((run E d true RULE-MODS (trivia (turn ok t))) .mode ≡ failed)))
+    ou = subst (λ (y : State). Running ((opts (run E d true RULE-MODS) y) .mode) → ((opts (run E d true RULE-MODS) y) .mode ≡ ok) × ((size (opts (run E d true RULE-MODS) y) < size t) ⊎ (((opts (run E d true RULE-MODS) y) .rest ≡ t .rest) × ((run E d true RULE-MODS (trivia (turn ok t))) .mode ≡ failed)))) (sym (as-is t ok (t .rest) (x .0) refl)) (opts-end d (run E d) (grows E d) (λ o b x z. run-ok E d o b x z .1) t) (running-before u w (grown .trans u v w ug vg) r)
 
     ws : size w ≤ size v
     ws = strip-end (w .rest) (v .rest) (vg .rows)
@@ -201,19 +201,19 @@ run-takes (suc d) s i is k m e h r = by-two (eats-end d (run d) (grows d) (λ o 
     us : size u ≤ size t
     us = strip-end (u .rest) (t .rest) (tu .rows)
 
-    by-other : next (kinds.RULE-KW ∷ []) (u .rest) ≡ other → v .rest ≡ u .rest → (size u < size t) ⊎ ((u .rest ≡ t .rest) × ((run d true RULE-MODS (trivia (turn ok t))) .mode ≡ failed)) → size w < size s
+    by-other : next (kinds.RULE-KW ∷ []) (u .rest) ≡ other → v .rest ≡ u .rest → (size u < size t) ⊎ ((u .rest ≡ t .rest) × ((run E d true RULE-MODS (trivia (turn ok t))) .mode ≡ failed)) → size w < size s
     by-other n q (inl z) = omega (arith, ws, ts, us, ap (λ (l : List ℕ). length (strip l)) q)
     by-other n q (inr z) = absurd (go m)
       where
-        go : Mods i ⊎ (next (kinds.RULE-KW ∷ []) (i ∷ is) ≡ other → ⊥) → ⊥
+        go : Mods E i ⊎ (next (kinds.RULE-KW ∷ []) (i ∷ is) ≡ other → ⊥) → ⊥
         go (inl a) = a d is (trivia (turn ok t)) refl (ap skip (x .1) ∙ k) (z .1)
         go (inr a) = a (ap (next (kinds.RULE-KW ∷ [])) (sym (z .0 ∙ x .1)) ∙ n)
 
-    by-end : next (kinds.RULE-KW ∷ []) (u .rest) ≡ end → v .rest ≡ u .rest → (size u < size t) ⊎ ((u .rest ≡ t .rest) × ((run d true RULE-MODS (trivia (turn ok t))) .mode ≡ failed)) → size w < size s
+    by-end : next (kinds.RULE-KW ∷ []) (u .rest) ≡ end → v .rest ≡ u .rest → (size u < size t) ⊎ ((u .rest ≡ t .rest) × ((run E d true RULE-MODS (trivia (turn ok t))) .mode ≡ failed)) → size w < size s
     by-end n q (inl z) = omega (arith, ws, ts, us, ap (λ (l : List ℕ). length (strip l)) q)
     by-end n q (inr z) = nil-cons (sym (ap skip (z .0 ∙ x .1) ∙ k) ∙ sought-end (kinds.RULE-KW ∷ []) (skip (u .rest)) n)
 
-    by-two : (size v < size u) ⊎ ((v .rest ≡ u .rest) × (next (kinds.RULE-KW ∷ []) (u .rest) ≡ other)) ⊎ ((v .rest ≡ u .rest) × (next (kinds.RULE-KW ∷ []) (u .rest) ≡ end)) → (size u < size t) ⊎ ((u .rest ≡ t .rest) × ((run d true RULE-MODS (trivia (turn ok t))) .mode ≡ failed)) → size w < size s
+    by-two : (size v < size u) ⊎ ((v .rest ≡ u .rest) × (next (kinds.RULE-KW ∷ []) (u .rest) ≡ other)) ⊎ ((v .rest ≡ u .rest) × (next (kinds.RULE-KW ∷ []) (u .rest) ≡ end)) → (size u < size t) ⊎ ((u .rest ≡ t .rest) × ((run E d true RULE-MODS (trivia (turn ok t))) .mode ≡ failed)) → size w < size s
     by-two (inl z) p = omega (arith, ws, ts, us)
     by-two (inr (inl z)) p = by-other (z .1) (z .0) p
     by-two (inr (inr z)) p = by-end (z .1) (z .0) p
@@ -227,28 +227,28 @@ skip-skip (i ∷ is) = go (trivial i) refl (skip-skip is)
     go false e h = ap (λ (c : Bool). elim c as (λ _. List ℕ) [ true ↦ skip is | false ↦ i ∷ is ]) e
 
 -- a rule keyword is next: reading the rule takes a row
-rule-takes : (L : Limits) (s : State) (i : ℕ) (is : List ℕ) → skip (i ∷ is) ≡ i ∷ is → (Mods i ⊎ (next (kinds.RULE-KW ∷ []) (i ∷ is) ≡ other → ⊥)) → s .mode ≡ ok → s .rest ≡ i ∷ is → let v : State = read-item L rule-decl s in Running (v .mode) → size v < size s
+rule-takes : (L : Limits) (s : State) (i : ℕ) (is : List ℕ) → skip (i ∷ is) ≡ i ∷ is → (Mods (L .entrypoint) i ⊎ (next (kinds.RULE-KW ∷ []) (i ∷ is) ≡ other → ⊥)) → s .mode ≡ ok → s .rest ≡ i ∷ is → let v : State = read-item L rule-decl s in Running (v .mode) → size v < size s
 unfolding read-item for-rest
 rule-takes L s i is k m e h r =
-    let u : State = run (L .depth) false RULE-DECL s in
-    let g : Grown u (read-item L rule-decl s) = exec-grows (L .depth) (for-rest rule-decl) false u in
-    omega (arith, run-takes (L .depth) s i is k m e h (running-before u (read-item L rule-decl s) g r), strip-end ((read-item L rule-decl s) .rest) (u .rest) (g .rows))
+    let u : State = run (L .entrypoint) (L .depth) false RULE-DECL s in
+    let g : Grown u (read-item L rule-decl s) = exec-grows (L .entrypoint) (L .depth) (for-rest rule-decl) false u in
+    omega (arith, run-takes (L .entrypoint) (L .depth) s i is k m e h (running-before u (read-item L rule-decl s) g r), strip-end ((read-item L rule-decl s) .rest) (u .rest) (g .rows))
 
 -- an import or include keyword is next: reading the statement takes a row
-statement-takes : (D : ℕ) (a : Production) (k : ℕ) → Statement a k → ((is : List ℕ) → skip (k ∷ is) ≡ k ∷ is) → ((is : List ℕ) → next (k ∷ []) (k ∷ is) ≡ hit k is) → (s : State) (is : List ℕ) → s .mode ≡ ok → s .rest ≡ k ∷ is → let v : State = run D false a s in Running (v .mode) → size v < size s
-statement-takes zero a k st firm first s is e h r = absurd (run-zero false a s r)
-statement-takes (suc d) a k st firm first s is e h r =
+statement-takes : (E : Bool) (D : ℕ) (a : Production) (k : ℕ) → Statement a k → ((is : List ℕ) → skip (k ∷ is) ≡ k ∷ is) → ((is : List ℕ) → next (k ∷ []) (k ∷ is) ≡ hit k is) → (s : State) (is : List ℕ) → s .mode ≡ ok → s .rest ≡ k ∷ is → let v : State = run E D false a s in Running (v .mode) → size v < size s
+statement-takes E zero a k st firm first s is e h r = absurd (run-zero E false a s r)
+statement-takes E (suc d) a k st firm first s is e h r =
     let t : State = begin (suc d) s in
-    let x = starting d false a s k is (firm is) e h r in
-    let u : State = exec d (run d) (grammar a) false t in
-    let v : State = run (suc d) false a s in
+    let x = starting E d false a s k is (firm is) e h r in
+    let u : State = exec d (run E d) (grammar E a) false t in
+    let v : State = run E (suc d) false a s in
     let g = finish-up Grown grown false (kind a) (length (t .rest)) u in
-    omega (arith, strip-end (v .rest) (u .rest) (g .rows), subst (λ (p : Prog). size (exec d (run d) p false t) < size t) (sym (statement-is a k st)) (two t (x .0) (x .1)), ap length (ap strip (x .1 ∙ sym h)))
+    omega (arith, strip-end (v .rest) (u .rest) (g .rows), subst (λ (p : Prog). size (exec d (run E d) p false t) < size t) (sym (statement-is E a k st)) (two t (x .0) (x .1)), ap length (ap strip (x .1 ∙ sym h)))
   where
-    two : (t : State) → t .mode ≡ ok → t .rest ≡ k ∷ is → size (exec d (run d) (one k ⨟ one kinds.STRING-LIT) false t) < size t
+    two : (t : State) → t .mode ≡ ok → t .rest ≡ k ∷ is → size (exec d (run E d) (one k ⨟ one kinds.STRING-LIT) false t) < size t
     two t e h =
-        let u : State = exec d (run d) (one k) false t in
-        omega (arith, strip-end ((exec d (run d) (one kinds.STRING-LIT) false u) .rest) (u .rest) ((exec-grows d (one kinds.STRING-LIT) false u) .rows), subst (λ (y : State). size (eats (k ∷ []) (idOf k ∷ []) y) < size y) (sym (as-is t ok (k ∷ is) e h)) (eat-row-small (k ∷ []) (idOf k ∷ []) (turn ok (put (k ∷ is) (t .out) t)) (next (k ∷ []) (k ∷ is)) refl (ap (λ (x : Next). (eat-row (idOf k ∷ []) x (turn ok (put (k ∷ is) (t .out) t))) .mode) (first is))))
+        let u : State = exec d (run E d) (one k) false t in
+        omega (arith, strip-end ((exec d (run E d) (one kinds.STRING-LIT) false u) .rest) (u .rest) ((exec-grows E d (one kinds.STRING-LIT) false u) .rows), subst (λ (y : State). size (eats (k ∷ []) (idOf k ∷ []) y) < size y) (sym (as-is t ok (k ∷ is) e h)) (eat-row-small (k ∷ []) (idOf k ∷ []) (turn ok (put (k ∷ is) (t .out) t)) (next (k ∷ []) (k ∷ is)) refl (ap (λ (x : Next). (eat-row (idOf k ∷ []) x (turn ok (put (k ∷ is) (t .out) t))) .mode) (first is))))
 
 -- a row at which an item begins is taken: over the set
 abbrev Taken : ℕ → ℕ → Type 0
@@ -257,14 +257,14 @@ Taken a i = (L : Limits) (s : State) (is : List ℕ) → s .mode ≡ ok → s .r
 five : Each Taken item-keywords
 unfolding read-item idOf
 five = (
-  λ L s is. rule-takes L s kinds.GLOBAL-KW is refl (inl past-global),
+  λ L s is. rule-takes L s kinds.GLOBAL-KW is refl (inl (past-global (L .entrypoint))),
   (
-    λ L s is. rule-takes L s kinds.PRIVATE-KW is refl (inl past-private),
+    λ L s is. rule-takes L s kinds.PRIVATE-KW is refl (inl (past-private (L .entrypoint))),
     (
       λ L s is. rule-takes L s kinds.RULE-KW is refl (inr at-rule),
       (
-        λ L s is. statement-takes (L .depth) IMPORT-STMT kinds.IMPORT-KW import (λ l. refl) (λ l. refl) s is,
-        (λ L s is. statement-takes (L .depth) INCLUDE-STMT kinds.INCLUDE-KW include (λ l. refl) (λ l. refl) s is, tt),
+        λ L s is. statement-takes (L .entrypoint) (L .depth) IMPORT-STMT kinds.IMPORT-KW import (λ l. refl) (λ l. refl) s is,
+        (λ L s is. statement-takes (L .entrypoint) (L .depth) INCLUDE-STMT kinds.INCLUDE-KW include (λ l. refl) (λ l. refl) s is, tt),
       ),
     ),
   ),
@@ -280,7 +280,7 @@ reads-takes L s a is e h =
 
 pub reads-rows : (L : Limits) (p : Prog) (s : State) → End ((read-item L p s) .rest) (s .rest)
 unfolding read-item
-reads-rows L p s = (exec-grows (L .depth) p false s) .rows
+reads-rows L p s = (exec-grows (L .entrypoint) (L .depth) p false s) .rows
 
 -- a row that begins no item begins no rule
 pub no-rule : (r : List ℕ) → sought item-keywords r ≡ other → sought rule-keywords r ≡ other

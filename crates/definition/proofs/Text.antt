@@ -8,7 +8,7 @@ use lib.ListN.{length, length-append}
 use native.Mathlib.Omega.{arith}
 use borrow.Author.Tests.{ne-eqb}
 use Rattle.kinds.specs.Kinds as kinds
-use Rattle.shapes.specs.Shapes.{Rec, flat-records, behind}
+use Rattle.shapes.specs.Shapes.{Rec, Owned, flat-records, behind}
 use Rattle.utf8.specs.Utf8.{utf8, bad-byte}
 use Rattle.utf8.proofs.Place.{bad-within}
 use Rattle.definition.specs.Run.{Limits, Choice, wanted, unwanted, stray}
@@ -52,8 +52,8 @@ form-9-where L i t (wanted ns) n h = rw (form-of, h)
 form-9-where L i t unwanted n h = rw (form-of, h)
 form-9-where L i t stray n h = absurd (n refl)
 
--- REQUEST (vi): "Form 9 records carry that place in the source as one added number after their count of 0"
-module _ (L : Limits) (x : Source) (n : ℕ) (c : Choice) where
+-- REQUEST (vi): "Form 9 records carry that place in the source as one added number after their count of 0"; (x): behind the form stands the number of the item
+module _ (L : Limits) (x : Source) (n : ℕ) (c : Choice) (item : ℕ) where
   abbrev f : ℕ
   f = form-of L (id-at x n) (text-at x n) c
 
@@ -62,19 +62,19 @@ module _ (L : Limits) (x : Source) (n : ℕ) (c : Choice) where
   none-named unwanted = refl
   none-named stray = refl
 
-  pub form-9-record : f ≡ 9 → (l : List Rec) → flat-records (record-of L x n c ∷ l) ≡ starts-at x n ∷ ends-at x n ∷ 9 ∷ 0 ∷ (starts-at x n + bad-byte (text-at x n)) ∷ flat-records l
+  pub form-9-record : f ≡ 9 → (l : List Owned) → flat-records ((record-of L x n c, item) ∷ l) ≡ starts-at x n ∷ ends-at x n ∷ 9 ∷ item ∷ 0 ∷ (starts-at x n + bad-byte (text-at x n)) ∷ flat-records l
   form-9-record e l =
-      ap (λ (i : ℕ). let ns = names-of i c in starts-at x n ∷ ends-at x n ∷ i ∷ length ns ∷ ns ++ (place-of i (starts-at x n) (text-at x n) ++ flat-records l)) e
-      ∙ ap (λ (ns : List ℕ). starts-at x n ∷ ends-at x n ∷ 9 ∷ length ns ∷ ns ++ ((starts-at x n + bad-byte (text-at x n)) ∷ flat-records l)) (none-named c)
+      ap (λ (i : ℕ). let ns = names-of i c in starts-at x n ∷ ends-at x n ∷ i ∷ item ∷ length ns ∷ ns ++ (place-of i (starts-at x n) (text-at x n) ++ flat-records l)) e
+      ∙ ap (λ (ns : List ℕ). starts-at x n ∷ ends-at x n ∷ 9 ∷ item ∷ length ns ∷ ns ++ ((starts-at x n + bad-byte (text-at x n)) ∷ flat-records l)) (none-named c)
 
   -- the place is that of a byte of the text
   pub form-9-place : f ≡ 9 → bad-byte (text-at x n) < length (text-at x n)
   form-9-place e = bad-within (text-at x n) (form-9-only L (id-at x n) (text-at x n) c e)
 
   -- "Forms other than 9 stay as they were."
-  pub other-records : (f ≡ 9 → ⊥) → (l : List Rec) → flat-records (record-of L x n c ∷ l) ≡ starts-at x n ∷ ends-at x n ∷ f ∷ length (names-of f c) ∷ names-of f c ++ flat-records l
+  pub other-records : (f ≡ 9 → ⊥) → (l : List Owned) → flat-records ((record-of L x n c, item) ∷ l) ≡ starts-at x n ∷ ends-at x n ∷ f ∷ item ∷ length (names-of f c) ∷ names-of f c ++ flat-records l
   other-records h l =
-      ap (λ (b : Bool). starts-at x n ∷ ends-at x n ∷ f ∷ length (names-of f c) ∷ names-of f c ++ (elim b as (λ _. List ℕ) [ true ↦ (starts-at x n + bad-byte (text-at x n)) ∷ [] | false ↦ [] ] ++ flat-records l)) (ne-eqb f 9 h)
+      ap (λ (b : Bool). starts-at x n ∷ ends-at x n ∷ f ∷ item ∷ length (names-of f c) ∷ names-of f c ++ (elim b as (λ _. List ℕ) [ true ↦ (starts-at x n + bad-byte (text-at x n)) ∷ [] | false ↦ [] ] ++ flat-records l)) (ne-eqb f 9 h)
 
 -- where a record's next one begins, by its form and its count
 sized : (b : Bool) (ns : List ℕ) (p : ℕ) → _≡_ {A = ℕ} (elim b as (λ _. ℕ) [ true ↦ suc (length ns) | false ↦ length ns ]) (length (ns ++ elim b as (λ _. List ℕ) [ true ↦ p ∷ [] | false ↦ [] ]))

@@ -235,7 +235,7 @@ module _ (N : ℕ) where
 
   pub reads-tidy : (L : Limits) (p : Prog) (s : State) → Tidy s (read-item L p s)
   unfolding read-item
-  reads-tidy L p s = exec-kept (stepped Tidy tidying) (L .depth) (run (L .depth)) (run-kept (stepped Tidy tidying) (L .depth)) p false s
+  reads-tidy L p s = exec-kept (stepped Tidy tidying) (L .depth) (run (L .entrypoint) (L .depth)) (run-kept (stepped Tidy tidying) (L .entrypoint) (L .depth)) p false s
 
   pub stray-tidy : (s : State) → Tidy s (stray-item s)
   stray-tidy s = moved s (stray-item s) refl refl refl (end-length (seek rule-keywords (s .rest)) (s .rest) (seek-end rule-keywords (s .rest))) (λ i. wrote-trans (s .out) (bad n stray ∷ s .out) ((stray-item s) .out) (a-bad n stray (s .out) (i .rows)) (a-node kinds.ERROR n (length (seek rule-keywords (s .rest))) (bad n stray ∷ s .out) (seek-out rule-keywords (s .rest) (opened n ∷ bad n stray ∷ s .out)) (i .rows) (end-length (seek rule-keywords (s .rest)) (s .rest) (seek-end rule-keywords (s .rest))) (seek-wrote rule-keywords (s .rest) (opened n ∷ bad n stray ∷ s .out) (i .rows))))

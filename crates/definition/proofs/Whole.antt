@@ -42,7 +42,7 @@ module _ (L : Limits) (k : ℕ) (q : List Event) (b : List ℕ) (dr : List Draft
 
   pub reads-h : (p : Prog) → Framed k q b dr (read-item L p)
   unfolding read-item
-  reads-h p = exec-kept (frames k q b dr) (L .depth) (run (L .depth)) (run-kept (frames k q b dr) (L .depth)) p false
+  reads-h p = exec-kept (frames k q b dr) (L .depth) (run (L .entrypoint) (L .depth)) (run-kept (frames k q b dr) (L .entrypoint) (L .depth)) p false
 
   pub item-at-h : (x : Next) → Framed k q b dr (item-at L x)
   item-at-h end s l = (l, refl)

@@ -6,10 +6,10 @@ use lib.Dec.{eqb, ltb}
 use lib.ListN.{length, replicate}
 use Rattle.kinds.specs.Sets.{isId}
 use Rattle.shapes.specs.Refusal as Refusal
-use Rattle.shapes.specs.Shapes.{flat, flat-records}
+use Rattle.shapes.specs.Shapes.{flat, owned, flat-records}
 pub use Rattle.definition.specs.Run.{any}
 use Rattle.definition.specs.Run.{Limits, State, read}
-use Rattle.definition.specs.Render.{Source, Reading, rendered, moments, over}
+use Rattle.definition.specs.Render.{Source, Reading, item-numbers, rendered, moments, over}
 
 -- "Input: source bytes; three equally long lists of 32-bit numbers (token id, start, end); fuel, any 32-bit number; scratch; room for events;
 -- room for errors." The last three as they are lent; "Rooms are counted in 32-bit numbers", scratch in "words of 64 bits".
@@ -72,7 +72,7 @@ abbrev pub exceeded : Limits → Desk → State → ℕ
 exceeded L d s = over (length (d .events)) (length (d .errors)) (moments L (source-of d) s)
 
 abbrev pub answer-of : Limits → Desk → State → Answer
-answer-of L d s = elim (exceeded L d s) [ zero ↦ given (rendered L (source-of d) s) | suc n ↦ refused (suc n) ]
+answer-of L d s = elim (exceeded L d s) [ zero ↦ given (rendered L (source-of d) (item-numbers L (d .ids) (d .fuel)) s) | suc n ↦ refused (suc n) ]
 
 -- "In this order; the first that applies is given."
 abbrev pub answer : Limits → Desk → Answer
@@ -123,7 +123,7 @@ left-by d (given r) =
       error-count = length (r .errors);
       left = r .left;
       events = filled (flat (r .events)) (d .events);
-      errors = filled (flat-records (r .errors)) (d .errors);
+      errors = filled (flat-records (owned (r .errors) (r .items))) (d .errors);
       scratch = blank (d .scratch);
     }
 

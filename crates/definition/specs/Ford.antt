@@ -4,7 +4,7 @@
 use Prim.Native.Nat.{ℕ, suc, _+_}
 use mathlib.Core.Path.{_≡_}
 use mathlib.Core.List.{List, [], _∷_}
-use mathlib.Core.Bool.{true, false}
+use mathlib.Core.Bool.{Bool, true, false}
 use Rattle.kinds.specs.Sets.{idOf, trivial}
 use Rattle.definition.specs.Prog.{Production, RULE-DECL, IMPORT-STMT, INCLUDE-STMT, Prog, eat, unless, ifnext, opt, many, then, _⨟_, _/_, last, recover, node, memo}
 use Rattle.definition.specs.Grammar.{grammar}
@@ -59,8 +59,9 @@ ford (recover S) = ε
 ford (node a) = nt a
 ford (memo a) = nt a
 
-abbrev pub rules : Production → Exp
-rules a = ford (grammar a)
+-- the grammar of the editions in which entrypoint is allowed, or of those in which it is not
+abbrev pub rules : Bool → Production → Exp
+rules E a = ford (grammar E a)
 
 -- the rows that are no trivia
 abbrev pub strip : List ℕ → List ℕ
@@ -75,9 +76,9 @@ abbrev pub any-item : Exp
 any-item = nt RULE-DECL ∣ any-statement
 
 -- "The PEG accepts every item when the rows, trivia aside, are a run of none or more" items "from first to last."
-pub data Items : List ℕ → Type 0 where
-  no-more : Items []
-  one-item : {r r′ : List ℕ} {n : ℕ} → Ford rules any-item r n (Res.yes r′) → Items r′ → Items r
+pub data Items (E : Bool) : List ℕ → Type 0 where
+  no-more : Items E []
+  one-item : {r r′ : List ℕ} {n : ℕ} → Ford (rules E) any-item r n (Res.yes r′) → Items E r′ → Items E r
 
-abbrev pub Accepts : List ℕ → Type 0
-Accepts ids = Items (strip ids)
+abbrev pub Accepts : Bool → List ℕ → Type 0
+Accepts E ids = Items E (strip ids)

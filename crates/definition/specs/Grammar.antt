@@ -1,7 +1,7 @@
 -- The module's productions, from rule_decl down to pattern_ident_tuple, in its order, then its two statements ("for events, errors and fuel the module decides").
 use Prim.Native.Nat.{ℕ}
 use mathlib.Core.List.{List, [], _∷_, map}
-use mathlib.Core.Bool.{true, false}
+use mathlib.Core.Bool.{Bool, true, false}
 use lib.Dec.{eqb}
 use Rattle.kinds.specs.Kinds as k
 use Rattle.kinds.specs.Sets.{idOf}
@@ -48,39 +48,44 @@ item-of a =
       | false ↦ elim (eqb a k.INCLUDE-KW) [ true ↦ node INCLUDE-STMT | false ↦ rule-decl ]
     ]
 
--- shut, so that no tactic computes with it unasked
-unfoldable pub grammar : Production → Prog
-grammar RULE-DECL =
+-- the rows that are a term by themselves: "From a settings edition that turns it off .. ENTRYPOINT_KW no longer begins a term."
+abbrev pub plain-terms : Bool → List ℕ
+plain-terms true = k.FLOAT-LIT ∷ k.INTEGER-LIT ∷ k.STRING-LIT ∷ k.REGEXP ∷ k.FILESIZE-KW ∷ k.ENTRYPOINT-KW ∷ []
+plain-terms false = k.FLOAT-LIT ∷ k.INTEGER-LIT ∷ k.STRING-LIT ∷ k.REGEXP ∷ k.FILESIZE-KW ∷ []
+
+-- the productions, where E says whether entrypoint is allowed; shut, so that no tactic computes with it unasked
+unfoldable pub grammar : Bool → Production → Prog
+grammar E RULE-DECL =
     opt (node RULE-MODS) ⨟ one k.RULE-KW ⨟ one k.IDENT
     ⨟ ifnext (k.COLON ∷ []) (node RULE-TAGS ⨟ recover (k.L-BRACE ∷ [])) ⨟ one k.L-BRACE
     ⨟ ifnext (k.META-KW ∷ []) (node META-BLK ⨟ recover (k.STRINGS-KW ∷ k.CONDITION-KW ∷ []))
     ⨟ ifnext (k.STRINGS-KW ∷ []) (node PATTERNS-BLK ⨟ recover (k.CONDITION-KW ∷ []))
     ⨟ then (node CONDITION-BLK ⨟ recover (k.R-BRACE ∷ [])) ⨟ one k.R-BRACE
-grammar RULE-MODS = (one k.PRIVATE-KW ⨟ opt (one k.GLOBAL-KW)) / last (one k.GLOBAL-KW ⨟ opt (one k.PRIVATE-KW))
-grammar RULE-TAGS = one k.COLON ⨟ some (one k.IDENT)
-grammar META-BLK = one k.META-KW ⨟ one k.COLON ⨟ some (node META-DEF)
-grammar META-DEF =
+grammar E RULE-MODS = (one k.PRIVATE-KW ⨟ opt (one k.GLOBAL-KW)) / last (one k.GLOBAL-KW ⨟ opt (one k.PRIVATE-KW))
+grammar E RULE-TAGS = one k.COLON ⨟ some (one k.IDENT)
+grammar E META-BLK = one k.META-KW ⨟ one k.COLON ⨟ some (node META-DEF)
+grammar E META-DEF =
     one k.IDENT ⨟ one k.EQUAL
     ⨟ ((opt (one k.MINUS) ⨟ set (k.INTEGER-LIT ∷ k.FLOAT-LIT ∷ [])) / last (set (k.STRING-LIT ∷ k.TRUE-KW ∷ k.FALSE-KW ∷ [])))
-grammar PATTERNS-BLK = one k.STRINGS-KW ⨟ one k.COLON ⨟ some (node PATTERN-DEF)
-grammar PATTERN-DEF =
+grammar E PATTERNS-BLK = one k.STRINGS-KW ⨟ one k.COLON ⨟ some (node PATTERN-DEF)
+grammar E PATTERN-DEF =
     one k.PATTERN-IDENT ⨟ one k.EQUAL ⨟ (one k.STRING-LIT / one k.REGEXP / last (node HEX-PATTERN)) ⨟ opt (node PATTERN-MODS)
-grammar PATTERN-MODS = some (node PATTERN-MOD)
-grammar PATTERN-MOD =
+grammar E PATTERN-MODS = some (node PATTERN-MOD)
+grammar E PATTERN-MOD =
     named k.MODIFIER (k.ASCII-KW ∷ k.WIDE-KW ∷ k.NOCASE-KW ∷ k.PRIVATE-KW ∷ k.FULLWORD-KW ∷ [])
     / (named k.MODIFIER (k.BASE64-KW ∷ k.BASE64WIDE-KW ∷ []) ⨟ cond k.L-PAREN (one k.STRING-LIT ⨟ one k.R-PAREN))
     / last (named k.MODIFIER (k.XOR-KW ∷ [])
     ⨟ cond k.L-PAREN (one k.INTEGER-LIT ⨟ cond k.HYPHEN (one k.INTEGER-LIT) ⨟ one k.R-PAREN))
-grammar HEX-PATTERN = one k.L-BRACE ⨟ then (node HEX-SUB-PATTERN) ⨟ one k.R-BRACE
-grammar HEX-SUB-PATTERN = hex-unit ⨟ many (many (node HEX-JUMP) ⨟ hex-unit)
-grammar HEX-ALTERNATIVE = tuple k.PIPE (node HEX-SUB-PATTERN)
-grammar HEX-JUMP =
+grammar E HEX-PATTERN = one k.L-BRACE ⨟ then (node HEX-SUB-PATTERN) ⨟ one k.R-BRACE
+grammar E HEX-SUB-PATTERN = hex-unit ⨟ many (many (node HEX-JUMP) ⨟ hex-unit)
+grammar E HEX-ALTERNATIVE = tuple k.PIPE (node HEX-SUB-PATTERN)
+grammar E HEX-JUMP =
     one k.L-BRACKET
     ⨟ ((opt (one k.INTEGER-LIT) ⨟ one k.HYPHEN ⨟ opt (one k.INTEGER-LIT)) / last (one k.INTEGER-LIT)) ⨟ one k.R-BRACKET
-grammar CONDITION-BLK = one k.CONDITION-KW ⨟ one k.COLON ⨟ then (node BOOLEAN-EXPR ⨟ recover (k.R-BRACE ∷ []))
-grammar BOOLEAN-EXPR =
+grammar E CONDITION-BLK = one k.CONDITION-KW ⨟ one k.COLON ⨟ then (node BOOLEAN-EXPR ⨟ recover (k.R-BRACE ∷ []))
+grammar E BOOLEAN-EXPR =
     then (node BOOLEAN-TERM) ⨟ many (named k.OPERATOR (k.AND-KW ∷ k.OR-KW ∷ []) ⨟ then (node BOOLEAN-TERM))
-grammar BOOLEAN-TERM =
+grammar E BOOLEAN-TERM =
     (named k.EXPRESSION (k.PATTERN-IDENT ∷ []) ⨟ ifnext (k.AT-KW ∷ k.IN-KW ∷ []) at-or-in)
     / named k.EXPRESSION (k.TRUE-KW ∷ k.FALSE-KW ∷ [])
     / (named k.EXPRESSION (k.NOT-KW ∷ k.DEFINED-KW ∷ []) ⨟ then (node BOOLEAN-TERM))
@@ -88,45 +93,45 @@ grammar BOOLEAN-TERM =
     / (memo EXPR ⨟ many (named k.EXPRESSION (k.EQ ∷ k.NE ∷ k.LE ∷ k.LT ∷ k.GE ∷ k.GT ∷ k.CONTAINS-KW ∷ k.ICONTAINS-KW ∷ k.STARTSWITH-KW
     ∷ k.ISTARTSWITH-KW ∷ k.ENDSWITH-KW ∷ k.IENDSWITH-KW ∷ k.IEQUALS-KW ∷ k.MATCHES-KW ∷ []) ⨟ then (memo EXPR)))
     / last (named k.EXPRESSION (k.L-PAREN ∷ []) ⨟ then (node BOOLEAN-EXPR) ⨟ one k.R-PAREN)
-grammar EXPR =
+grammar E EXPR =
     then (memo TERM)
     ⨟ many (named k.OPERATOR (k.ADD ∷ k.SUB ∷ k.MUL ∷ k.DIV ∷ k.MOD ∷ k.SHL ∷ k.SHR ∷ k.BITWISE-AND ∷ k.BITWISE-OR ∷ k.BITWISE-XOR ∷ [])
     ⨟ then (memo TERM))
-grammar FUNC-CALL =
+grammar E FUNC-CALL =
     one k.IDENT ⨟ one k.L-PAREN ⨟ opt (node BOOLEAN-EXPR ⨟ many (one k.COMMA ⨟ then (node BOOLEAN-EXPR))) ⨟ one k.R-PAREN
-grammar RANGE = one k.L-PAREN ⨟ then (memo EXPR) ⨟ one k.DOT ⨟ one k.DOT ⨟ then (memo EXPR) ⨟ one k.R-PAREN
-grammar TERM =
-    named k.EXPRESSION (k.FLOAT-LIT ∷ k.INTEGER-LIT ∷ k.STRING-LIT ∷ k.REGEXP ∷ k.FILESIZE-KW ∷ k.ENTRYPOINT-KW ∷ [])
+grammar E RANGE = one k.L-PAREN ⨟ then (memo EXPR) ⨟ one k.DOT ⨟ one k.DOT ⨟ then (memo EXPR) ⨟ one k.R-PAREN
+grammar E TERM =
+    named k.EXPRESSION (plain-terms E)
     / (named k.EXPRESSION (k.PATTERN-COUNT ∷ []) ⨟ cond k.IN-KW (node RANGE))
     / (named k.EXPRESSION (k.PATTERN-OFFSET ∷ k.PATTERN-LENGTH ∷ []) ⨟ cond k.L-BRACKET (memo EXPR ⨟ one k.R-BRACKET))
     / (named k.EXPRESSION (k.MINUS ∷ []) ⨟ then (memo TERM))
     / (named k.EXPRESSION (k.BITWISE-NOT ∷ []) ⨟ then (memo TERM))
     / (named k.EXPRESSION (k.L-PAREN ∷ []) ⨟ then (memo EXPR) ⨟ one k.R-PAREN)
     / last (node PRIMARY-EXPR ⨟ many (named k.EXPRESSION (k.DOT ∷ []) ⨟ then (node PRIMARY-EXPR)))
-grammar PRIMARY-EXPR =
+grammar E PRIMARY-EXPR =
     node FUNC-CALL / (one k.IDENT ⨟ one k.L-BRACKET ⨟ then (memo EXPR) ⨟ one k.R-BRACKET) / last (one k.IDENT)
-grammar FOR-EXPR =
+grammar E FOR-EXPR =
     named k.EXPRESSION (k.FOR-KW ∷ []) ⨟ then (node QUANTIFIER)
     ⨟ ((one k.OF-KW ⨟ them) / last (one k.IDENT ⨟ many (one k.COMMA ⨟ one k.IDENT) ⨟ one k.IN-KW ⨟ node ITERABLE))
     ⨟ one k.COLON ⨟ one k.L-PAREN ⨟ then (node BOOLEAN-EXPR ⨟ recover (k.R-PAREN ∷ [])) ⨟ one k.R-PAREN
-grammar OF-EXPR =
+grammar E OF-EXPR =
     then (node QUANTIFIER) ⨟ one k.OF-KW
     ⨟ ((them ⨟ ifnext (k.AT-KW ∷ k.IN-KW ∷ []) at-or-in) / last (node BOOLEAN-EXPR-TUPLE ⨟ unless (k.AT-KW ∷ k.IN-KW ∷ [])))
-grammar WITH-EXPR =
+grammar E WITH-EXPR =
     named k.EXPRESSION (k.WITH-KW ∷ []) ⨟ then (node WITH-DECLS ⨟ recover (k.COLON ∷ k.L-PAREN ∷ [])) ⨟ one k.COLON
     ⨟ one k.L-PAREN ⨟ then (node BOOLEAN-EXPR ⨟ recover (k.R-PAREN ∷ [])) ⨟ one k.R-PAREN
-grammar WITH-DECLS = then (node WITH-DECL) ⨟ many (one k.COMMA ⨟ node WITH-DECL)
-grammar WITH-DECL = one k.IDENT ⨟ one k.EQUAL ⨟ then (memo EXPR)
-grammar QUANTIFIER =
+grammar E WITH-DECLS = then (node WITH-DECL) ⨟ many (one k.COMMA ⨟ node WITH-DECL)
+grammar E WITH-DECL = one k.IDENT ⨟ one k.EQUAL ⨟ then (memo EXPR)
+grammar E QUANTIFIER =
     named k.EXPRESSION (k.ALL-KW ∷ k.NONE-KW ∷ k.ANY-KW ∷ []) / (memo TERM ⨟ one k.PERCENT) / last (memo EXPR ⨟ unless (k.PERCENT ∷ []))
-grammar ITERABLE = node RANGE / node EXPR-TUPLE / last (memo EXPR)
-grammar BOOLEAN-EXPR-TUPLE = tuple k.COMMA (node BOOLEAN-EXPR)
-grammar EXPR-TUPLE = tuple k.COMMA (memo EXPR)
-grammar PATTERN-IDENT-TUPLE =
+grammar E ITERABLE = node RANGE / node EXPR-TUPLE / last (memo EXPR)
+grammar E BOOLEAN-EXPR-TUPLE = tuple k.COMMA (node BOOLEAN-EXPR)
+grammar E EXPR-TUPLE = tuple k.COMMA (memo EXPR)
+grammar E PATTERN-IDENT-TUPLE =
     one k.L-PAREN ⨟ one k.PATTERN-IDENT ⨟ opt (one k.ASTERISK)
     ⨟ many (one k.COMMA ⨟ one k.PATTERN-IDENT ⨟ opt (one k.ASTERISK)) ⨟ one k.R-PAREN
-grammar IMPORT-STMT = one k.IMPORT-KW ⨟ one k.STRING-LIT
-grammar INCLUDE-STMT = one k.INCLUDE-KW ⨟ one k.STRING-LIT
+grammar E IMPORT-STMT = one k.IMPORT-KW ⨟ one k.STRING-LIT
+grammar E INCLUDE-STMT = one k.INCLUDE-KW ⨟ one k.STRING-LIT
 
 -- the kind of a production's node
 unfoldable pub kind : Production → ℕ

@@ -10,13 +10,22 @@ use Rattle.shapes.specs.Sort as Sort
 use Rattle.shapes.specs.Refusal as Refusal
 use Rattle.shapes.specs.Shapes.{EVENT, Entry, flat, entries}
 
--- refusal 9: "event numbers not a multiple of 4, or a sort outside 1..4"
-abbrev pub sorts : List Entry → Bool
-sorts [] = true
-sorts (e ∷ es) = leb Sort.BEGIN (e .0) && leb (e .0) Sort.ERROR && sorts es
+-- how many nodes are open behind an event, where h are open before it
+abbrev pub open-behind : ℕ → Entry → ℕ
+open-behind h e = elim (eqb (e .0) Sort.BEGIN) [ true ↦ suc h | false ↦ elim (eqb (e .0) Sort.END) [ true ↦ h - 1 | false ↦ h ] ]
+
+-- its depth is the count of nodes open around it; an end's is one less than h, and there is none where "more ends than begins" are before
+abbrev pub deep : ℕ → Entry → Bool
+deep h e = elim (eqb (e .0) Sort.END) [ true ↦ eqb (suc (e .4)) h | false ↦ eqb (e .4) h ]
+
+-- refusal 9: event numbers "not a multiple of 5", a sort outside 1..4, "a stored depth that is not the counted one" or "a place with more ends than begins
+-- before it"; h nodes are open
+abbrev pub sound : ℕ → List Entry → Bool
+sound h [] = true
+sound h (e ∷ es) = leb Sort.BEGIN (e .0) && leb (e .0) Sort.ERROR && deep h e && sound (open-behind h e) es
 
 abbrev pub well-formed : List ℕ → Bool
-well-formed l = eqb (length l % EVENT) 0 && sorts (entries l)
+well-formed l = eqb (length l % EVENT) 0 && sound 0 (entries l)
 
 -- an ERROR begin is of sort 1, an ERROR end of sort 3
 abbrev pub error-of : ℕ → Entry → Bool
@@ -26,25 +35,25 @@ abbrev pub Span : Type 0
 Span = ℕ × ℕ
 
 -- what the events are to the merger: an ERROR begin opens a node, an ERROR end directly followed by an ERROR begin joins the two nodes, any other
--- ERROR end closes one, and every other event is kept
+-- ERROR end closes one, and every other event is kept. "Merged events keep [their depth] unchanged": the number before a span, and that of `closes`
 pub data Mark : Type 0 where
-  opens : Span → Mark
+  opens : ℕ → Span → Mark
   joins : Span → Mark
-  closes : Mark
+  closes : ℕ → Mark
   keeps : Entry → Mark
 
--- an ERROR end, with what follows it
-abbrev pub ended : List Mark → List Mark
-ended [] = closes ∷ []
-ended (opens z ∷ ms) = joins z ∷ ms
-ended (joins z ∷ ms) = closes ∷ joins z ∷ ms
-ended (closes ∷ ms) = closes ∷ closes ∷ ms
-ended (keeps e ∷ ms) = closes ∷ keeps e ∷ ms
+-- an ERROR end of depth d, with what follows it
+abbrev pub ended : ℕ → List Mark → List Mark
+ended d [] = closes d ∷ []
+ended d (opens h z ∷ ms) = joins z ∷ ms
+ended d (joins z ∷ ms) = closes d ∷ joins z ∷ ms
+ended d (closes h ∷ ms) = closes d ∷ closes h ∷ ms
+ended d (keeps e ∷ ms) = closes d ∷ keeps e ∷ ms
 
 -- e is an ERROR begin, or an ERROR end, or neither
 abbrev pub marked : Bool → Bool → Entry → List Mark → List Mark
-marked true t e ms = opens (e .2, e .3) ∷ ms
-marked false true e ms = ended ms
+marked true t e ms = opens (e .4) (e .2, e .3) ∷ ms
+marked false true e ms = ended (e .4) ms
 marked false false e ms = keeps e ∷ ms
 
 abbrev pub marks : List Entry → List Mark
@@ -55,11 +64,11 @@ marks (e ∷ es) = marked (error-of Sort.BEGIN e) (error-of Sort.END e) e (marks
 abbrev pub paired : List Mark → ℕ → Bool
 paired [] zero = true
 paired [] (suc h) = false
-paired (opens z ∷ ms) h = paired ms (suc h)
+paired (opens d z ∷ ms) h = paired ms (suc h)
 paired (joins z ∷ ms) zero = false
 paired (joins z ∷ ms) (suc h) = paired ms (suc h)
-paired (closes ∷ ms) zero = false
-paired (closes ∷ ms) (suc h) = paired ms h
+paired (closes d ∷ ms) zero = false
+paired (closes d ∷ ms) (suc h) = paired ms h
 paired (keeps e ∷ ms) h = paired ms h
 
 abbrev pub widened : Span → Span → Span
@@ -68,23 +77,23 @@ widened z y = (min (z .0) (y .0), max (z .1) (y .1))
 -- "the least start and greatest end of the begins joined": of a node that is open, z so far, with h open inside it
 abbrev pub reach : List Mark → ℕ → Span → Span
 reach [] h z = z
-reach (opens y ∷ ms) h z = reach ms (suc h) z
+reach (opens d y ∷ ms) h z = reach ms (suc h) z
 reach (joins y ∷ ms) zero z = reach ms zero (widened z y)
 reach (joins y ∷ ms) (suc h) z = reach ms (suc h) z
-reach (closes ∷ ms) zero z = z
-reach (closes ∷ ms) (suc h) z = reach ms h z
+reach (closes d ∷ ms) zero z = z
+reach (closes d ∷ ms) (suc h) z = reach ms h z
 reach (keeps e ∷ ms) h z = reach ms h z
 
-abbrev pub error-event : ℕ → Span → Entry
-error-event s z = (s, k.ERROR, z .0, z .1)
+abbrev pub error-event : ℕ → Span → ℕ → Entry
+error-event s z d = (s, k.ERROR, z .0, z .1, d)
 
 -- the finished list; st has the spans of the nodes that are open. An end with none open is refused, and its clause is never met
 abbrev pub merge : List Mark → List Span → List Entry
 merge [] st = []
-merge (opens y ∷ ms) st = error-event Sort.BEGIN (reach ms 0 y) ∷ merge ms (reach ms 0 y ∷ st)
+merge (opens d y ∷ ms) st = error-event Sort.BEGIN (reach ms 0 y) d ∷ merge ms (reach ms 0 y ∷ st)
 merge (joins y ∷ ms) st = merge ms st
-merge (closes ∷ ms) [] = merge ms []
-merge (closes ∷ ms) (z ∷ st) = error-event Sort.END z ∷ merge ms st
+merge (closes d ∷ ms) [] = merge ms []
+merge (closes d ∷ ms) (z ∷ st) = error-event Sort.END z d ∷ merge ms st
 merge (keeps e ∷ ms) st = e ∷ merge ms st
 
 abbrev pub finished : List ℕ → List Entry

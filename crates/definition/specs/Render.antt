@@ -3,14 +3,14 @@ use Prim.Native.Nat.{ℕ, zero, suc, _-_, _+_, _*_}
 use mathlib.Core.List.{List, [], _∷_, _++_, map, foldl}
 use mathlib.Core.Bool.{true, false}
 use lib.Dec.{eqb, ltb}
-use lib.ListN.{length, getD, take, drop}
+use lib.ListN.{length, getD, take, drop, replicate}
 use Rattle.kinds.specs.Kinds as k
 use Rattle.utf8.specs.Utf8.{utf8, bad-byte}
 use Rattle.shapes.specs.Sort as Sort
 use Rattle.shapes.specs.Refusal as Refusal
 use Rattle.shapes.specs.Outcome as Outcome
 use Rattle.shapes.specs.Shapes.{EVENT, Entry, HEAD, Rec}
-use Rattle.definition.specs.Run.{State, Draft, Limits, Event, opened, leaf, closed, bad, Choice, wanted, unwanted, stray, Mode, ok, failed, stopped, spent, deep}
+use Rattle.definition.specs.Run.{State, Draft, Limits, Event, opened, leaf, closed, bad, Choice, wanted, unwanted, stray, Mode, ok, failed, stopped, spent, deep, when-ok, item, start}
 
 -- source bytes, and the rows' ids and ends; a row starts where the one before ends
 pub record Source : Type 0 where
@@ -91,14 +91,14 @@ abbrev pub bads : List Event → ℕ
 bads es = length (faults es)
 
 -- written from the last event to the first: the stack holds kind and end of the nodes whose closing was met, so that a begin has them "at both
--- events"; l is what stands behind. An error's index is how many records are before
+-- events"; l is what stands behind. An error's index is how many records are before. What is open around an event are these nodes and SOURCE_FILE
 abbrev pub render : Source → List (ℕ × ℕ) → List Event → List Entry → List Entry
 render x st [] l = l
 render x [] (opened n ∷ es) l = render x [] es l
-render x (t ∷ st) (opened n ∷ es) l = render x st es ((Sort.BEGIN, t .0, starts-at x n, t .1) ∷ l)
-render x st (leaf a n ∷ es) l = render x st es ((Sort.TOKEN, a, starts-at x n, ends-at x n) ∷ l)
-render x st (closed a n m ∷ es) l = render x ((a, span-end x n m) ∷ st) es ((Sort.END, a, starts-at x n, span-end x n m) ∷ l)
-render x st (bad n c ∷ es) l = render x st es ((Sort.ERROR, bads es, starts-at x n, ends-at x n) ∷ l)
+render x (t ∷ st) (opened n ∷ es) l = render x st es ((Sort.BEGIN, t .0, starts-at x n, t .1, suc (length st)) ∷ l)
+render x st (leaf a n ∷ es) l = render x st es ((Sort.TOKEN, a, starts-at x n, ends-at x n, suc (length st)) ∷ l)
+render x st (closed a n m ∷ es) l = render x ((a, span-end x n m) ∷ st) es ((Sort.END, a, starts-at x n, span-end x n m, suc (length st)) ∷ l)
+render x st (bad n c ∷ es) l = render x st es ((Sort.ERROR, bads es, starts-at x n, ends-at x n, suc (length st)) ∷ l)
 
 abbrev pub record-of : Limits → Source → ℕ → Choice → Rec
 record-of L x n c =
@@ -107,6 +107,20 @@ record-of L x n c =
 
 abbrev pub records : Limits → Source → List Event → List Rec → List Rec
 records L x es l = foldl (λ l e. record-of L x (e .0) (e .1) ∷ l) l (faults es)
+
+-- REQUEST (x): "Every error record gets the number of its item, from 1": the number of each record that the next n items from s on bring, the first
+-- item's being i; items are counted as they are read (`items`)
+abbrev pub numbers : Limits → ℕ → ℕ → State → List ℕ
+numbers L zero i s = []
+numbers L (suc n) i s =
+    elim (s .rest) [
+      | [] ↦ []
+      | j ∷ js ↦ when-ok (replicate (bads ((item L s) .out) - bads (s .out)) i ++ numbers L n (suc i) (item L s)) [] (s .mode)
+    ]
+
+-- those of a whole reading
+abbrev pub item-numbers : Limits → List ℕ → ℕ → List ℕ
+item-numbers L r f = numbers L (length r) 1 (start r f)
 
 -- what is written inside SOURCE_FILE
 abbrev pub inside : Source → List Event → List Entry
@@ -119,6 +133,7 @@ pub record Reading : Type 0 where
   pub left : ℕ
   pub events : List Entry
   pub errors : List Rec
+  pub items : List ℕ  -- the number of each record's item
 
 -- "Outcome 0 is done, 1 out of fuel, 2 too deep."
 abbrev pub outcome-of : Mode → ℕ
@@ -127,15 +142,16 @@ outcome-of failed = Outcome.DONE
 outcome-of (stopped spent) = Outcome.SPENT
 outcome-of (stopped deep) = Outcome.DEEP
 
-abbrev pub rendered : Limits → Source → State → Reading
-rendered L x s =
+abbrev pub rendered : Limits → Source → List ℕ → State → Reading
+rendered L x is s =
     record {
       outcome = outcome-of (s .mode);
       covered = length (x .ids) - length (s .rest);
       left = s .fuel;
       events =
-          (Sort.BEGIN, k.SOURCE-FILE, 0, length (x .bytes)) ∷ inside x (s .out) ++ ((Sort.END, k.SOURCE-FILE, 0, length (x .bytes)) ∷ []);
+          (Sort.BEGIN, k.SOURCE-FILE, 0, length (x .bytes), 0) ∷ inside x (s .out) ++ ((Sort.END, k.SOURCE-FILE, 0, length (x .bytes), 0) ∷ []);
       errors = records L x (s .out) [];
+      items = is;
     }
 
 -- ROOMS: what a draft takes, the SOURCE_FILE begin event with it. "A record takes its room when it is chosen"

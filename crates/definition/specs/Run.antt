@@ -36,14 +36,15 @@ pub data Event : Type 0 where
 abbrev pub Draft : Type 0
 Draft = List Event × List (ℕ × Choice)
 
--- what later requests make settings: how many nodes may be open besides SOURCE_FILE, and how long a found text may be to be quoted ("1,024
--- nodes besides SOURCE_FILE", "text over 15 bytes")
+-- what a settings edition gives besides fuel: how many nodes may be open besides SOURCE_FILE, how long a found text may be to be quoted, and
+-- whether entrypoint is a term ("1 for allowed"); edition 1 has "today's values", "1,024 nodes besides SOURCE_FILE" and "text over 15 bytes"
 pub record Limits : Type 0 where
   pub depth : ℕ
   pub quote : ℕ
+  pub entrypoint : Bool
 
 abbrev pub base : Limits
-base = record { depth = 1024; quote = 15 }
+base = record { depth = 1024; quote = 15; entrypoint = true }
 
 -- Ids of the rows that are left; state; fuel; events, the last first; the furthest row at which names were expected, and the names; the furthest
 -- row that was matched inside `not`; pending errors, the first first; rows and kinds that failed. Nothing reads the last two: the row of each
@@ -363,10 +364,10 @@ exec d call (recover S) o s = recovery d o S s
 exec d call (node a) o s = call o a s
 exec d call (memo a) o s = memos (kind a) (λ t. call o a t) s
 
--- a production, where d more nodes may be opened; the body of one that is too deep does nothing (proofs/Bound)
-abbrev pub run : ℕ → Bool → Production → Reader
-run zero o a s = nodes zero o (kind a) (λ t. t) s
-run (suc d) o a s = nodes (suc d) o (kind a) (λ t. exec d (λ o b u. run d o b u) (grammar a) o t) s
+-- a production, where E allows entrypoint and d more nodes may be opened; the body of one that is too deep does nothing (proofs/Bound)
+abbrev pub run : Bool → ℕ → Bool → Production → Reader
+run E zero o a s = nodes zero o (kind a) (λ t. t) s
+run E (suc d) o a s = nodes (suc d) o (kind a) (λ t. exec d (λ o b u. run E d o b u) (grammar E a) o t) s
 
 -- ITEMS
 
@@ -396,7 +397,7 @@ stray-item s =
 
 -- an item, outside optional parts; shut, so that no tactic computes its reading unasked
 unfoldable pub read-item : Limits → Prog → Reader
-read-item L p s = exec (L .depth) (run (L .depth)) p false s
+read-item L p s = exec (L .depth) (run (L .entrypoint) (L .depth)) p false s
 
 abbrev pub item-at : Limits → Next → Reader
 item-at L end s = s

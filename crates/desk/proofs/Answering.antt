@@ -12,7 +12,7 @@ use lib.ListN.{length, getD, take, replicate}
 use lib.Seq.{length-take-le}
 use Rattle.shapes.specs.Shapes.{EVENT, flat, flat-records}
 use Rattle.definition.specs.Run as P
-use Rattle.definition.specs.Render.{Source, Reading, rendered, used, moments, exceeds, over}
+use Rattle.definition.specs.Render.{Source, Reading, item-numbers, rendered, used, moments, exceeds, over}
 use Rattle.definition.specs.Answer.{Desk, After, Answer, refused, given, first-of, grounds, refusal, exceeded, answer, as-lent, refusing, blank, left-by, after, source-of}
 use Rattle.notes.proofs.Rooms.{exceeds-events}
 use Rattle.notes.proofs.Rooms as rooms
@@ -33,7 +33,7 @@ module _ (L : P.Limits) (d : Desk) where
   number = exceeded L d (reading L (source-of d) (d .fuel))
 
   abbrev found : Answer
-  found = pick number (given (rendered L (source-of d) (reading L (source-of d) (d .fuel))))
+  found = pick number (given (rendered L (source-of d) (item-numbers L (d .ids) (d .fuel)) (reading L (source-of d) (d .fuel))))
 
   as-it-was : (n : ℕ) → n < 7 → left-by d (refused n) ≡ refusing n (d .events) (d .errors) (d .scratch)
   as-it-was n h = ap (λ (c : Bool). elim c as (λ _. After) [ true ↦ refusing n (d .events) (d .errors) (d .scratch) | false ↦ refusing n (blank (d .events)) (blank (d .errors)) (blank (d .scratch)) ]) (lt-ltb n 7 h)
@@ -68,7 +68,7 @@ module _ (L : P.Limits) (d : Desk) where
 
   exceeded-so : 0 ≡ refusal d → (n : ℕ) → n ≡ number → 7 ≤ n → zeros n ≡ after L d
   exceeded-so e n i h =
-      sym (all-zero n h) ∙ ap (left-by d) (sym (picked n _ (λ z. omega (arith, h, z)))) ∙ ap (λ (m : ℕ). left-by d (pick m (given (rendered L (source-of d) (reading L (source-of d) (d .fuel)))))) i ∙ read-so e
+      sym (all-zero n h) ∙ ap (left-by d) (sym (picked n _ (λ z. omega (arith, h, z)))) ∙ ap (λ (m : ℕ). left-by d (pick m (given (rendered L (source-of d) (item-numbers L (d .ids) (d .fuel)) (reading L (source-of d) (d .fuel)))))) i ∙ read-so e
 
   -- a room that has no place for the SOURCE_FILE begin event
   module _ (h : length (d .events) < EVENT) where
@@ -123,19 +123,19 @@ module _ (L : P.Limits) (d : Desk) where
     laid w l n lent e h i = ap₂ (λ (a : List ℕ) (k : ℕ). a ++ replicate k 0) e (ap₂ _-_ i (sym (length-take-le n l h) ∙ ap length e))
 
     pub answer-so : r .state .full ≡ 0 → length ev ≡ length (d .events) → length er ≡ length (d .errors) → (sc : List ℕ) → length sc ≡ length (d .scratch) → answering r (getD l 4 0) ev er sc ≡ after L d
-    answer-so h i j sc k = whole ∙ ap (λ (m : ℕ). left-by d (pick m (given (rendered L (source-of d) (reading L (source-of d) (d .fuel)))))) (sym h ∙ f .full) ∙ read-so z
+    answer-so h i j sc k = whole ∙ ap (λ (m : ℕ). left-by d (pick m (given (rendered L (source-of d) (item-numbers L (d .ids) (d .fuel)) (reading L (source-of d) (d .fuel)))))) (sym h ∙ f .full) ∙ read-so z
       where
         q : Finished L (source-of d) (d .fuel) (tally r l) ev er
         q = f .finished h
 
-        count : (r .state .ev + EVENT) / EVENT ≡ length (rendered L (source-of d) (reading L (source-of d) (d .fuel)) .events)
+        count : (r .state .ev + EVENT) / EVENT ≡ length (rendered L (source-of d) (item-numbers L (d .ids) (d .fuel)) (reading L (source-of d) (d .fuel)) .events)
         count = omega (arith, q .event-count)
 
-        events : take (r .state .ev + EVENT) ev ++ replicate (length ev - (r .state .ev + EVENT)) 0 ≡ left-by d (given (rendered L (source-of d) (reading L (source-of d) (d .fuel)))) .events
+        events : take (r .state .ev + EVENT) ev ++ replicate (length ev - (r .state .ev + EVENT)) 0 ≡ left-by d (given (rendered L (source-of d) (item-numbers L (d .ids) (d .fuel)) (reading L (source-of d) (d .fuel)))) .events
         events = laid _ ev (r .state .ev + EVENT) (d .events) (q .events) (q .event-fits) i
 
-        errors : take (getD l 4 0) er ++ replicate (length er - getD l 4 0) 0 ≡ left-by d (given (rendered L (source-of d) (reading L (source-of d) (d .fuel)))) .errors
+        errors : take (getD l 4 0) er ++ replicate (length er - getD l 4 0) 0 ≡ left-by d (given (rendered L (source-of d) (item-numbers L (d .ids) (d .fuel)) (reading L (source-of d) (d .fuel)))) .errors
         errors = laid _ er (getD l 4 0) (d .errors) (q .errors) (q .error-fits) j
 
-        whole : answering r (getD l 4 0) ev er sc ≡ left-by d (given (rendered L (source-of d) (reading L (source-of d) (d .fuel))))
+        whole : answering r (getD l 4 0) ev er sc ≡ left-by d (given (rendered L (source-of d) (item-numbers L (d .ids) (d .fuel)) (reading L (source-of d) (d .fuel))))
         whole = λ t. record { number = 0; outcome = q .outcome t; covered = q .covered t; event-count = count t; error-count = q .error-count t; left = q .left t; events = events t; errors = errors t; scratch = replicate (k t) 0 }

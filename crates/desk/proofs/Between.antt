@@ -1,22 +1,25 @@
 -- From between two items to between two items. Assumes nothing.
 use Prim.Native.Nat.{ℕ, zero, suc, _+_, _-_, _*_, _≤_, _<_}
 use mathlib.Core.Path.{_≡_, refl, sym, ap, ap₂, subst, _∙_}
-use mathlib.Core.List.{List, [], _∷_}
+use mathlib.Core.List.{List, [], _∷_, _++_, append-nil, append-assoc}
 use mathlib.Core.Bool.{Bool, true, false}
-use native.Mathlib.Nat.{le-refl}
+use native.Mathlib.Nat.{le-refl, zero-add, suc-add, add-zero}
 use native.Mathlib.Omega.{arith}
 use native.Mathlib.Decide.{decLt, ℕ-discrete}
 use borrow.Author.Tests.{eq-eqb, ne-eqb, eqb-true, leb-true, leb-false}
 use lib.Dec.{T, eqb, leb}
-use lib.ListN.{length, getD, drop, drop-of-length-le, length-append, length-drop}
+use lib.ListN.{length, getD, drop, replicate, drop-of-length-le, length-append, length-drop, length-replicate}
 use lib.Seq.{drop-cons}
 use Rattle.definition.specs.Run as P
 use Rattle.definition.specs.Run.{Limits, Mode, ok, failed, stopped}
-use Rattle.definition.specs.Render.{Source, records}
+use Rattle.definition.specs.Render.{Source, bads, numbers}
+use Rattle.shapes.specs.Shapes.{Owned, flat-records, of-item, items-in}
+use Rattle.shapes.proofs.Laws.{items-append, items-of, items-length, bare-of, bare-length}
 use Rattle.definition.proofs.Order.{Running}
 use Rattle.definition.proofs.File.{items-end, items-step}
 use Rattle.definition.proofs.Takes.{item-takes}
 use Rattle.definition.proofs.Suffix.{chain}
+use Rattle.definition.proofs.Numbers.{brought, numbers-end, numbers-step, numbers-chain}
 use Rattle.notes.specs.Whole.{Whole}
 use Rattle.notes.specs.Bits.{ifb, bitAt, Forgot, Cached}
 use Rattle.notes.specs.Means.{Bufs, bufs, Past, Means, Stands, Rows, modeOf, recorded, overOf}
@@ -24,9 +27,10 @@ use Rattle.notes.specs.Did.{Wf, Events}
 use Rattle.notes.proofs.Core.{Sticky, sticky-mark}
 use Rattle.notes.proofs.Sticky.{sticky-trans, sticky-trivia}
 use Rattle.steps.proofs.Ends.{none-pending}
-use Rattle.desk.specs.Items.{Tally, tell, told, Tells, Numbered, Free, at-hand, pastOf, Hands, settled, Settled, over, Between, Goes}
-use Rattle.desk.proofs.Telling.{recorded-length}
-use Rattle.desk.proofs.Hand.{heard, sticky-hand}
+use Rattle.desk.specs.Items.{Tally, withNumber, tell, since, told, Tells, Numbered, Free, at-hand, pastOf, Handed, Hands, settled, Settled, over, Between, Goes}
+use Rattle.desk.proofs.Telling.{bads-records, recorded-length}
+use Rattle.desk.proofs.Hand.{sticky-hand}
+use Rattle.grammar.specs.Table.{reach}
 
 -- AN ITEM ENDS
 abbrev calm : Mode → Mode
@@ -75,7 +79,7 @@ module _ (x : Source) (s : Whole) (ev er sc sc′ : List ℕ) (f : Forgot (s .fi
             written = m .written;
             want = refl;
             unwant = refl;
-            chosen = record { is = m .chosen .is; since = m .chosen .since; room = m .chosen .room; quoted = m .chosen .quoted; apart = tt };
+            chosen = record { is = m .chosen .is; since = m .chosen .since; room = m .chosen .room; quoted = m .chosen .quoted; numbered = m .chosen .numbered; apart = tt };
             cache = forgets (m .cache) f (s .pos);
           }
 
@@ -87,7 +91,7 @@ module _ (x : Source) (s : Whole) (ev er sc sc′ : List ℕ) (f : Forgot (s .fi
 -- the two ways through the end of an item, by the mode
 module _ (s : Whole) where
   abbrev rested : ℕ → Whole
-  rested m = record { pos = s .pos; fuel = s .fuel; mode = m; ev = s .ev; evcap = s .evcap; full = s .full; want = 0; unwant = 0; count = s .count; mask = s .mask; codes = s .codes; er = s .er; ercap = s .ercap; item = s .item; first = s .pos; far = s .pos; quote = s .quote }
+  rested m = record { pos = s .pos; fuel = s .fuel; mode = m; ev = s .ev; evcap = s .evcap; full = s .full; want = 0; unwant = 0; count = s .count; mask = s .mask; codes = s .codes; er = s .er; ercap = s .ercap; item = s .item; first = s .pos; far = s .pos; quote = s .quote; number = s .number }
 
   pub settles-failed : s .mode ≡ 1 → rested 0 ≡ settled s
   settles-failed e = ap (λ (c : Bool). rested (ifb c 0 (s .mode))) (sym (eq-eqb (s .mode) 1 e))
@@ -131,6 +135,17 @@ items-out : (L : Limits) (k : ℕ) (a : P.State) → a .rest ≡ [] → P.items 
 items-out L zero a e = refl
 items-out L (suc k) a e = items-end L k a e
 
+numbers-not : (L : Limits) (k i n : ℕ) (a : P.State) → (n ≡ 0 → ⊥) → a .mode ≡ modeOf n → numbers L k i a ≡ []
+numbers-not L zero i n a h e = refl
+numbers-not L (suc k) i n a h e = ap (λ (m : Mode). numbers L (suc k) i (P.turn m a)) e ∙ go (a .rest) n a h
+  where
+    go : (r : List ℕ) (n : ℕ) (a : P.State) → (n ≡ 0 → ⊥) → numbers L (suc k) i (P.turn (modeOf n) (P.put r (a .out) a)) ≡ []
+    go [] n a h = refl
+    go (j ∷ js) zero a h = absurd (h refl)
+    go (j ∷ js) (suc zero) a h = refl
+    go (j ∷ js) (suc (suc zero)) a h = refl
+    go (j ∷ js) (suc (suc (suc n))) a h = refl
+
 -- NO ITEM
 module _ (n : ℕ) (s : Whole) where
   abbrev left : Bool → Bool → Bool
@@ -153,14 +168,17 @@ module _ (n : ℕ) (s : Whole) where
       go true false i j e = absurd (subst T e tt)
       go false d i j e = absurd (subst T e tt)
 
-module _ {depth : ℕ} {x : Source} {d : Tally} {b : Bufs} (w : Wf x b (d .state)) (st : Settled (d .state)) (k : ℕ) where
-  stuck : (d .state .full ≡ 0 → ⊥) → Goes depth k x d d b b
+module _ {bounds : ℕ × Bool} {x : Source} {d : Tally} {b : Bufs} (w : Wf x b (d .state)) (st : Settled (d .state)) (o k : ℕ) where
+  stuck : (d .state .full ≡ 0 → ⊥) → Goes bounds o k x d d b b
   unfolding overOf
   stuck n =
       record {
-        does = λ L E R a i B.
+        does = λ L E R ns a i B.
             record {
-              stands = record { over = B .stands .over ∙ sym (sticky-some L (pastOf L E R x a) x k a (λ z. n (B .stands .over ∙ z))); means = λ z. absurd (n z) };
+              records = B .records;
+              last = B .last;
+              own = λ z. absurd (n z);
+              stands = record { over = B .stands .over ∙ sym (sticky-some L (pastOf L E R (B .records) (B .last)) x k a (λ z. n (B .stands .over ∙ z))); means = λ z. absurd (n z) };
               count = λ z. absurd (n z);
               few = λ z. absurd (n z);
             };
@@ -168,38 +186,64 @@ module _ {depth : ℕ} {x : Source} {d : Tally} {b : Bufs} (w : Wf x b (d .state
         settles = st;
       }
 
-  same : ((L : Limits) (E R : ℕ) (a : P.State) → Between L E R x d b a → P.items L k a ≡ a) → Goes depth k x d d b b
-  same g = record { does = λ L E R a i B. subst (λ (c : P.State). Between L E R x d b c) (sym (g L E R a B)) B; wf = w; settles = st }
+  same : ((L : Limits) (E R : ℕ) (ns : List ℕ) (a : P.State) → Between L E R ns x d b a → (P.items L k a ≡ a) × (numbers L k o a ≡ [])) → Goes bounds o k x d d b b
+  same g =
+      record {
+        does = λ L E R ns a i B.
+            let e = g L E R ns a B in
+            subst (λ (c : P.State). Between L E R (ns ++ numbers L k o a) x d b c) (sym (e .0)) (subst (λ (l : List ℕ). Between L E R l x d b a) (sym (ap (λ (l : List ℕ). ns ++ l) (e .1) ∙ append-nil ns)) B);
+        wf = w;
+        settles = st;
+      }
 
-  pub idles : over (length (x .ids)) (d .state) ≡ true → Goes depth k x d d b b
+  pub idles : over (length (x .ids)) (d .state) ≡ true → Goes bounds o k x d d b b
   idles e = go (ℕ-discrete (d .state .full) 0) (ℕ-discrete (d .state .mode) 0) (decLt (d .state .pos) (length (x .ids)))
     where
-      go : Dec (d .state .full ≡ 0) → Dec (d .state .mode ≡ 0) → Dec (d .state .pos < length (x .ids)) → Goes depth k x d d b b
+      go : Dec (d .state .full ≡ 0) → Dec (d .state .mode ≡ 0) → Dec (d .state .pos < length (x .ids)) → Goes bounds o k x d d b b
       go (no n) m l = stuck n
-      go (yes z) (no n) l = same (λ L E R a B. items-not L k (d .state .mode) a n (B .stands .means z .mode))
-      go (yes z) (yes y) (no h) = let g : length (x .ids) ≤ d .state .pos = omega arith in same (λ L E R a B. items-out L k a (B .stands .means z .rest ∙ drop-of-length-le (x .ids) g))
+      go (yes z) (no n) l = same (λ L E R ns a B. let m = B .stands .means z .mode in (items-not L k (d .state .mode) a n m, numbers-not L k o (d .state .mode) a n m))
+      go (yes z) (yes y) (no h) =
+          let g : length (x .ids) ≤ d .state .pos = omega arith in
+          same (λ L E R ns a B. let r = B .stands .means z .rest ∙ drop-of-length-le (x .ids) g in (items-out L k a r, numbers-end L k o a r))
       go (yes z) (yes y) (yes h) = let g = leb-true (length (x .ids)) (d .state .pos) (over-rows (length (x .ids)) (d .state) z y ∙ e) in absurd (omega arith)
 
-pub items-none : {depth : ℕ} {x : Source} {d : Tally} {b : Bufs} → Wf x b (d .state) → Settled (d .state) → Goes depth 0 x d d b b
-items-none w st = same w st 0 (λ L E R a B. refl)
+pub items-none : {bounds : ℕ × Bool} {x : Source} {d : Tally} {b : Bufs} (o : ℕ) → Wf x b (d .state) → Settled (d .state) → Goes bounds o 0 x d d b b
+items-none o w st = same w st o 0 (λ L E R ns a B. (refl, refl))
 
 -- some number of items by another name of it
-pub goes-as : {depth : ℕ} {x : Source} {d r : Tally} {b b′ : Bufs} (n k : ℕ) → n ≡ k → Goes depth n x d r b b′ → Goes depth k x d r b b′
-goes-as {depth} {x} {d} {r} {b} {b′} n k e y = subst (λ (i : ℕ). Goes depth i x d r b b′) e y
+pub goes-as : {bounds : ℕ × Bool} {o : ℕ} {x : Source} {d r : Tally} {b b′ : Bufs} (n k : ℕ) → n ≡ k → Goes bounds o n x d r b b′ → Goes bounds o k x d r b b′
+goes-as {bounds} {o} {x} {d} {r} {b} {b′} n k e y = subst (λ (i : ℕ). Goes bounds o i x d r b b′) e y
 
 -- some items more
-pub goes-then : {depth : ℕ} {x : Source} {d r q : Tally} {b b₁ b₂ : Bufs} (n k : ℕ) → Goes depth n x d r b b₁ → Goes depth k x r q b₁ b₂ → Goes depth (n + k) x d q b b₂
-goes-then {depth} {x} {d} {r} {q} {b} {b₁} {b₂} n k y z =
-    record { does = λ L E R a i B. subst (λ (c : P.State). Between L E R x q b₂ c) (sym (chain L n k a)) (z .does L E R (P.items L n a) i (y .does L E R a i B)); wf = z .wf; settles = z .settles }
+pub goes-then : {bounds : ℕ × Bool} {x : Source} {d r q : Tally} {b b₁ b₂ : Bufs} (o n k : ℕ) → Goes bounds o n x d r b b₁ → Goes bounds (n + o) k x r q b₁ b₂ → Goes bounds o (n + k) x d q b b₂
+goes-then {bounds} {x} {d} {r} {q} {b} {b₁} {b₂} o n k y z =
+    record {
+      does = λ L E R ns a i B.
+          let c : P.State = P.items L n a in
+          let l : ns ++ numbers L (n + k) o a ≡ (ns ++ numbers L n o a) ++ numbers L k (n + o) c = ap (λ (m : List ℕ). ns ++ m) (numbers-chain L n k o a) ∙ sym (append-assoc ns (numbers L n o a) (numbers L k (n + o) c)) in
+          subst (λ (m : List ℕ). Between L E R m x q b₂ (P.items L (n + k) a)) (sym l)
+          (subst (λ (e : P.State). Between L E R ((ns ++ numbers L n o a) ++ numbers L k (n + o) c) x q b₂ e) (sym (chain L n k a)) (z .does L E R (ns ++ numbers L n o a) c i (y .does L E R ns a i B)));
+      wf = z .wf;
+      settles = z .settles;
+    }
 
 -- AN ITEM
 
 -- what is to be forgotten has its place in the scratch words
-pub settle-asks : (x : Source) {depth : ℕ} {s : Whole} {before : ℕ} {h u : Tally} {b b′ : Bufs} {ev′ : List ℕ} → Hands depth x s before h b b′ → ((sc : List ℕ) → Wf x (bufs (b′ .events) (b′ .errors) sc) (h .state) → Tells x (h .state) (h .before) u (bufs (b′ .events) (b′ .errors) sc) (bufs ev′ (b′ .errors) sc)) → 2 * u .state .far ≤ 64 * length (b′ .scratch)
+pub settle-asks : (x : Source) {bounds : ℕ × Bool} {s : Whole} {before : ℕ} {h u : Tally} {b b′ : Bufs} {ev′ : List ℕ} → Hands bounds x s before h b b′ → ((sc : List ℕ) → Wf x (bufs (b′ .events) (b′ .errors) sc) (h .state) → Tells x (h .state) (h .before) u (bufs (b′ .events) (b′ .errors) sc) (bufs ev′ (b′ .errors) sc)) → 2 * u .state .far ≤ 64 * length (b′ .scratch)
 settle-asks x {b′ = b′} H T = let v = T (b′ .scratch) (H .wf) .wf in omega (arith, v .0 .0 .far-in, v .1 .scratch)
 
-module _ {depth : ℕ} (x : Source) (d h u r : Tally) (s : Whole) (ev ev₁ ev₂ ev₃ er er₂ sc sc₂ sc₃ : List ℕ) (rows : Rows x) (w : Wf x (bufs ev er sc) (d .state)) (st : Settled (d .state)) (ready : (d .state .full ≡ 0) × (d .state .mode ≡ 0) × (d .state .pos < length (x .ids)))
-    (T : Events P.trivia x (d .state) s ev ev₁) (H : Hands depth x s (d .before) h (bufs ev₁ er sc) (bufs ev₂ er₂ sc₂)) (U : Tells x (h .state) (h .before) u (bufs ev₂ er₂ sc₂) (bufs ev₃ er₂ sc₂))
+replicate-add : (n m i : ℕ) → replicate n i ++ replicate m i ≡ replicate (n + m) i
+replicate-add zero m i = ap (λ (k : ℕ). replicate k i) (sym (zero-add m))
+replicate-add (suc n) m i = ap (λ (l : List ℕ). i ∷ l) (replicate-add n m i) ∙ ap (λ (k : ℕ). replicate k i) (sym (suc-add n m))
+
+-- where the item's number is noted
+pub item-wf : (o : ℕ) (x : Source) (b : Bufs) (s s₁ : Whole) → Rows x → o ≤ length (x .ids) → Wf x b s → s₁ ≡ withNumber o s → Wf x b s₁
+item-wf o x b s s₁ rows low w e = subst (Wf x b) (sym e) ((w .0 .0, w .0 .1, record { events = w .0 .2 .events; since = w .0 .2 .since; errors = w .0 .2 .errors; numbered = omega (arith, low, rows .lines .few) }), w .1)
+
+-- d₁ is that state
+module _ {bounds : ℕ × Bool} (o : ℕ) (x : Source) (d h u r : Tally) (d₁ s : Whole) (ev ev₁ ev₂ ev₃ er er₂ sc sc₂ sc₃ : List ℕ) (rows : Rows x) (low : o ≤ length (x .ids)) (w : Wf x (bufs ev er sc) (d .state)) (st : Settled (d .state)) (ready : (d .state .full ≡ 0) × (d .state .mode ≡ 0) × (d .state .pos < length (x .ids)))
+    (starts : d₁ ≡ withNumber o (d .state)) (T : Events P.trivia x d₁ s ev ev₁) (H : Hands bounds x s (d .before) h (bufs ev₁ er sc) (bufs ev₂ er₂ sc₂)) (U : Tells x (h .state) (h .before) u (bufs ev₂ er₂ sc₂) (bufs ev₃ er₂ sc₂))
     (is : r .state ≡ settled (u .state)) (same : r .before ≡ u .before) (F : Forgot (u .state .first) (u .state .far) sc₂ sc₃) (long : length sc₃ ≡ length sc₂) where
   z : d .state .full ≡ 0
   z = ready .0
@@ -210,12 +254,44 @@ module _ {depth : ℕ} (x : Source) (d h u r : Tally) (s : Whole) (ev ev₁ ev�
   l : d .state .pos < length (x .ids)
   l = ready .2
 
-  module _ (L : Limits) (E R : ℕ) (a : P.State) (i : L .depth ≡ depth) (B : Between L E R x d (bufs ev er sc) a) where
-    abbrev p : Past
-    p = pastOf L E R x a
+  passed : Events P.trivia x (withNumber o (d .state)) s ev ev₁
+  passed = subst (λ (y : Whole). Events P.trivia x y s ev ev₁) starts T
 
-    m : Means p x (d .state) (bufs ev er sc) a
+  w₁ : Wf x (bufs ev er sc) (withNumber o (d .state))
+  w₁ = item-wf o x (bufs ev er sc) (d .state) (withNumber o (d .state)) rows low w refl
+
+  module _ (L : Limits) (E R : ℕ) (ns : List ℕ) (a : P.State) (i : reach L ≡ bounds) (B : Between L E R ns x d (bufs ev er sc) a) where
+    abbrev p : Past
+    p = pastOf L E R (B .records) o
+
+    m : Means (pastOf L E R (B .records) (B .last)) x (d .state) (bufs ev er sc) a
     m = B .stands .means z
+
+    none : a .chosen ≡ []
+    none = none-pending w m (sym (st .0))
+
+    -- no error is pending, so the number may change
+    unnumbered : (k : ℕ) → flat-records (B .records ++ of-item k (recorded L x (a .chosen))) ≡ flat-records (B .records ++ [])
+    unfolding recorded
+    unnumbered k = ap (λ (c : List (ℕ × P.Choice)). flat-records (B .records ++ of-item k (recorded L x c))) none
+
+    noted : Stands p x (withNumber o (d .state)) (bufs ev er sc) a
+    unfolding overOf
+    noted =
+        record {
+          over = B .stands .over;
+          means = λ y.
+              record {
+                rest = m .rest;
+                mode = m .mode;
+                fuel = m .fuel;
+                written = record { is = m .written .is; past = m .written .past; room = m .written .room };
+                want = m .want;
+                unwant = m .unwant;
+                chosen = record { is = m .chosen .is ∙ unnumbered (B .last) ∙ sym (unnumbered o); since = m .chosen .since; room = m .chosen .room; quoted = m .chosen .quoted; numbered = refl; apart = m .chosen .apart };
+                cache = m .cache;
+              };
+        }
 
     abbrev a₁ : P.State
     a₁ = P.trivia a
@@ -224,33 +300,40 @@ module _ {depth : ℕ} (x : Source) (d h u r : Tally) (s : Whole) (ev ev₁ ev�
     c = at-hand L a₁
 
     t₁ : Stands p x s (bufs ev₁ er sc) a₁
-    t₁ = T .did er sc w .does p a (B .stands)
+    t₁ = passed .did er sc w₁ .does p a noted
 
     free : Free p s (d .before) a₁
-    free y = (none-pending w m (sym (st .0)), B .count z, omega (arith, B .few z good .1, rows .lines .few))
+    free y = (none, B .count z, omega (arith, B .few z good .1, rows .lines .few))
 
-    t₂ : Stands (pastOf L E R x c) x (h .state) (bufs ev₂ er₂ sc₂) c
-    t₂ = H .does p a₁ i t₁ free
+    K : Handed x s (d .before) h (bufs ev₂ er₂ sc₂) p c
+    K = H .does p a₁ i t₁ free
+
+    abbrev q : Past
+    q = since p (K .records)
 
     bound : h .state .full ≡ 0 → h .before + length (c .chosen) ≤ d .before + (length (x .ids) - d .state .pos) + 1
-    bound y = omega (arith, H .few p a₁ i t₁ free y, T .first, st .1)
+    bound y = omega (arith, K .few y, passed .first, st .1)
 
-    numbered : Numbered (pastOf L E R x c) (h .state) (h .before) c
-    numbered y = (H .count p a₁ i t₁ free y, omega (arith, bound y, B .few z good .1, rows .lines .few))
+    numbered : Numbered q (h .state) (h .before) c
+    numbered y = (K .count y, omega (arith, bound y, B .few z good .1, rows .lines .few))
 
-    t₃ : Stands (told (pastOf L E R x c) x c) x (u .state) (bufs ev₃ er₂ sc₂) (tell c)
-    t₃ = U .does (pastOf L E R x c) c t₂ numbered
+    t₃ : Stands (told q x c) x (u .state) (bufs ev₃ er₂ sc₂) (tell c)
+    t₃ = U .does q c (K .stands) numbered
 
-    t₄ : Stands (pastOf L E R x (P.item L a)) x (r .state) (bufs ev₃ er₂ sc₃) (P.item L a)
-    t₄ = subst (λ (y : Whole). Stands (pastOf L E R x (P.item L a)) x y (bufs ev₃ er₂ sc₃) (P.item L a)) (sym is) (heard (settle-stands x (u .state) ev₃ er₂ sc₂ sc₃ F (told (pastOf L E R x c) x c) c t₃))
+    t₄ : Stands (told q x c) x (r .state) (bufs ev₃ er₂ sc₃) (P.item L a)
+    t₄ = subst (λ (y : Whole). Stands (told q x c) x y (bufs ev₃ er₂ sc₃) (P.item L a)) (sym is) (settle-stands x (u .state) ev₃ er₂ sc₂ sc₃ F (told q x c) c t₃)
 
     was : r .state .full ≡ 0 → u .state .full ≡ 0
     was y = sym (ap (λ (q : Whole). q .full) is) ∙ y
 
+    abbrev new : List Owned
+    new = of-item o (recorded L x (c .chosen))
+
+    new-length : length new ≡ length (c .chosen)
+    new-length = sym (bare-length new) ∙ ap length (bare-of o (recorded L x (c .chosen))) ∙ recorded-length L x (c .chosen)
+
     counted : r .state .full ≡ 0 → r .before ≡ h .before + length (c .chosen)
-    counted y =
-        let v = U .room (was y) in
-        omega (arith, same, U .count (pastOf L E R x c) c t₂ numbered (was y), H .count p a₁ i t₁ free v, length-append (records L x (c .out) []) (recorded L x (c .chosen)), recorded-length L x (c .chosen))
+    counted y = let v = U .room (was y) in omega (arith, same, U .count q c (K .stands) numbered (was y), K .count v, length-append (K .records) new, new-length)
 
     further : r .state .full ≡ 0 → r .state .mode ≡ 0 → d .state .pos < r .state .pos
     further y g =
@@ -259,14 +342,47 @@ module _ {depth : ℕ} (x : Source) (d h u r : Tally) (s : Whole) (ev ev₁ ev�
         let k = item-takes L a (getD (x .ids) (d .state .pos) 0) (drop (suc (d .state .pos)) (x .ids)) (m .mode ∙ ap modeOf good) (m .rest ∙ row) (subst Running (sym (M .mode ∙ ap modeOf g)) tt) in
         omega (arith, k, ap length (M .rest), length-drop (r .state .pos) (x .ids), ap length (m .rest), length-drop (d .state .pos) (x .ids))
 
-    steps : P.item L a ≡ P.items L 1 a
-    steps = sym (items-step L 0 a (getD (x .ids) (d .state .pos) 0) (drop (suc (d .state .pos)) (x .ids)) (m .rest ∙ drop-cons (x .ids) (d .state .pos) 0 l) (m .mode ∙ ap modeOf good))
+    abbrev row : ℕ
+    row = getD (x .ids) (d .state .pos) 0
 
-    between : Between L E R x r (bufs ev₃ er₂ sc₃) (P.item L a)
+    abbrev behind : List ℕ
+    behind = drop (suc (d .state .pos)) (x .ids)
+
+    rest-is : a .rest ≡ row ∷ behind
+    rest-is = m .rest ∙ drop-cons (x .ids) (d .state .pos) 0 l
+
+    steps : P.item L a ≡ P.items L 1 a
+    steps = sym (items-step L 0 a row behind rest-is (m .mode ∙ ap modeOf good))
+
+    -- what the item recorded has its number
+    owned-by : items-in (K .records ++ new) ≡ items-in (B .records) ++ replicate (K .many + length (c .chosen)) o
+    owned-by =
+        items-append (K .records) new
+        ∙ ap₂ (λ (i j : List ℕ). i ++ j) (K .own) (items-of o (recorded L x (c .chosen)) ∙ ap (λ (k : ℕ). replicate k o) (recorded-length L x (c .chosen)))
+        ∙ append-assoc (items-in (B .records)) (replicate (K .many) o) (replicate (length (c .chosen)) o)
+        ∙ ap (λ (l : List ℕ). items-in (B .records) ++ l) (replicate-add (K .many) (length (c .chosen)) o)
+
+    -- and it is as much as the definition's item brings
+    as-many : r .state .full ≡ 0 → K .many + length (c .chosen) ≡ brought L a
+    as-many y =
+        let b : length (items-in (K .records ++ new)) ≡ bads (P.item L a .out) = items-length (K .records ++ new) ∙ sym (ap length (t₄ .means y .written .past)) ∙ bads-records L x (P.item L a .out) [] ∙ add-zero (bads (P.item L a .out)) in
+        let e : length (items-in (B .records)) ≡ bads (a .out) = items-length (B .records) ∙ sym (ap length (m .written .past)) ∙ bads-records L x (a .out) [] ∙ add-zero (bads (a .out)) in
+        omega (arith, b, e, ap length owned-by, length-append (items-in (B .records)) (replicate (K .many + length (c .chosen)) o), length-replicate {A = ℕ} (K .many + length (c .chosen)) o)
+
+    own : r .state .full ≡ 0 → items-in (K .records ++ new) ≡ ns ++ numbers L 1 o a
+    own y =
+        owned-by
+        ∙ ap₂ (λ (j : List ℕ) (k : ℕ). j ++ replicate k o) (B .own z) (as-many y)
+        ∙ ap (λ (j : List ℕ). ns ++ j) (sym (numbers-step L 0 o a row behind rest-is (m .mode ∙ ap modeOf good) ∙ append-nil (replicate (brought L a) o)))
+
+    between : Between L E R (ns ++ numbers L 1 o a) x r (bufs ev₃ er₂ sc₃) (P.item L a)
     between =
         record {
+          records = K .records ++ new;
+          last = o;
+          own = own;
           stands = t₄;
-          count = λ y. same ∙ U .count (pastOf L E R x c) c t₂ numbered (was y) ∙ ap length (sym (settle-stands x (u .state) ev₃ er₂ sc₂ sc₃ F (told (pastOf L E R x c) x c) c t₃ .means (was y) .written .past));
+          count = λ y. same ∙ U .count q c (K .stands) numbered (was y);
           few = λ y g.
               let f = further y g in
               let n = counted y in
@@ -279,10 +395,10 @@ module _ {depth : ℕ} (x : Source) (d h u r : Tally) (s : Whole) (ev ev₁ ev�
         few zero f o b k = omega (arith, o refl, rows .lines .few)
         few (suc i) f o b k = omega (arith, rows .lines .few)
 
-  pub item-goes : Goes depth 1 x d r (bufs ev er sc) (bufs ev₃ er₂ sc₃)
+  pub item-goes : Goes bounds o 1 x d r (bufs ev er sc) (bufs ev₃ er₂ sc₃)
   item-goes =
       record {
-        does = λ L E R a i B. subst (λ (c : P.State). Between L E R x r (bufs ev₃ er₂ sc₃) c) (steps L E R a i B) (between L E R a i B);
+        does = λ L E R ns a i B. subst (λ (c : P.State). Between L E R (ns ++ numbers L 1 o a) x r (bufs ev₃ er₂ sc₃) c) (steps L E R ns a i B) (between L E R ns a i B);
         wf = subst (λ (y : Whole). Wf x (bufs ev₃ er₂ sc₃) y) (sym is) (settle-wf x (u .state) ev₃ er₂ sc₂ sc₃ F long (U .wf));
         settles = subst (λ (y : Whole). Settled y) (sym is) (ap (λ (y : Whole). y .item) (U .is) ∙ sym (ap (λ (y : Whole). y .er) (U .is)), refl);
       }

@@ -10,7 +10,7 @@ use lib.ListN.{length, take, replicate, length-append}
 use Rattle.kinds.specs.Kinds as kinds
 use Rattle.shapes.specs.Sort as Sort
 use Rattle.shapes.specs.Refusal as Refusal
-use Rattle.shapes.specs.Shapes.{EVENT, flat, entries, flat-records}
+use Rattle.shapes.specs.Shapes.{EVENT, flat, entries, owned, flat-records}
 use Rattle.shapes.proofs.Laws.{flat-length}
 use Rattle.definition.specs.Ford.{Res, Ford, rules, star, strip, any-item, Accepts}
 use Rattle.definition.specs.Run as P
@@ -42,7 +42,7 @@ two-events L d n =
     let g = answered L d n in
     let t : P.State = P.read L (d .ids) (d .fuel) in
     let w = ap (λ (a : After). a .event-count) (ap (left-by d) (g .1)) ∙ ap (λ (r : Reading). length (r .events)) (given-is L d (g .0) (g .1) .whole) in
-    omega (arith, w, length-append (inside (source-of d) (t .out)) ((Sort.END, kinds.SOURCE-FILE, 0, length (d .bytes)) ∷ []))
+    omega (arith, w, length-append (inside (source-of d) (t .out)) ((Sort.END, kinds.SOURCE-FILE, 0, length (d .bytes), 0) ∷ []))
 
 result-is : (L : Limits) (d : Desk) (r : D.Reading) (ev er sc : List ℕ) → Promised L d r ev er sc → answered-of ((after L d) .number) (after L d) ≡ r
 unfolding answered-of
@@ -100,7 +100,7 @@ module _ (L : Limits) (d : Desk) {o c e k f : ℕ} {ev er sc : List ℕ} (p : Pr
   pub read-events : ev ≡ filled (flat (read-given .0 .events)) (d .events)
   read-events = ap (λ (a : After). a .events) left
 
-  pub read-errors : er ≡ filled (flat-records (read-given .0 .errors)) (d .errors)
+  pub read-errors : er ≡ filled (flat-records (owned (read-given .0 .errors) (read-given .0 .items))) (d .errors)
   read-errors = ap (λ (a : After). a .errors) left
 
   pub read-scratch : sc ≡ blank (d .scratch)
@@ -120,24 +120,24 @@ module _ (L : Limits) (d : Desk) {o c e k f : ℕ} {ev er sc : List ℕ} (p : Pr
   read-orderly = subst (λ (l : List ℕ). Orderly (marks (entries l))) (sym read-list) (read-in-order L d (read-given .0) (read-given .1))
 
   -- DEMAND 2: "If the reader was not stopped, the error list is empty exactly when the PEG accepts every item."
-  pub read-accepts : o ≡ 0 → (k ≡ 0) ↔ Accepts (d .ids)
+  pub read-accepts : o ≡ 0 → (k ≡ 0) ↔ Accepts (L .entrypoint) (d .ids)
   read-accepts z =
       let i = theorems.demand-2 L d zero-number (sym (ap (λ (a : After). a .outcome) p) ∙ z) in
       let q : k ≡ (after L d) .error-count = ap (λ (a : After). a .error-count) p in
       ((λ h. i .0 (sym q ∙ h)), λ h. q ∙ i .1 h)
 
   -- and as one parsing expression of Ford's
-  pub read-accepts-ford : o ≡ 0 → (k ≡ 0) ↔ ((n : ℕ) × Ford rules (star any-item) (strip (d .ids)) n (Res.yes []))
+  pub read-accepts-ford : o ≡ 0 → (k ≡ 0) ↔ ((n : ℕ) × Ford (rules (L .entrypoint)) (star any-item) (strip (d .ids)) n (Res.yes []))
   read-accepts-ford z =
       let i = theorems.demand-2-ford L d zero-number (sym (ap (λ (a : After). a .outcome) p) ∙ z) in
       let q : k ≡ (after L d) .error-count = ap (λ (a : After). a .error-count) p in
       ((λ h. i .0 (sym q ∙ h)), λ h. q ∙ i .1 h)
 
   -- DEMAND 3: "what it writes up to the closing SOURCE_FILE event is what demand 2 gives inside SOURCE_FILE for the remaining rows as a file of their
-  -- own with fuel f, places and record numbers shifted": whoever reads the remaining rows is given R′, which continues what was given here
+  -- own with fuel f, places and record numbers shifted", and item numbers (request (x)): whoever reads the remaining rows is given R′, which continues what was given here
   pub read-continues : (n : ℕ) (scratch events errors : List ℕ) → let s : P.State = standing L d n in let d′ : Desk = remaining d s scratch events errors in
       Running (s .mode) → words (length (d′ .ids)) ≤ length scratch → length (d .events) ≤ length events → length (d .errors) ≤ length errors →
-      (R′ : Reading) × (answer L d′ ≡ given R′) × Continued L d s (read-given .0) R′
+      (R′ : Reading) × (answer L d′ ≡ given R′) × Continued L d n s (read-given .0) R′
   read-continues n scratch events errors = theorems.demand-3 L d n scratch events errors (read-given .0) (read-given .1)
 
   -- "fuel left is fuel given less the definition's `begin` steps, or 0 if they are more"
@@ -233,5 +233,5 @@ module _ (L : Limits) (d : Desk) {c e k f : ℕ} {ev er sc : List ℕ} (p : Prom
       let y : Answered o′ c′ e′ k′ f′ ≡ Answered (R .outcome) (R .covered) (length (R .events)) (length (R .errors)) (g - P.begin-steps L (d .ids) (d .fuel)) = ap (answered-of 0) w in
       let x : Answered 0 c e k f ≡ Answered (R .outcome) (R .covered) (length (R .events)) (length (R .errors)) (R .left) = ap (answered-of 0) same-after in (
         y ∙ ap (λ (r : D.Reading). with-left r (g - P.begin-steps L (d .ids) (d .fuel))) (sym x) ∙ ap (λ (n : ℕ). Answered 0 c e k (g - n)) steps-are,
-        (flat (R .events), flat-records (R .errors), ap (λ (a : After). a .events) same-after, ap (λ (a : After). a .events) w, ap (λ (a : After). a .errors) same-after, ap (λ (a : After). a .errors) w),
+        (flat (R .events), flat-records (owned (R .errors) (R .items)), ap (λ (a : After). a .events) same-after, ap (λ (a : After). a .events) w, ap (λ (a : After). a .errors) same-after, ap (λ (a : After). a .errors) w),
       )

@@ -13,13 +13,14 @@ use lib.ListN.{length, getD, take, drop, set, replicate, length-append, length-d
 use lib.Seq.{take-append-add, take-append-le, length-take-le}
 use Rattle.kinds.specs.Kinds as k
 use Rattle.shapes.specs.Sort as Sort
-use Rattle.shapes.specs.Shapes.{EVENT, Entry, event, flat, Rec, flat-records}
-use Rattle.shapes.proofs.Laws.{flat-length}
+use Rattle.shapes.specs.Shapes.{EVENT, Entry, event, flat, owned, of-item, flat-records}
+use Rattle.shapes.proofs.Laws.{flat-length, owned-split, bare-length}
 use Rattle.definition.specs.Run as P
 use Rattle.definition.specs.Run.{Mode, ok, failed, stopped}
 use Rattle.definition.specs.Buffer.{buffer}
-use Rattle.definition.specs.Render.{Source, inside, rendered, outcome-of, said, held, records, used, moments, exceeds, over}
-use Rattle.definition.proofs.Buffer.{buffer-length, buffer-read}
+use Rattle.definition.specs.Render.{Source, inside, item-numbers, rendered, outcome-of, said, held, records, used, moments, exceeds, over}
+use Rattle.definition.proofs.Buffer.{buffer-length}
+use Rattle.definition.proofs.Height.{buffer-read}
 use Rattle.notes.specs.Whole.{Whole}
 use Rattle.notes.specs.Bits.{ifb, bitAt}
 use Rattle.notes.specs.Change.{withEv, withFull}
@@ -31,6 +32,9 @@ use Rattle.desk.specs.declared.items.Desk.{Desk}
 use Rattle.desk.specs.Items.{Tally, tally, blank, clean, pastOf, Between, Goes, Settled}
 use Rattle.desk.proofs.Start.{reads}
 use Rattle.desk.specs.Framing.{reading, outcomeOf, Finished, Framed}
+use Rattle.grammar.specs.Table.{reach, allowed, Lent}
+use Rattle.grammar.specs.Rows.{literal, literal-row, rows}
+use Rattle.grammar.proofs.Lines.{rows-lent, rows-allow}
 
 -- zeros have no bit set
 zero-at : (n i : ℕ) → _≡_ {A = ℕ} (getD (replicate n 0) i 0) 0
@@ -48,7 +52,7 @@ blank-wf x fuel evcap ercap quote ev er sc h i j = (
   (
     record { here = omega arith; since = le-refl 0; far-in = omega arith; want-in = omega arith; want-since = λ n. absurd (n refl); unwant-in = omega arith; unwant-since = λ n. absurd (n refl) },
     none-named (replicate 58 0) refl,
-    record { events = omega arith; since = le-refl 0; errors = omega arith },
+    record { events = omega arith; since = le-refl 0; errors = omega arith; numbered = omega arith },
   ),
   record { events = h; errors = i; scratch = j },
 )
@@ -79,12 +83,12 @@ none-chosen : (L : P.Limits) (x : Source) (fuel : ℕ) → reading L x fuel .cho
 none-chosen L x fuel = items-chosen L (length (x .ids)) (P.start (x .ids) fuel) refl
 
 -- events one after another
-flat-end : (a : List Entry) (q : Entry) → flat (a ++ (q ∷ [])) ≡ flat a ++ event (q .0) (q .1) (q .2) (q .3)
+flat-end : (a : List Entry) (q : Entry) → flat (a ++ (q ∷ [])) ≡ flat a ++ event (q .0) (q .1) (q .2) (q .3) (q .4)
 flat-end [] q = refl
-flat-end (e ∷ a) q = ap (λ (l : List ℕ). e .0 ∷ e .1 ∷ e .2 ∷ e .3 ∷ l) (flat-end a q)
+flat-end (e ∷ a) q = ap (λ (l : List ℕ). e .0 ∷ e .1 ∷ e .2 ∷ e .3 ∷ e .4 ∷ l) (flat-end a q)
 
 module _ (L : P.Limits) (x : Source) (fuel evcap R : ℕ) {d : Tally} {t : Whole} {ev₁ ev₂ er sc : List ℕ}
-    (B : Between L (evcap + EVENT) R x d (bufs ev₁ er sc) (reading L x fuel)) (w : Wf x (bufs ev₁ er sc) (d .state)) (put : Put (event Sort.END k.SOURCE-FILE 0 (length (x .bytes))) (d .state) t ev₁ ev₂) where
+    (B : Between L (evcap + EVENT) R (item-numbers L (x .ids) fuel) x d (bufs ev₁ er sc) (reading L x fuel)) (w : Wf x (bufs ev₁ er sc) (d .state)) (put : Put (event Sort.END k.SOURCE-FILE 0 (length (x .bytes)) 0) (d .state) t ev₁ ev₂) where
   a : P.State
   a = reading L x fuel
 
@@ -106,7 +110,7 @@ module _ (L : P.Limits) (x : Source) (fuel evcap R : ℕ) {d : Tally} {t : Whole
       go (no n) = put .stuck n ∙ past ∙ sym (full-first _ _ (λ z. n (past ∙ z)))
       go (yes z) = subst goal (sym z ∙ past) (fits (decLt (d .state .evcap) (d .state .ev + EVENT)))
         where
-          m : Means (pastOf L (evcap + EVENT) R x (reading L x fuel)) x (d .state) (bufs ev₁ er sc) (reading L x fuel)
+          m : Means (pastOf L (evcap + EVENT) R (B .records) (B .last)) x (d .state) (bufs ev₁ er sc) (reading L x fuel)
           m = B .stands .means z
 
           room : evcap + EVENT ≡ d .state .evcap + EVENT
@@ -126,32 +130,35 @@ module _ (L : P.Limits) (x : Source) (fuel evcap R : ℕ) {d : Tally} {t : Whole
           fits (no h) = put .filled z ∙ ap (λ (c : Bool). ifb c 7 0) (le-ltb (d .state .evcap) (d .state .ev + EVENT) (omega (arith, h))) ∙ sym (exceeds-none (evcap + EVENT) R last (omega (arith, h, room, many)) told)
 
   -- the finished lists, where none is
-  module _ (z : t .full ≡ 0) where
-    m : Means (pastOf L (evcap + EVENT) R x (reading L x fuel)) x (d .state) (bufs ev₁ er sc) (reading L x fuel)
+  module _ (low : L .depth + 2 < 4294967296) (z : t .full ≡ 0) where
+    m : Means (pastOf L (evcap + EVENT) R (B .records) (B .last)) x (d .state) (bufs ev₁ er sc) (reading L x fuel)
     m = B .stands .means (put .room z)
 
-    inner : take (t .ev) ev₂ ≡ flat (inside x (reading L x fuel .out)) ++ event Sort.END k.SOURCE-FILE 0 (length (x .bytes))
-    inner = put .wrote z ∙ ap (λ (l : List ℕ). l ++ event Sort.END k.SOURCE-FILE 0 (length (x .bytes))) (m .written .is ∙ buffer-read x L (x .ids) fuel)
+    inner : take (t .ev) ev₂ ≡ flat (inside x (reading L x fuel .out)) ++ event Sort.END k.SOURCE-FILE 0 (length (x .bytes)) 0
+    inner = put .wrote z ∙ ap (λ (l : List ℕ). l ++ event Sort.END k.SOURCE-FILE 0 (length (x .bytes)) 0) (m .written .is ∙ buffer-read L x low (x .ids) fuel)
 
     fits : t .ev ≤ length ev₂
     fits = omega (arith, put .fits, w .1 .events, put .long)
 
-    events-are : (first rest : List ℕ) → first ≡ event Sort.BEGIN k.SOURCE-FILE 0 (length (x .bytes)) → take (t .ev + EVENT) (first ++ (ev₂ ++ rest)) ≡ flat (rendered L x (reading L x fuel) .events)
+    events-are : (first rest : List ℕ) → first ≡ event Sort.BEGIN k.SOURCE-FILE 0 (length (x .bytes)) 0 → take (t .ev + EVENT) (first ++ (ev₂ ++ rest)) ≡ flat (rendered L x (item-numbers L (x .ids) fuel) (reading L x fuel) .events)
     events-are first rest e =
         ap (λ (l : List ℕ). take (t .ev + EVENT) (l ++ (ev₂ ++ rest))) e
-        ∙ ap (λ (n : ℕ). take n (event Sort.BEGIN k.SOURCE-FILE 0 (length (x .bytes)) ++ (ev₂ ++ rest))) (add-comm (t .ev) EVENT)
-        ∙ take-append-add (event Sort.BEGIN k.SOURCE-FILE 0 (length (x .bytes))) (ev₂ ++ rest) (t .ev)
-        ∙ ap (λ (l : List ℕ). event Sort.BEGIN k.SOURCE-FILE 0 (length (x .bytes)) ++ l)
-        (take-append-le (t .ev) ev₂ rest fits ∙ inner ∙ sym (flat-end (inside x (reading L x fuel .out)) (Sort.END, k.SOURCE-FILE, 0, length (x .bytes))))
+        ∙ ap (λ (n : ℕ). take n (event Sort.BEGIN k.SOURCE-FILE 0 (length (x .bytes)) 0 ++ (ev₂ ++ rest))) (add-comm (t .ev) EVENT)
+        ∙ take-append-add (event Sort.BEGIN k.SOURCE-FILE 0 (length (x .bytes)) 0) (ev₂ ++ rest) (t .ev)
+        ∙ ap (λ (l : List ℕ). event Sort.BEGIN k.SOURCE-FILE 0 (length (x .bytes)) 0 ++ l)
+        (take-append-le (t .ev) ev₂ rest fits ∙ inner ∙ sym (flat-end (inside x (reading L x fuel .out)) (Sort.END, k.SOURCE-FILE, 0, length (x .bytes), 0)))
 
-    records-are : take (d .state .er) er ≡ flat-records (records L x (reading L x fuel .out) [])
+    records-are : take (d .state .er) er ≡ flat-records (owned (records L x (reading L x fuel .out) []) (item-numbers L (x .ids) fuel))
     unfolding recorded
-    records-are = m .chosen .is ∙ ap (λ (c : List (ℕ × P.Choice)). flat-records (records L x (reading L x fuel .out) [] ++ recorded L x c)) (none-chosen L x fuel) ∙ ap flat-records (append-nil (records L x (reading L x fuel .out) []))
+    records-are =
+        m .chosen .is
+        ∙ ap (λ (c : List (ℕ × P.Choice)). flat-records (B .records ++ of-item (B .last) (recorded L x c))) (none-chosen L x fuel)
+        ∙ ap flat-records (append-nil (B .records) ∙ sym (owned-split (B .records)) ∙ ap₂ owned (sym (m .written .past)) (B .own (put .room z)))
 
-    many-events : t .ev + EVENT ≡ EVENT * length (rendered L x (reading L x fuel) .events)
+    many-events : t .ev + EVENT ≡ EVENT * length (rendered L x (item-numbers L (x .ids) fuel) (reading L x fuel) .events)
     many-events =
         let i = inside x (reading L x fuel .out) in
-        omega (arith, put .more z, ev-count w m, sym (flat-length i) ∙ ap length (sym (buffer-read x L (x .ids) fuel)) ∙ buffer-length x (reading L x fuel .out), length-append i ((Sort.END, k.SOURCE-FILE, 0, length (x .bytes)) ∷ []))
+        omega (arith, put .more z, ev-count w m, sym (flat-length i) ∙ ap length (sym (buffer-read L x low (x .ids) fuel)) ∙ buffer-length x (reading L x fuel .out), length-append i ((Sort.END, k.SOURCE-FILE, 0, length (x .bytes), 0) ∷ []))
 
     covered : d .state .pos ≡ length (x .ids) - length (reading L x fuel .rest)
     covered = omega (arith, ap length (m .rest) ∙ length-drop (d .state .pos) (x .ids), w .0 .0 .here)
@@ -159,7 +166,7 @@ module _ (L : P.Limits) (x : Source) (fuel evcap R : ℕ) {d : Tally} {t : Whole
     field : {A : Type 0} (f : Whole → A) → f t ≡ f (withEv (t .ev) (withFull (t .full) (d .state)))
     field f = ap f (put .is)
 
-    pub finished : (first rest : List ℕ) → first ≡ event Sort.BEGIN k.SOURCE-FILE 0 (length (x .bytes)) → Finished L x fuel (record { state = t; before = d .before }) (first ++ (ev₂ ++ rest)) er
+    pub finished : (first rest : List ℕ) → first ≡ event Sort.BEGIN k.SOURCE-FILE 0 (length (x .bytes)) 0 → Finished L x fuel (record { state = t; before = d .before }) (first ++ (ev₂ ++ rest)) er
     finished first rest e =
         record {
           events = events-are first rest e;
@@ -169,12 +176,16 @@ module _ (L : P.Limits) (x : Source) (fuel evcap R : ℕ) {d : Tally} {t : Whole
           outcome = ap outcomeOf (field (λ s. s .mode)) ∙ ap outcome-of (sym (m .mode));
           covered = field (λ s. s .pos) ∙ covered;
           event-count = many-events;
-          error-count = B .count (put .room z);
+          error-count = B .count (put .room z) ∙ sym (bare-length (B .records)) ∙ ap length (sym (m .written .past));
           left = field (λ s. s .fuel) ∙ sym (m .fuel);
         }
 
+-- the table as it is laid out, entrypoint allowed or not
+pub laid : (E : Bool) {r : ℕ} → r ≡ literal-row E → Lent (set (rows true) literal r) × (allowed (set (rows true) literal r) ≡ E)
+laid E e = subst (λ (r : ℕ). Lent (set (rows true) literal r) × (allowed (set (rows true) literal r) ≡ E)) (sym e) (rows-lent E, rows-allow E)
+
 -- all items, from nothing on: xs are the events with the begin event, whose other cells are lent, and l₀ the list of notes
-module _ (L : P.Limits) (x : Source) (fuel : ℕ) (xs er₀ sc₀ l₀ : List ℕ) {d₀ : Desk} (e : d₀ ≡ blank fuel (length xs - EVENT)) (n : l₀ ≡ replicate 68 0) where
+module _ (L : P.Limits) (x : Source) (fuel : ℕ) (xs er₀ sc₀ l₀ : List ℕ) {d₀ : Desk} (e : d₀ ≡ blank fuel (length xs - EVENT)) (n : l₀ ≡ replicate 69 0) where
   abbrev first : Tally
   first = tally d₀ (set (set l₀ 5 (length er₀)) 9 (L .quote))
 
@@ -186,22 +197,22 @@ module _ (L : P.Limits) (x : Source) (fuel : ℕ) (xs er₀ sc₀ l₀ : List �
       subst (λ (c : Tally). Wf x (bufs (midOf EVENT (length xs - EVENT) xs) er₀ sc₀) (c .state) × Settled (c .state)) (sym begins)
       (blank-wf x fuel (length xs - EVENT) (length er₀) (L .quote) (midOf EVENT (length xs - EVENT) xs) er₀ sc₀ (omega (arith, mid-len EVENT (length xs) xs (le-refl (length xs)))) (le-refl (length er₀)) i, (refl, refl))
 
-  pub frames : {depth : ℕ} {d : Tally} {t : Whole} {ev₁ ev₂ er sc : List ℕ} → sc₀ ≡ replicate (length sc₀) 0 → EVENT ≤ length xs → (E : ℕ) → length xs ≡ E → take EVENT xs ≡ event Sort.BEGIN k.SOURCE-FILE 0 (length (x .bytes)) → L .depth ≡ depth →
-      Goes depth (length (x .ids)) x first d (bufs (midOf EVENT (length xs - EVENT) xs) er₀ sc₀) (bufs ev₁ er sc) → Put (event Sort.END k.SOURCE-FILE 0 (length (x .bytes))) (d .state) t ev₁ ev₂ →
+  pub frames : {bounds : ℕ × Bool} {d : Tally} {t : Whole} {ev₁ ev₂ er sc : List ℕ} → sc₀ ≡ replicate (length sc₀) 0 → EVENT ≤ length xs → (E : ℕ) → length xs ≡ E → take EVENT xs ≡ event Sort.BEGIN k.SOURCE-FILE 0 (length (x .bytes)) 0 → reach L ≡ bounds → L .depth + 2 < 4294967296 →
+      Goes bounds 1 (length (x .ids)) x first d (bufs (midOf EVENT (length xs - EVENT) xs) er₀ sc₀) (bufs ev₁ er sc) → Put (event Sort.END k.SOURCE-FILE 0 (length (x .bytes)) 0) (d .state) t ev₁ ev₂ →
       Framed L x fuel E (length er₀) (record { state = t; before = d .before }) (putMid EVENT (length xs - EVENT) xs ev₂) er
-  frames {depth} {d} {t} {ev₁} {ev₂} {er} {sc} none h E whole front deep g put =
+  frames {bounds} {d} {t} {ev₁} {ev₂} {er} {sc} none h E whole front deep low g put =
       record {
         full = exceeded L x fuel (length xs - EVENT) (length er₀) B (g .wf) put ∙ ap (λ (n : ℕ). over n (length er₀) (moments L x (reading L x fuel))) room;
-        finished = λ z. finished L x fuel (length xs - EVENT) (length er₀) B (g .wf) put z (take EVENT xs) (postOf EVENT (length xs - EVENT) xs) front;
+        finished = λ z. finished L x fuel (length xs - EVENT) (length er₀) B (g .wf) put low z (take EVENT xs) (postOf EVENT (length xs - EVENT) xs) front;
       }
     where
       room : length xs - EVENT + EVENT ≡ E
       room = omega (arith, h, whole)
 
-      B : Between L (length xs - EVENT + EVENT) (length er₀) x d (bufs ev₁ er sc) (reading L x fuel)
+      B : Between L (length xs - EVENT + EVENT) (length er₀) (item-numbers L (x .ids) fuel) x d (bufs ev₁ er sc) (reading L x fuel)
       B =
           reads L x fuel (length xs - EVENT) (length er₀) (midOf EVENT (length xs - EVENT) xs) er₀ sc₀ (λ i. ap (λ (l : List ℕ). bitAt l i) none ∙ no-bits (length sc₀) i) deep
-          (subst (λ (c : Tally). Goes depth (length (x .ids)) x c d (bufs (midOf EVENT (length xs - EVENT) xs) er₀ sc₀) (bufs ev₁ er sc)) begins g)
+          (subst (λ (c : Tally). Goes bounds 1 (length (x .ids)) x c d (bufs (midOf EVENT (length xs - EVENT) xs) er₀ sc₀) (bufs ev₁ er sc)) begins g)
 
 -- outcomes by the code's mode
 pub done : (m : ℕ) → m < 2 → 0 ≡ outcomeOf m

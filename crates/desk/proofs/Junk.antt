@@ -1,6 +1,6 @@
 -- A row that begins no rule: its ERROR node, form 10's record and event. Assumes nothing.
 use Prim.Native.Nat.{ℕ, _+_, _-_, _≤_}
-use mathlib.Core.Path.{_≡_, sym, ap, _∙_}
+use mathlib.Core.Path.{_≡_, sym, ap, ap₂, _∙_}
 use mathlib.Core.List.{List, _∷_, _++_}
 use native.Mathlib.Nat.{le-trans}
 use native.Mathlib.Omega.{arith}
@@ -11,7 +11,7 @@ use Rattle.shapes.specs.Sort as Sort
 use Rattle.shapes.specs.Shapes.{EVENT, event}
 use Rattle.definition.specs.Run as P
 use Rattle.definition.specs.Run.{opened}
-use Rattle.definition.specs.Buffer.{buffer}
+use Rattle.definition.specs.Buffer.{placed, buffer}
 use Rattle.definition.specs.Open.{Open}
 use Rattle.definition.specs.Render.{Source, starts-at}
 use Rattle.definition.proofs.Buffer.{buffer-opened, adding}
@@ -19,7 +19,7 @@ use Rattle.notes.specs.Whole.{Whole}
 use Rattle.notes.specs.Means.{bufs, Past, Lines, overOf}
 use Rattle.notes.specs.Did.{Ok, Wf, Did, Events, Put, Shuts, shutA}
 use Rattle.notes.proofs.Rooms.{ev-count}
-use Rattle.notes.proofs.Core.{Sticky, sticky-mark, like-at, like-same, alike, writes, ok-put, caps-put}
+use Rattle.notes.proofs.Core.{Sticky, sticky-mark, like-at, like-same, alike, depth-is, writes, ok-put, caps-put}
 use Rattle.notes.proofs.Sticky.{Sticks, sticky-trans, sticky-skip, sticky-shut}
 use Rattle.steps.proofs.Taken.{row, start-is}
 use Rattle.steps.proofs.Ends.{enough, lent}
@@ -47,14 +47,14 @@ pub any : (x : Source) (s : Whole) (ev : List ℕ) → Ok (length (x .ids)) s �
 any x s ev w h = lent x s ev (replicate (s .ercap) 0) w h (omega (arith, length-replicate {A = ℕ} (s .ercap) 0))
 
 module _ (x : Source) {s s₁ : Whole} {ev ev₁ : List ℕ} (st : ℕ) (l : Lines (x .ids) (x .ends)) (w : Ok (length (x .ids)) s) (h : s .evcap ≤ length ev) (q : st ≡ getD (0 ∷ x .ends) (s .pos) 0)
-    (u : Put (event Sort.BEGIN 0 st st) s s₁ ev ev₁) where
+    (u : Put (placed Sort.BEGIN 0 st st ev (s .ev)) s s₁ ev ev₁) where
   junk-opens : (er sc : List ℕ) → Wf x (bufs ev er sc) s → Did opens x s s₁ (bufs ev er sc) (bufs ev₁ er sc)
   junk-opens er sc v =
       writes u (λ a. opened (length (a .rest))) (λ a. tt) v
       (λ p a m.
       let e : length (x .ids) - length (a .rest) ≡ s .pos = ap (λ (r : List ℕ). length (x .ids) - length r) (m .rest) ∙ row (s .pos) (x .ids) (w .0 .here) in
       let z : starts-at x (length (a .rest)) ≡ st = start-is x (length (a .rest)) (s .pos) e (omega (arith, l .level, w .0 .here)) ∙ sym q in
-      buffer-opened x (length (a .rest)) (a .out) ∙ ap (λ (i : ℕ). buffer x (a .out) ++ event Sort.BEGIN 0 i i) z)
+      buffer-opened x (length (a .rest)) (a .out) ∙ ap₂ (λ (i d : ℕ). buffer x (a .out) ++ event Sort.BEGIN 0 i i d) z (sym (depth-is v m)))
 
   place : s₁ .pos ≡ s .pos
   place = ap (λ (y : Whole). y .pos) (u .is)

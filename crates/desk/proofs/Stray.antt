@@ -7,7 +7,7 @@ use native.Mathlib.Omega.{arith}
 use borrow.Author.Tests.{ltb-true, ltb-false}
 use lib.Dec.{ltb}
 use lib.ListN.{length, getD, length-drop}
-use Rattle.shapes.specs.Shapes.{HEAD, Rec, flat-records}
+use Rattle.shapes.specs.Shapes.{HEAD, Rec, flat-records, of-item}
 use Rattle.definition.specs.Run as P
 use Rattle.definition.specs.Run.{Choice, bad, stray}
 use Rattle.definition.specs.Render.{Source, used, held}
@@ -48,11 +48,11 @@ sticky-stray p x a =
     (sticky-junk p x (P.blame a))
 
 module _ (x : Source) (s s₁ : Whole) (before st en : ℕ) (ev er er₁ sc : List ℕ) (l : Lines (x .ids) (x .ends)) (h : s .pos < length (x .ids)) (z : s .full ≡ 0) (w : Wf x (bufs ev er sc) s)
-    (q : st ≡ getD (0 ∷ x .ends) (s .pos) 0) (q′ : en ≡ getD (x .ends) (s .pos) 0) (u : C.Noted (st ∷ en ∷ 10 ∷ 0 ∷ []) s s₁ er er₁) where
+    (q : st ≡ getD (0 ∷ x .ends) (s .pos) 0) (q′ : en ≡ getD (x .ends) (s .pos) 0) (u : C.Noted (st ∷ en ∷ 10 ∷ s .number ∷ 0 ∷ []) s s₁ er er₁) where
   pub noted-wf : Wf x (bufs ev er₁ sc) s₁
   noted-wf =
       subst (λ (y : Whole). Wf x (bufs ev er₁ sc) y) (sym (u .is))
-      ((w .0 .0, w .0 .1, record { events = w .0 .2 .events; since = omega (arith, w .0 .2 .since, u .grows); errors = u .fits }), record { events = w .1 .events; errors = omega (arith, w .1 .errors, u .long); scratch = w .1 .scratch })
+      ((w .0 .0, w .0 .1, record { events = w .0 .2 .events; since = omega (arith, w .0 .2 .since, u .grows); errors = u .fits; numbered = w .0 .2 .numbered }), record { events = w .1 .events; errors = omega (arith, w .1 .errors, u .long); scratch = w .1 .scratch })
 
   module _ (p : Past) (a : P.State) (t : Stands p x s (bufs ev er sc) a) (e : a .chosen ≡ []) where
     abbrev one : List (ℕ × Choice)
@@ -64,10 +64,11 @@ module _ (x : Source) (s s₁ : Whole) (before st en : ℕ) (ev er er₁ sc : Li
     back : length (x .ids) - length (a .rest) ≡ s .pos
     back = ap (λ (r : List ℕ). length (x .ids) - length r) (m .rest) ∙ row (s .pos) (x .ids) (w .0 .0 .here)
 
-    numbers : _≡_ {A = List ℕ} (st ∷ en ∷ 10 ∷ 0 ∷ []) (flat-records (recorded (p .limits) x one))
+    numbers : _≡_ {A = List ℕ} (st ∷ en ∷ 10 ∷ s .number ∷ 0 ∷ []) (flat-records (of-item (p .number) (recorded (p .limits) x one)))
     unfolding recorded
     numbers =
-        ap₂ (λ (i j : ℕ). i ∷ j ∷ 10 ∷ 0 ∷ []) (q ∙ sym (start-is x (length (a .rest)) (s .pos) back (omega (arith, l .level, w .0 .0 .here)))) (q′ ∙ sym (end-is x (length (a .rest)) (s .pos) back (omega (arith, l .level))))
+        ap (λ (i : ℕ). st ∷ en ∷ 10 ∷ i ∷ 0 ∷ []) (sym (m .chosen .numbered))
+        ∙ ap₂ (λ (i j : ℕ). i ∷ j ∷ 10 ∷ p .number ∷ 0 ∷ []) (q ∙ sym (start-is x (length (a .rest)) (s .pos) back (omega (arith, l .level, w .0 .0 .here)))) (q′ ∙ sym (end-is x (length (a .rest)) (s .pos) back (omega (arith, l .level))))
 
     noted-over : s₁ .full ≡ overOf p x (noted a)
     unfolding overOf
@@ -95,11 +96,12 @@ module _ (x : Source) (s s₁ : Whole) (before st en : ℕ) (ev er er₁ sc : Li
               record {
                 is =
                     u .wrote y
-                    ∙ ap₂ (λ (i j : List ℕ). i ++ j) (m .chosen .is ∙ ap (λ (r : List Rec). flat-records (p .records ++ r)) none ∙ ap flat-records (append-nil (p .records))) numbers
-                    ∙ sym (flat-append (p .records) (recorded (p .limits) x one));
+                    ∙ ap₂ (λ (i j : List ℕ). i ++ j) (m .chosen .is ∙ ap (λ (r : List Rec). flat-records (p .records ++ of-item (p .number) r)) none ∙ ap flat-records (append-nil (p .records))) numbers
+                    ∙ sym (flat-append (p .records) (of-item (p .number) (recorded (p .limits) x one)));
                 since = m .chosen .since;
                 room = m .chosen .room;
                 quoted = m .chosen .quoted;
+                numbered = m .chosen .numbered;
                 apart = (omega (arith, ap length (m .rest), length-drop (s .pos) (x .ids), w .0 .0 .since), refl, tt);
               };
           cache = m .cache;

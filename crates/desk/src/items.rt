@@ -9,6 +9,7 @@ use notes::names::ER;
 use notes::names::FAR;
 use notes::names::FIRST;
 use notes::names::ITEM;
+use notes::names::NUMBER;
 use notes::names::UNWANT;
 use notes::names::WANT;
 use notes::rows::start_of;
@@ -18,6 +19,7 @@ use shapes::record::HEAD;
 use shapes::record::next_record;
 use shapes::sort;
 use steps::state::State;
+use steps::state::around;
 ghost use mathlib.Core.Path.{_≡_};
 ghost use mathlib.Core.List.{List, []};
 ghost use Prim.Native.Nat.{ℕ, _*_, _≤_, _<_};
@@ -28,7 +30,7 @@ ghost use Rattle.notes.specs.Bits.{Forgot};
 ghost use Rattle.notes.specs.Means.{source, bufs, Lines, Rows};
 ghost use Rattle.notes.specs.Did.{Wf, Coded};
 ghost use Rattle.steps.specs.Steps.{whole, Tabled, Fits, Ready, Writes};
-ghost use Rattle.grammar.specs.Table.{Lends};
+ghost use Rattle.grammar.specs.Table.{allowed, Lends};
 ghost use Rattle.desk.specs.Items as Items;
 ghost use Rattle.desk.specs.Items.{tally, Flushed, Tells, Strays, Hands, Goes, Settled, settled, junk-node};
 
@@ -43,6 +45,7 @@ pub fn flush(mut s: State, before: u32, records: &[u32], events: &mut [u32]) -> 
     requires { ⌜ Fits s (now events) ⌝ }
     ensures { λ r. ⌜ ((l : List ℕ) → Flushed (now (records .entry)) before (whole s l) (tally r l) (now (events .entry)) (now (events .exit))) ⌝ }
 {
+    let depth = around(s.ev, events);
     let mut at = 0;
     let mut index = before;
     while at + HEAD <= records.len() {
@@ -54,7 +57,7 @@ pub fn flush(mut s: State, before: u32, records: &[u32], events: &mut [u32]) -> 
         }
         let start = records[at];
         let end = records[at + END];
-        s = s.put(sort::ERROR, index, start, end, events);
+        s = s.write(sort::ERROR, index, start, end, depth, events);
         index += 1;
         at = next_record(records, at);
     }
@@ -70,7 +73,7 @@ pub fn tell(
     before: u32,
     errors: &[u32],
     events: &mut [u32],
-    notes: &mut [usize; 68],
+    notes: &mut [usize; 69],
 ) -> Desk
     requires { ⌜ Fits s (now events) × (itemOf (now notes) ≤ erOf (now notes)) × (erOf (now notes) ≤ length (now errors)) ⌝ }
     ensures { λ r. ⌜
@@ -91,7 +94,7 @@ pub fn junk(
     ids: &[u32],
     ends: &[u32],
     events: &mut [u32],
-    sets: &[[u64; 2]; 55],
+    sets: &[[u64; 2]; 56],
 ) -> State
     requires { ⌜ Lines (now ids) (now ends) × Fits s (now events) × (s .pos ≤ length (now ids)) × Tabled (now sets) ⌝ }
     ensures { λ r. ⌜ Writes junk-node (now (ids .entry)) (now (ends .entry)) s r (now (events .entry)) (now (events .exit)) ⌝ }
@@ -112,8 +115,8 @@ pub fn stray(
     ends: &[u32],
     events: &mut [u32],
     errors: &mut [u32],
-    notes: &mut [usize; 68],
-    sets: &[[u64; 2]; 55],
+    notes: &mut [usize; 69],
+    sets: &[[u64; 2]; 56],
 ) -> Desk
     requires { ⌜
         Ready (now ids) (now ends) s (now notes) (now events)
@@ -151,16 +154,16 @@ pub fn at_hand(
     events: &mut [u32],
     errors: &mut [u32],
     scratch: &mut [u64],
-    notes: &mut [usize; 68],
+    notes: &mut [usize; 69],
     table: &[u32; 288],
-    sets: &[[u64; 2]; 55],
+    sets: &[[u64; 2]; 56],
 ) -> Desk
     requires { ⌜
         Rows (source (now src) (now ids) (now ends))
         × Wf (source (now src) (now ids) (now ends)) (bufs (now events) (now errors) (now scratch)) (whole s (now notes))
         × Lends (now table) (now sets) ⌝ }
     ensures { λ r. ⌜
-        Hands depth (source (now (src .entry)) (now (ids .entry)) (now (ends .entry))) (whole s (now (notes .entry))) before
+        Hands (depth, allowed (now (table .entry))) (source (now (src .entry)) (now (ids .entry)) (now (ends .entry))) (whole s (now (notes .entry))) before
         (tally r (now (notes .exit))) (bufs (now (events .entry)) (now (errors .entry)) (now (scratch .entry)))
         (bufs (now (events .exit)) (now (errors .exit)) (now (scratch .exit))) ⌝ }
 {
@@ -202,7 +205,7 @@ pub fn at_hand(
 }
 
 // What an item leaves behind is given up, but for place, fuel and outputs.
-pub fn settle(d: Desk, scratch: &mut [u64], notes: &mut [usize; 68]) -> Desk
+pub fn settle(d: Desk, scratch: &mut [u64], notes: &mut [usize; 69]) -> Desk
     requires { ⌜ (2 * farOf (now notes) ≤ 64 * length (now scratch)) × Coded (now notes) ⌝ }
     ensures { λ r. ⌜
         (whole (r .state) (now (notes .exit)) ≡ settled (whole (d .state) (now (notes .entry))))
@@ -244,9 +247,10 @@ pub fn over(s: State, ids: &[u32]) -> bool
     s.pos >= ids.len()
 }
 
-// One item, if the state is in good order and rows are left.
+// One item with its number, if the state is in good order and rows are left.
 pub fn item(
     d: Desk,
+    number: usize,
     depth: usize,
     src: &[u8],
     ids: &[u32],
@@ -254,17 +258,18 @@ pub fn item(
     events: &mut [u32],
     errors: &mut [u32],
     scratch: &mut [u64],
-    notes: &mut [usize; 68],
+    notes: &mut [usize; 69],
     table: &[u32; 288],
-    sets: &[[u64; 2]; 55],
+    sets: &[[u64; 2]; 56],
 ) -> Desk
     requires { ⌜
         Rows (source (now src) (now ids) (now ends))
         × Wf (source (now src) (now ids) (now ends)) (bufs (now events) (now errors) (now scratch)) (whole (d .state) (now notes))
         × Settled (whole (d .state) (now notes))
+        × (number ≤ length (now ids))
         × Lends (now table) (now sets) ⌝ }
     ensures { λ r. ⌜
-        Goes depth 1 (source (now (src .entry)) (now (ids .entry)) (now (ends .entry))) (tally d (now (notes .entry)))
+        Goes (depth, allowed (now (table .entry))) number 1 (source (now (src .entry)) (now (ids .entry)) (now (ends .entry))) (tally d (now (notes .entry)))
         (tally r (now (notes .exit))) (bufs (now (events .entry)) (now (errors .entry)) (now (scratch .entry)))
         (bufs (now (events .exit)) (now (errors .exit)) (now (scratch .exit))) ⌝ }
 {
@@ -272,6 +277,7 @@ pub fn item(
     if over(s, ids) {
         return d;
     }
+    notes[NUMBER] = number;
     let t = s.trivia(ids, ends, events);
     let h = at_hand(
         t,
@@ -291,7 +297,7 @@ pub fn item(
     settle(u, scratch, notes)
 }
 
-// All items: each takes a row, so there are no more of them than rows.
+// All items, numbered from 1: each takes a row, so there are no more of them than rows.
 pub fn items(
     mut d: Desk,
     depth: usize,
@@ -301,9 +307,9 @@ pub fn items(
     events: &mut [u32],
     errors: &mut [u32],
     scratch: &mut [u64],
-    notes: &mut [usize; 68],
+    notes: &mut [usize; 69],
     table: &[u32; 288],
-    sets: &[[u64; 2]; 55],
+    sets: &[[u64; 2]; 56],
 ) -> Desk
     requires { ⌜
         Rows (source (now src) (now ids) (now ends))
@@ -311,7 +317,7 @@ pub fn items(
         × Settled (whole (d .state) (now notes))
         × Lends (now table) (now sets) ⌝ }
     ensures { λ r. ⌜
-        Goes depth (length (now (ids .entry))) (source (now (src .entry)) (now (ids .entry)) (now (ends .entry))) (tally d (now (notes .entry)))
+        Goes (depth, allowed (now (table .entry))) 1 (length (now (ids .entry))) (source (now (src .entry)) (now (ids .entry)) (now (ends .entry))) (tally d (now (notes .entry)))
         (tally r (now (notes .exit))) (bufs (now (events .entry)) (now (errors .entry)) (now (scratch .entry)))
         (bufs (now (events .exit)) (now (errors .exit)) (now (scratch .exit))) ⌝ }
 {
@@ -322,6 +328,7 @@ pub fn items(
         }
         d = item(
             d,
+            ids.len() - n + 1,
             depth,
             src,
             ids,

@@ -3,6 +3,8 @@ use crate::items::Desk;
 use crate::items::items;
 use cells::clear;
 use cells::wipe;
+use grammar::parts::literal;
+use grammar::table::LITERAL;
 use grammar::table::ROWS;
 use kinds::SETS;
 use kinds::kind;
@@ -10,6 +12,7 @@ use notes::names::ER;
 use notes::names::ERCAP;
 use notes::names::QUOTE;
 use refusals::judged;
+use shapes::event::DEPTH;
 use shapes::event::END;
 use shapes::event::EVENT;
 use shapes::event::KIND;
@@ -31,10 +34,12 @@ ghost use Rattle.desk.specs.Items as Items;
 ghost use Rattle.desk.specs.Items.{tally};
 ghost use Rattle.desk.specs.Framing.{limitsOf, Framed, afterOf, answering, outcomeOf};
 
-// How many nodes may be open besides SOURCE_FILE, and how long a found text may be to be quoted. Any values will do; each open node takes stack.
+// How many nodes may be open besides SOURCE_FILE, how long a found text may be to be quoted, and whether entrypoint is a term. Any values will do; each
+// open node takes stack. A depth of 16 bits keeps every event's depth within its cell.
 pub struct Limits {
-    pub depth: usize,
-    pub quote: usize,
+    pub depth: u16,
+    pub quote: u8,
+    pub entrypoint: bool,
 }
 
 // Document 01's limits.
@@ -44,6 +49,7 @@ pub fn base() -> Limits
     Limits {
         depth: 1024,
         quote: 15,
+        entrypoint: true,
     }
 }
 
@@ -99,14 +105,14 @@ fn whole(
     scratch: &mut [u64],
     events: &mut [u32],
     errors: &mut [u32],
-    notes: &mut [usize; 68],
+    notes: &mut [usize; 69],
 ) -> Desk
     requires { ⌜
         Rows (source (now src) (now ids) (now ends))
         × (now scratch ≡ replicate (length (now scratch)) 0)
         × (2 * (length (now ids) + 1) ≤ 64 * length (now scratch))
         × (EVENT ≤ length (now events))
-        × (now notes ≡ replicate 68 0) ⌝ }
+        × (now notes ≡ replicate 69 0) ⌝ }
     ensures { λ r. ⌜
         Framed (limitsOf limits) (source (now (src .entry)) (now (ids .entry)) (now (ends .entry))) fuel (length (now (events .entry)))
         (length (now (errors .entry))) (tally r (now (notes .exit))) (now (events .exit)) (now (errors .exit)) ⌝ }
@@ -116,15 +122,17 @@ fn whole(
     events[KIND] = kind::SOURCE_FILE;
     events[START] = 0;
     events[END] = size;
+    events[DEPTH] = 0;
     let d = blank(fuel, events.len() - EVENT);
     notes[ERCAP] = errors.len();
-    notes[QUOTE] = limits.quote;
-    let table = ROWS;
+    notes[QUOTE] = limits.quote as usize;
+    let mut table = ROWS;
+    table[LITERAL] = literal(limits.entrypoint);
     let sets = SETS;
     let inner = &mut events[EVENT..];
     let r = items(
         d,
-        limits.depth,
+        limits.depth as usize,
         src,
         ids,
         ends,
@@ -136,7 +144,7 @@ fn whole(
         &sets,
     );
     let s = r.state;
-    let t = s.put(sort::END, kind::SOURCE_FILE, 0, size, inner);
+    let t = s.write(sort::END, kind::SOURCE_FILE, 0, size, 0, inner);
     Desk {
         state: t,
         before: r.before,
@@ -209,7 +217,7 @@ pub fn read(
         return spoilt(refusal::EVENTS, scratch, events, errors);
     }
     wipe(scratch);
-    let mut notes = [0usize; 68];
+    let mut notes = [0usize; 69];
     let d = whole(
         src,
         ids,

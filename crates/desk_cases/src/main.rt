@@ -209,10 +209,10 @@ fn in_rooms(
     listed: bool,
 ) {
     let mut scratch = [5u64; 1];
-    let mut events = [5u32; 128];
+    let mut events = [5u32; 160];
     let mut errors = [5u32; 32];
     if words <= 1 {
-        if event_room <= 128 {
+        if event_room <= 160 {
             if error_room <= 32 {
                 show(
                     name,
@@ -232,7 +232,7 @@ fn in_rooms(
 }
 
 fn case(name: &[u8], src: &[u8], ids: &[u32], starts: &[u32], ends: &[u32], fuel: u32) {
-    in_rooms(name, src, ids, starts, ends, fuel, 1, 128, 32, false);
+    in_rooms(name, src, ids, starts, ends, fuel, 1, 160, 32, false);
 }
 
 // No row.
@@ -310,20 +310,20 @@ fn p8() {
         &ends,
         6,
         1,
-        128,
+        160,
         32,
         true,
     );
 }
 
 fn small_files() {
-    none(b"P1", b"", 1, 128);
-    rule(b"P2", 5, 1, 128, 32, true);
-    rule(b"P3", 4, 1, 128, 32, false);
-    rule(b"P4", 1, 1, 128, 32, true);
-    rule(b"P5", 0, 1, 128, 32, false);
+    none(b"P1", b"", 1, 160);
+    rule(b"P2", 5, 1, 160, 32, true);
+    rule(b"P3", 4, 1, 160, 32, false);
+    rule(b"P4", 1, 1, 160, 32, true);
+    rule(b"P5", 0, 1, 160, 32, false);
     p6();
-    p7(b"P7", 128, 32);
+    p7(b"P7", 160, 32);
     p8();
 }
 
@@ -347,7 +347,7 @@ fn count_up(l: &mut [u32], from: u32) {
 
 fn in_words(name: &[u8], src: &[u8], ids: &[u32], starts: &[u32], ends: &[u32], words: usize) {
     let mut scratch = [5u64; 2049];
-    let mut events = [5u32; 262160];
+    let mut events = [5u32; 327700];
     let mut errors = [5u32; 4];
     if words <= 2049 {
         show(
@@ -440,7 +440,7 @@ fn single() {
     one(b"first start 1", b"ab", 74, 1, 2);
     one(b"last end short", b"ab", 74, 0, 1);
     one(b"last end far", b"a", 74, 0, 2);
-    none(b"no rows", b"a", 1, 128);
+    none(b"no rows", b"a", 1, 160);
 }
 
 fn tiling() {
@@ -473,7 +473,7 @@ fn import_alone(name: &[u8], fuel: u32, listed: bool) {
         &ends,
         fuel,
         1,
-        128,
+        160,
         32,
         listed,
     );
@@ -540,7 +540,7 @@ fn imports() {
         &ends,
         9,
         0,
-        128,
+        160,
         32,
         false,
     );
@@ -552,8 +552,8 @@ fn imports() {
 }
 
 fn words() {
-    none(b"P1, no words", b"", 0, 128);
-    rule(b"P2, no words", 5, 0, 128, 32, false);
+    none(b"P1, no words", b"", 0, 160);
+    rule(b"P2, no words", 5, 0, 160, 32, false);
     rule(b"6 before 7", 5, 0, 0, 32, false);
     rows(b"31 rows, 1 word", 31, 31, 31, 1);
     rows(b"32 rows, 1 word", 32, 32, 32, 1);
@@ -562,30 +562,30 @@ fn words() {
 }
 
 fn rooms() {
-    none(b"P1, room 8", b"", 1, 8);
-    none(b"P1, room 4", b"", 1, 4);
-    rule(b"P2, room 72", 5, 1, 72, 0, false);
-    rule(b"P2, room 71", 5, 1, 71, 0, false);
-    rule(b"P2, room 68", 5, 1, 68, 0, false);
-    rule(b"P2, room 3", 5, 1, 3, 0, false);
+    none(b"P1, room 10", b"", 1, 10);
+    none(b"P1, room 5", b"", 1, 5);
+    rule(b"P2, room 90", 5, 1, 90, 0, false);
+    rule(b"P2, room 89", 5, 1, 89, 0, false);
+    rule(b"P2, room 85", 5, 1, 85, 0, false);
+    rule(b"P2, room 4", 5, 1, 4, 0, false);
     rule(b"P2, room 0", 5, 1, 0, 0, false);
-    rule(b"P3, rooms 68 6", 4, 1, 68, 6, false);
-    rule(b"P3, rooms 64 6", 4, 1, 64, 6, false);
-    rule(b"P3, rooms 68 5", 4, 1, 68, 5, false);
-    rule(b"P3, rooms 68 3", 4, 1, 68, 3, false);
-    rule(b"P3, rooms 68 0", 4, 1, 68, 0, false);
-    rule(b"P3, rooms 44 5", 4, 1, 44, 5, false);
-    rule(b"P3, rooms 40 5", 4, 1, 40, 5, false);
+    rule(b"P3, rooms 85 7", 4, 1, 85, 7, false);
+    rule(b"P3, rooms 80 7", 4, 1, 80, 7, false);
+    rule(b"P3, rooms 85 6", 4, 1, 85, 6, false);
+    rule(b"P3, rooms 85 4", 4, 1, 85, 4, false);
+    rule(b"P3, rooms 85 0", 4, 1, 85, 0, false);
+    rule(b"P3, rooms 55 6", 4, 1, 55, 6, false);
+    rule(b"P3, rooms 50 6", 4, 1, 50, 6, false);
 }
 
 // Form 10's record comes before its event.
 fn stray_rooms() {
-    p7(b"P7, rooms 92 4", 92, 4);
-    p7(b"P7, rooms 88 4", 88, 4);
-    p7(b"P7, rooms 92 3", 92, 3);
-    p7(b"P7, rooms 4 3", 4, 3);
+    p7(b"P7, rooms 115 5", 115, 5);
+    p7(b"P7, rooms 110 5", 110, 5);
+    p7(b"P7, rooms 115 4", 115, 4);
+    p7(b"P7, rooms 5 4", 5, 4);
+    p7(b"P7, rooms 5 5", 5, 5);
     p7(b"P7, rooms 4 4", 4, 4);
-    p7(b"P7, rooms 3 3", 3, 3);
     p7(b"P7, rooms 0 0", 0, 0);
 }
 
@@ -598,14 +598,18 @@ fn text(name: &[u8], src: &[u8], end: u32) {
 }
 
 // The same by other limits than document 01's.
-fn limited(name: &[u8], src: &[u8], end: u32, depth: usize, quote: usize) {
+fn limited(name: &[u8], src: &[u8], end: u32, depth: u16, quote: u8) {
     let ids = [37, 0, 80];
     let starts = [0, 4, 5];
     let ends = [4, 5, end];
     let mut scratch = [5u64; 1];
-    let mut events = [5u32; 128];
+    let mut events = [5u32; 160];
     let mut errors = [5u32; 32];
-    let limits = Limits { depth, quote };
+    let limits = Limits {
+        depth,
+        quote,
+        entrypoint: true,
+    };
     let r = read(
         src,
         &ids,
@@ -625,7 +629,7 @@ fn not_text(name: &[u8], src: &[u8], end: u32, room: usize) {
     let ids = [37, 0, 3];
     let starts = [0, 4, 5];
     let ends = [4, 5, end];
-    in_rooms(name, src, &ids, &starts, &ends, 9, 1, 128, room, false);
+    in_rooms(name, src, &ids, &starts, &ends, 9, 1, 160, room, false);
 }
 
 // Two such in one rule.
@@ -646,8 +650,8 @@ fn not_text_twice() {
 // Form 9's record has the place of the bad byte behind its count.
 fn places() {
     not_text(b"ED A0 80", b"rule \xED\xA0\x80", 8, 32);
+    not_text(b"ED A0 80, room 6", b"rule \xED\xA0\x80", 8, 6);
     not_text(b"ED A0 80, room 5", b"rule \xED\xA0\x80", 8, 5);
-    not_text(b"ED A0 80, room 4", b"rule \xED\xA0\x80", 8, 4);
     not_text(b"F4 90 80 80", b"rule \xF4\x90\x80\x80", 9, 32);
     not_text(b"E2 82", b"rule \xE2\x82", 7, 32);
     not_text(b"E1 41", b"rule \xE1\x41", 7, 32);
@@ -693,7 +697,7 @@ fn put(to: &mut [u32], at: usize, n: u32) {
 
 fn deep(name: &[u8], src: &[u8], ids: &[u32], starts: &[u32], ends: &[u32]) {
     let mut scratch = [5u64; 33];
-    let mut events = [5u32; 12304];
+    let mut events = [5u32; 15380];
     let mut errors = [5u32; 16];
     show(
         name,
@@ -741,6 +745,39 @@ fn signs(name: &[u8], n: usize) {
     }
 }
 
+// Junk is an item, and the rule behind it the second.
+fn behind_junk() {
+    let ids = [3, 0, 37, 0, 74, 66];
+    let starts = [0, 1, 2, 6, 7, 8];
+    let ends = [1, 2, 6, 7, 8, 9];
+    case(b"junk, rule", b"@ rule a{", &ids, &starts, &ends, 9);
+}
+
+// 900 rules of one row, a word each: each lacks its name, so that every record has an item of its own.
+fn many_rules() {
+    let src = [b'r'; 900];
+    let ids = [37u32; 900];
+    let mut starts = [0u32; 900];
+    let mut ends = [0u32; 900];
+    count_up(&mut starts, 0);
+    count_up(&mut ends, 1);
+    let mut scratch = [5u64; 29];
+    let mut events = [5u32; 18010];
+    let mut errors = [5u32; 5400];
+    show(
+        b"900 rules",
+        &src,
+        &ids,
+        &starts,
+        &ends,
+        2000,
+        &mut scratch,
+        &mut events,
+        &mut errors,
+        false,
+    );
+}
+
 fn main() {
     small_files();
     sizes();
@@ -764,6 +801,8 @@ fn main() {
     );
     limited(b"no node may be open", b"rule 123456789012345", 20, 0, 16);
     places();
+    behind_junk();
+    many_rules();
     signs(b"1016 signs", 1016);
     signs(b"1017 signs", 1017);
 }

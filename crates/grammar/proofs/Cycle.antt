@@ -84,76 +84,76 @@ module _ {f : P.Reader} {x : Source} {s r : Whole} {b : Bufs} {ev er sc : List �
   here = from x r ev er sc (y .wf)
 
   -- what is left of the line does nothing where the state is not in good order
-  pub stops : (d : ℕ) (o : Bool) (q : Prog) → T (guarded q) → (r .mode ≡ 0 → ⊥) → Did (λ a. reads d o q (f a)) x s r b (bufs ev er sc)
-  stops d o q t n = core.then y (idle (y .wf) (λ p a u. like-at u (λ i. refl) (sticky-exec p x d q o a) (λ z. like-same (sym (guarded-idle d (λ o b u. P.run d o b u) q o t (r .mode) a n (u .means z .mode))))))
+  pub stops : (E : Bool) (d : ℕ) (o : Bool) (q : Prog) → T (guarded q) → (r .mode ≡ 0 → ⊥) → Did (λ a. reads E d o q (f a)) x s r b (bufs ev er sc)
+  stops E d o q t n = core.then y (idle (y .wf) (λ p a u. like-at u (λ i. refl) (sticky-exec p x E d q o a) (λ z. like-same (sym (guarded-idle d (λ o b u. P.run E d o b u) q o t (r .mode) a n (u .means z .mode))))))
 
   -- what in good order reads p behind trivia, as `then` does
-  pub thence : (d : ℕ) (o : Bool) (p q : Prog) → ((a : P.State) → a .mode ≡ ok → reads d o q a ≡ reads d o p (P.trivia a)) → r .mode ≡ 0 → {z : Whole} {b₂ : Bufs} → Did (λ a. reads d o p (P.trivia a)) x r z (bufs ev er sc) b₂ → Did (λ a. reads d o q (f a)) x s z b b₂
-  thence d o p q e h z =
-      core.then y (retold (reads d o q) (λ c a n. refl) (λ c. sticky-past c x (reads d o p) (sticky-exec c x d p o)) (λ c. sticky-exec c x d q o) (λ c a m. sticky-exec c x d q o a) (λ c a t i j. sym (e a (t .means i .mode ∙ ap modeOf h))) (idle (y .wf) (λ c a t. like-same refl)) z)
+  pub thence : (E : Bool) (d : ℕ) (o : Bool) (p q : Prog) → ((a : P.State) → a .mode ≡ ok → reads E d o q a ≡ reads E d o p (P.trivia a)) → r .mode ≡ 0 → {z : Whole} {b₂ : Bufs} → Did (λ a. reads E d o p (P.trivia a)) x r z (bufs ev er sc) b₂ → Did (λ a. reads E d o q (f a)) x s z b b₂
+  thence E d o p q e h z =
+      core.then y (retold (reads E d o q) (λ c a n. refl) (λ c. sticky-past c x (reads E d o p) (sticky-exec c x E d p o)) (λ c. sticky-exec c x E d q o) (λ c a m. sticky-exec c x E d q o a) (λ c a t i j. sym (e a (t .means i .mode ∙ ap modeOf h))) (idle (y .wf) (λ c a t. like-same refl)) z)
 
 -- in good order nothing more is tried
 fails-now : (x : Source) (s : Whole) (b : Bufs) → Wf x b (withMode 0 s) → Did P.fails x (withMode 0 s) (withMode 1 s) b b
 fails-now x s b w = likened (turned-failed w) (λ p a u. like-at u (sticky-turn p x failed a) (sticky p x .at-fail a) (λ z. like-same (sym (if-ok-yes _ a (u .means z .mode)))))
 
 -- alternatives: what f did came to s, in good order, the mark's place, and q is tried there; with it F is done
-pub record Tries (F : P.Reader) (d : ℕ) (o : Bool) (q : Prog) (x : Source) (s₀ s : Whole) (m : ℕ × ℕ) (b₀ b : Bufs) : Type 0 where
-  pub go : {z : Whole} {b₂ : Bufs} → Did (reads d o q) x s z b b₂ → Did F x s₀ z b₀ b₂
+pub record Tries (F : P.Reader) (E : Bool) (d : ℕ) (o : Bool) (q : Prog) (x : Source) (s₀ s : Whole) (m : ℕ × ℕ) (b₀ b : Bufs) : Type 0 where
+  pub go : {z : Whole} {b₂ : Bufs} → Did (reads E d o q) x s z b b₂ → Did F x s₀ z b₀ b₂
   pub here : Did (λ a. a) x s s b b
   pub good : s .mode ≡ 0
   pub mark : m ≡ markOf s
 
-pub tries : (d : ℕ) (o : Bool) (q : Prog) {f : P.Reader} {x : Source} {s₀ s : Whole} {m : ℕ × ℕ} {b₀ b : Bufs} → Did f x s₀ s b₀ b → s .mode ≡ 0 → m ≡ markOf s → Tries (λ a. reads d o q (f a)) d o q x s₀ s m b₀ b
-tries d o q y h e = record { go = λ z. core.then y z; here = idle (y .wf) (λ p a t. like-same refl); good = h; mark = e }
+pub tries : (E : Bool) (d : ℕ) (o : Bool) (q : Prog) {f : P.Reader} {x : Source} {s₀ s : Whole} {m : ℕ × ℕ} {b₀ b : Bufs} → Did f x s₀ s b₀ b → s .mode ≡ 0 → m ≡ markOf s → Tries (λ a. reads E d o q (f a)) E d o q x s₀ s m b₀ b
+tries E d o q y h e = record { go = λ z. core.then y z; here = idle (y .wf) (λ p a t. like-same refl); good = h; mark = e }
 
-module _ {F : P.Reader} {d : ℕ} {o : Bool} {x : Source} {s₀ s : Whole} {m : ℕ × ℕ} {b₀ b : Bufs} where
-  module _ {p q : Prog} (t : Tries F d o (p / q) x s₀ s m b₀ b) {r : Whole} {b′ : Bufs} (y : Did (λ a. reads d true p (P.trivia a)) x s r b b′) where
+module _ {F : P.Reader} {E : Bool} {d : ℕ} {o : Bool} {x : Source} {s₀ s : Whole} {m : ℕ × ℕ} {b₀ b : Bufs} where
+  module _ {p q : Prog} (t : Tries F E d o (p / q) x s₀ s m b₀ b) {r : Whole} {b′ : Bufs} (y : Did (λ a. reads E d true p (P.trivia a)) x s r b b′) where
     -- it did not fail
     pub tried : (r .mode ≡ 1 → ⊥) → Did F x s₀ r b₀ b′
-    tried n = t .go (alt-on (reads d true p) (reads d o q) (λ c. sticky-exec c x d p true) (λ c. sticky-exec c x d q o) (t .good) y n)
+    tried n = t .go (alt-on (reads E d true p) (reads E d o q) (λ c. sticky-exec c x E d p true) (λ c. sticky-exec c x E d q o) (t .good) y n)
 
     -- it failed: the next is tried from the mark
-    pub again : {z : Whole} → r .mode ≡ 1 → z ≡ withMode 0 (gone m r) → Tries F d o q x s₀ z m b₀ b′
+    pub again : {z : Whole} → r .mode ≡ 1 → z ≡ withMode 0 (gone m r) → Tries F E d o q x s₀ z m b₀ b′
     again {z} h e =
-        subst (λ (u : Whole). Tries F d o q x s₀ u m b₀ b′) (sym (e ∙ ap (λ (c : ℕ × ℕ). withMode 0 (gone c r)) (t .mark)))
+        subst (λ (u : Whole). Tries F E d o q x s₀ u m b₀ b′) (sym (e ∙ ap (λ (c : ℕ × ℕ). withMode 0 (gone c r)) (t .mark)))
         (record {
-          go = λ v. t .go (alt-next (reads d true p) (reads d o q) (λ c. sticky-exec c x d p true) (λ c. sticky-exec c x d q o) (t .good) y (t .here .wf) h v);
+          go = λ v. t .go (alt-next (reads E d true p) (reads E d o q) (λ c. sticky-exec c x E d p true) (λ c. sticky-exec c x E d q o) (t .good) y (t .here .wf) h v);
           here = idle (gone-wf (t .here .wf) y) (λ p a t. like-same refl);
           good = refl;
           mark = t .mark;
         })
 
   -- the last one
-  pub tried-last : {p : Prog} (t : Tries F d o (last p) x s₀ s m b₀ b) {r : Whole} {b′ : Bufs} → Did (λ a. reads d true p (P.trivia a)) x s r b b′ → {z : Whole} → z ≡ lostTo m r → Did F x s₀ z b₀ b′
+  pub tried-last : {p : Prog} (t : Tries F E d o (last p) x s₀ s m b₀ b) {r : Whole} {b′ : Bufs} → Did (λ a. reads E d true p (P.trivia a)) x s r b b′ → {z : Whole} → z ≡ lostTo m r → Did F x s₀ z b₀ b′
   tried-last {p} t {r} {b′} y {z} e = t .go (go (ℕ-discrete (r .mode) 1))
     where
-      sticks : (c : Past) → Sticks c x (reads d true p)
-      sticks c = sticky-exec c x d p true
+      sticks : (c : Past) → Sticks c x (reads E d true p)
+      sticks c = sticky-exec c x E d p true
 
-      go : Dec (r .mode ≡ 1) → Did (reads d o (last p)) x s z b b′
-      go (no n) = subst (λ (u : Whole). Did (reads d o (last p)) x s u b b′) (lost-on m r n ∙ sym e) (alt-on (reads d true p) P.fails sticks (λ c. sticky c x .at-fail) (t .good) y n)
+      go : Dec (r .mode ≡ 1) → Did (reads E d o (last p)) x s z b b′
+      go (no n) = subst (λ (u : Whole). Did (reads E d o (last p)) x s u b b′) (lost-on m r n ∙ sym e) (alt-on (reads E d true p) P.fails sticks (λ c. sticky c x .at-fail) (t .good) y n)
       go (yes h) =
-          subst (λ (u : Whole). Did (reads d o (last p)) x s u b b′) ((λ i. withMode (sym h i) (gone (sym (t .mark) i) r)) ∙ lost-back m r h ∙ sym e)
-          (alt-next (reads d true p) P.fails sticks (λ c. sticky c x .at-fail) (t .good) y (t .here .wf) h (fails-now x (gone (markOf s) r) b′ (gone-wf (t .here .wf) y)))
+          subst (λ (u : Whole). Did (reads E d o (last p)) x s u b b′) ((λ i. withMode (sym h i) (gone (sym (t .mark) i) r)) ∙ lost-back m r h ∙ sym e)
+          (alt-next (reads E d true p) P.fails sticks (λ c. sticky c x .at-fail) (t .good) y (t .here .wf) h (fails-now x (gone (markOf s) r) b′ (gone-wf (t .here .wf) y)))
 
 -- an optional part
-pub waives : (d : ℕ) (o : Bool) (p : Prog) {f : P.Reader} {x : Source} {s₀ s r : Whole} {m : ℕ × ℕ} {b₀ b b′ : Bufs} → Did f x s₀ s b₀ b → s .mode ≡ 0 → m ≡ markOf s → Did (λ a. reads d true p (P.trivia a)) x s r b b′ → {z : Whole} → z ≡ waivedTo m r → Did (λ a. reads d o (opt p) (f a)) x s₀ z b₀ b′
-waives d o p {f} {x} {s₀} {s} {r} {m} {b₀} {b} {b′} w good mark y {z} e = core.then w (go (ℕ-discrete (r .mode) 1))
+pub waives : (E : Bool) (d : ℕ) (o : Bool) (p : Prog) {f : P.Reader} {x : Source} {s₀ s r : Whole} {m : ℕ × ℕ} {b₀ b b′ : Bufs} → Did f x s₀ s b₀ b → s .mode ≡ 0 → m ≡ markOf s → Did (λ a. reads E d true p (P.trivia a)) x s r b b′ → {z : Whole} → z ≡ waivedTo m r → Did (λ a. reads E d o (opt p) (f a)) x s₀ z b₀ b′
+waives E d o p {f} {x} {s₀} {s} {r} {m} {b₀} {b} {b′} w good mark y {z} e = core.then w (go (ℕ-discrete (r .mode) 1))
   where
-    sticks : (c : Past) → Sticks c x (reads d true p)
-    sticks c = sticky-exec c x d p true
+    sticks : (c : Past) → Sticks c x (reads E d true p)
+    sticks c = sticky-exec c x E d p true
 
-    go : Dec (r .mode ≡ 1) → Did (reads d o (opt p)) x s z b b′
-    go (no n) = subst (λ (u : Whole). Did (reads d o (opt p)) x s u b b′) (waived-on m r n ∙ sym e) (opt-on (reads d true p) sticks good y n)
-    go (yes h) = subst (λ (u : Whole). Did (reads d o (opt p)) x s u b b′) ((λ i. withMode 0 (gone (sym mark i) r)) ∙ waived-back m r h ∙ sym e) (opt-back (reads d true p) sticks good y (w .wf) h)
+    go : Dec (r .mode ≡ 1) → Did (reads E d o (opt p)) x s z b b′
+    go (no n) = subst (λ (u : Whole). Did (reads E d o (opt p)) x s u b b′) (waived-on m r n ∙ sym e) (opt-on (reads E d true p) sticks good y n)
+    go (yes h) = subst (λ (u : Whole). Did (reads E d o (opt p)) x s u b b′) ((λ i. withMode 0 (gone (sym mark i) r)) ∙ waived-back m r h ∙ sym e) (opt-back (reads E d true p) sticks good y (w .wf) h)
 
 -- a part that begins with a row of a set
-module _ {f : P.Reader} {x : Source} {s r : Whole} {b : Bufs} {ev er sc : List ℕ} (y : Did f x s r b (bufs ev er sc)) (d : ℕ) (o : Bool) (S : List ℕ) (p : Prog) {v : Bool} (sees : v ≡ ahead S (x .ids) r) where
-  pub enters : v ≡ true → {q : Whole} {b₂ : Bufs} → Did (λ a. reads d o p (P.trivia a)) x r q (bufs ev er sc) b₂ → Did (λ a. reads d o (ifnext S p) (f a)) x s q b b₂
-  enters h z = core.then y (branch.branch-in S (reads d o p) (λ c. sticky-exec c x d p o) (y .wf) (sym sees ∙ h) z)
+module _ {f : P.Reader} {x : Source} {s r : Whole} {b : Bufs} {ev er sc : List ℕ} (y : Did f x s r b (bufs ev er sc)) (E : Bool) (d : ℕ) (o : Bool) (S : List ℕ) (p : Prog) {v : Bool} (sees : v ≡ ahead S (x .ids) r) where
+  pub enters : v ≡ true → {q : Whole} {b₂ : Bufs} → Did (λ a. reads E d o p (P.trivia a)) x r q (bufs ev er sc) b₂ → Did (λ a. reads E d o (ifnext S p) (f a)) x s q b b₂
+  enters h z = core.then y (branch.branch-in S (reads E d o p) (λ c. sticky-exec c x E d p o) (y .wf) (sym sees ∙ h) z)
 
-  pub passes : v ≡ false → {q : Whole} {b′ : Bufs} → Did (P.branches S (λ a. a)) x r q (bufs ev er sc) b′ → Did (λ a. reads d o (ifnext S p) (f a)) x s q b b′
-  passes h z = core.then y (branch.branch-out S (reads d o p) (λ c. sticky-exec c x d p o) (y .wf) (sym sees ∙ h) z)
+  pub passes : v ≡ false → {q : Whole} {b′ : Bufs} → Did (P.branches S (λ a. a)) x r q (bufs ev er sc) b′ → Did (λ a. reads E d o (ifnext S p) (f a)) x s q b b′
+  passes h z = core.then y (branch.branch-out S (reads E d o p) (λ c. sticky-exec c x E d p o) (y .wf) (sym sees ∙ h) z)
 
 -- a repetition
 pub record Turns (f : P.Reader) (x : Source) (s₀ s : Whole) (k₀ k : ℕ) (ev₀ er₀ sc₀ ev er sc : List ℕ) : Type 0 where
@@ -184,7 +184,7 @@ module _ {f : P.Reader} {x : Source} {s₀ s : Whole} {k₀ k : ℕ} {ev₀ er�
   turns-over h = repeats f k₀ (g .sticks) (g .wf) (g .many) (g .start) (turns-end (g .each) h)
 
 -- a node around its line, where p is its kind
-module _ (A : Production) (p : ℕ) (known : kind A ≡ p) (o : Bool) (d : ℕ) {x : Source} {s s₁ : Whole} (ev er sc : List ℕ) {ev₁ : List ℕ} (w : Wf x (bufs ev er sc) s) (y : Began d x s s₁ ev ev₁) where
+module _ (A : Production) (p : ℕ) (known : kind A ≡ p) (o : Bool) (E : Bool) (d : ℕ) {x : Source} {s s₁ : Whole} (ev er sc : List ℕ) {ev₁ : List ℕ} (w : Wf x (bufs ev er sc) s) (y : Began d x s s₁ ev ev₁) where
   pub begun : Did (λ a. a) x s₁ s₁ (bufs ev₁ er sc) (bufs ev₁ er sc)
   begun = from x s₁ ev₁ er sc (y .events .did er sc w .wf)
 
@@ -194,8 +194,8 @@ module _ (A : Production) (p : ℕ) (known : kind A ≡ p) (o : Bool) (d : ℕ) 
   shuts : {s₂ r : Whole} {b b₃ : Bufs} → Shuts (P.finish o p (length (x .ids) - s₁ .pos)) (s₁ .ev) x s₂ r b b₃ → Shuts (P.finish o (kind A) (length (x .ids) - s₁ .pos)) (s₁ .ev) x s₂ r b b₃
   shuts {s₂} {r} {b} {b₃} e = subst (λ (n : ℕ). Shuts (P.finish o n (length (x .ids) - s₁ .pos)) (s₁ .ev) x s₂ r b b₃) (sym known) e
 
-  pub made : (d ≡ 0 → ⊥) → {s₂ r : Whole} {ev₂ er₂ sc₂ : List ℕ} {b₃ : Bufs} → Did (reads (d - 1) o (grammar A)) x s₁ s₂ (bufs ev₁ er sc) (bufs ev₂ er₂ sc₂) → (Wf x (bufs ev₂ er₂ sc₂) s₂ → Shuts (P.finish o p (length (x .ids) - s₁ .pos)) (s₁ .ev) x s₂ r (bufs ev₂ er₂ sc₂) b₃) → Did (P.run d o A) x s r (bufs ev er sc) b₃
-  made n D e = produced A o d w y n D (shuts (e (D .wf)))
+  pub made : (d ≡ 0 → ⊥) → {s₂ r : Whole} {ev₂ er₂ sc₂ : List ℕ} {b₃ : Bufs} → Did (reads E (d - 1) o (grammar E A)) x s₁ s₂ (bufs ev₁ er sc) (bufs ev₂ er₂ sc₂) → (Wf x (bufs ev₂ er₂ sc₂) s₂ → Shuts (P.finish o p (length (x .ids) - s₁ .pos)) (s₁ .ev) x s₂ r (bufs ev₂ er₂ sc₂) b₃) → Did (P.run E d o A) x s r (bufs ev er sc) b₃
+  made n D e = produced A o E d w y n D (shuts (e (D .wf)))
 
-  pub none-made : d ≡ 0 → {r : Whole} {b₃ : Bufs} → (Wf x (bufs ev₁ er sc) s₁ → Shuts (P.finish o p (length (x .ids) - s₁ .pos)) (s₁ .ev) x s₁ r (bufs ev₁ er sc) b₃) → Did (P.run d o A) x s r (bufs ev er sc) b₃
-  none-made n e = empty A o d w y n (shuts (e (begun .wf)))
+  pub none-made : d ≡ 0 → {r : Whole} {b₃ : Bufs} → (Wf x (bufs ev₁ er sc) s₁ → Shuts (P.finish o p (length (x .ids) - s₁ .pos)) (s₁ .ev) x s₁ r (bufs ev₁ er sc) b₃) → Did (P.run E d o A) x s r (bufs ev er sc) b₃
+  none-made n e = empty A o E d w y n (shuts (e (begun .wf)))

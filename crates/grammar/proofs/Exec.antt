@@ -31,28 +31,28 @@ use Rattle.steps.proofs.Parts.{Turning, turning, turns-on, turns-back, turns-en
 use Rattle.steps.proofs.Ends.{both-of}
 
 -- the grammar's line for a production, where d more nodes may be opened below it
-abbrev pub body : ℕ → Bool → Production → P.Reader
-body d o A a = P.exec d (λ o b u. P.run d o b u) (grammar A) o a
+abbrev pub body : Bool → ℕ → Bool → Production → P.Reader
+body E d o A a = P.exec d (λ o b u. P.run E d o b u) (grammar E A) o a
 
-run-some : (d : ℕ) (o : Bool) (A : Production) → (d ≡ 0 → ⊥) → (a : P.State) → P.nodes d o (kind A) (body (d - 1) o A) a ≡ P.run d o A a
-run-some zero o A h a = absurd (h refl)
-run-some (suc d) o A h a = ap (λ (n : ℕ). P.nodes (suc d) o (kind A) (body n o A) a) (sub-one (suc d))
+run-some : (E : Bool) (d : ℕ) (o : Bool) (A : Production) → (d ≡ 0 → ⊥) → (a : P.State) → P.nodes d o (kind A) (body E (d - 1) o A) a ≡ P.run E d o A a
+run-some E zero o A h a = absurd (h refl)
+run-some E (suc d) o A h a = ap (λ (n : ℕ). P.nodes (suc d) o (kind A) (body E n o A) a) (sub-one (suc d))
 
-run-none : (d : ℕ) (o : Bool) (A : Production) → d ≡ 0 → (a : P.State) → P.nodes d o (kind A) (λ t. t) a ≡ P.run d o A a
-run-none d o A e a = ap (λ (n : ℕ). P.nodes n o (kind A) (λ t. t) a) e ∙ ap (λ (n : ℕ). P.run n o A a) (sym e)
+run-none : (E : Bool) (d : ℕ) (o : Bool) (A : Production) → d ≡ 0 → (a : P.State) → P.nodes d o (kind A) (λ t. t) a ≡ P.run E d o A a
+run-none E d o A e a = ap (λ (n : ℕ). P.nodes n o (kind A) (λ t. t) a) e ∙ ap (λ (n : ℕ). P.run E n o A a) (sym e)
 
-module _ (A : Production) (o : Bool) (d : ℕ) {x : Source} {s s₁ r : Whole} {ev ev₁ er sc : List ℕ} (w : Wf x (bufs ev er sc) s) (y : Began d x s s₁ ev ev₁) where
+module _ (A : Production) (o : Bool) (E : Bool) (d : ℕ) {x : Source} {s s₁ r : Whole} {ev ev₁ er sc : List ℕ} (w : Wf x (bufs ev er sc) s) (y : Began d x s s₁ ev ev₁) where
   -- a node around its line
-  pub produced : {s₂ : Whole} {b b₃ : Bufs} → (d ≡ 0 → ⊥) → Did (body (d - 1) o A) x s₁ s₂ (bufs ev₁ er sc) b → Shuts (P.finish o (kind A) (length (x .ids) - s₁ .pos)) (s₁ .ev) x s₂ r b b₃ → Did (P.run d o A) x s r (bufs ev er sc) b₃
+  pub produced : {s₂ : Whole} {b b₃ : Bufs} → (d ≡ 0 → ⊥) → Did (body E (d - 1) o A) x s₁ s₂ (bufs ev₁ er sc) b → Shuts (P.finish o (kind A) (length (x .ids) - s₁ .pos)) (s₁ .ev) x s₂ r b b₃ → Did (P.run E d o A) x s r (bufs ev er sc) b₃
   produced h z e =
-      does-as (P.run d o A) (λ p a t. run-some d o A h a)
-      (parts.node d (kind A) o (body (d - 1) o A) (λ a. exec-adds (d - 1) (grammar A) o a) (λ p. sticky-exec p x (d - 1) (grammar A) o) (s₁ .pos) (s₁ .ev) refl refl (y .events .did er sc w) (y .opens) z e)
+      does-as (P.run E d o A) (λ p a t. run-some E d o A h a)
+      (parts.node d (kind A) o (body E (d - 1) o A) (λ a. exec-adds E (d - 1) (grammar E A) o a) (λ p. sticky-exec p x E (d - 1) (grammar E A) o) (s₁ .pos) (s₁ .ev) refl refl (y .events .did er sc w) (y .opens) z e)
 
   -- no more nodes may be opened: the node is empty
-  pub empty : {b₃ : Bufs} → d ≡ 0 → Shuts (P.finish o (kind A) (length (x .ids) - s₁ .pos)) (s₁ .ev) x s₁ r (bufs ev₁ er sc) b₃ → Did (P.run d o A) x s r (bufs ev er sc) b₃
+  pub empty : {b₃ : Bufs} → d ≡ 0 → Shuts (P.finish o (kind A) (length (x .ids) - s₁ .pos)) (s₁ .ev) x s₁ r (bufs ev₁ er sc) b₃ → Did (P.run E d o A) x s r (bufs ev er sc) b₃
   empty h e =
       let B = y .events .did er sc w in
-      does-as (P.run d o A) (λ p a t. run-none d o A h a)
+      does-as (P.run E d o A) (λ p a t. run-none E d o A h a)
       (parts.node d (kind A) o (λ t. t) (λ a. none-added (a .out)) (λ p a n. refl) (s₁ .pos) (s₁ .ev) refl refl B (y .opens) (core.idle (B .wf) (λ p a t. core.like-same refl)) e)
 
 -- what does nothing but in good order

@@ -1,5 +1,6 @@
 -- The rows of the grammar's table, as the code has them. Written by tools/table.py.
 use Prim.Native.Nat.{ℕ}
+use mathlib.Core.Bool.{Bool, true, false}
 use mathlib.Core.List.{List, [], _∷_}
 
 -- how many there are, and the rows of items, by their first row
@@ -15,8 +16,16 @@ import-item = 286
 abbrev pub include-item : ℕ
 include-item = 287
 
-abbrev pub rows : List ℕ
-rows =
+-- the row that is another where entrypoint is not allowed, and what it is
+abbrev pub literal : ℕ
+literal = 99
+
+abbrev pub literal-row : Bool → ℕ
+literal-row true = 0o0_052_067_000
+literal-row false = 0o0_067_067_000
+
+abbrev pub rows : Bool → List ℕ
+rows E =
     0o0_000_000_000
     ∷ 0o0_001_001_000
     ∷ 0o0_002_002_001
@@ -116,7 +125,7 @@ rows =
     ∷ 0o12_120_000_001
     ∷ 0o13_137_140_001
     ∷ 0o13_132_141_000
-    ∷ 0o0_052_067_000
+    ∷ literal-row E
     ∷ 0o7_046_100_000
     ∷ 0o0_053_067_144
     ∷ 0o6_134_134_000

@@ -8,11 +8,10 @@ use lib.Dec.{eqb}
 use lib.ListN.{length, getD, drop}
 use Rattle.kinds.specs.Kinds as k
 use Rattle.kinds.specs.Sets.{setOf}
-use Rattle.definition.specs.Prog.{Prog, Production, eat, unless, ifnext, opt, many, then, _⨟_, last, recover, node, memo, RULE-DECL}
+use Rattle.definition.specs.Prog.{Prog, Production, productions, eat, unless, ifnext, opt, many, then, _⨟_, last, recover, node, memo, RULE-DECL}
 use Rattle.definition.specs.Prog as G
 use Rattle.definition.specs.Grammar.{grammar, kind, item-of}
 use Rattle.definition.specs.Run as P
-use Rattle.definition.proofs.Every.{productions}
 use Rattle.notes.specs.Bits.{ifb}
 use Rattle.notes.specs.Means.{namesOf}
 use Rattle.notes.specs.Did.{Peeked, hits}
@@ -21,20 +20,25 @@ use Rattle.grammar.specs.declared.parts.Part.{Part}
 use Rattle.grammar.specs.declared.parts.Part.the-variants.{Eat, Step, Node, Memo, Seq, Then, When, Many, Try}
 use Rattle.grammar.specs.declared.parts.First.{First}
 use Rattle.grammar.specs.declared.parts.First.the-variants.{Unknown, Missed}
-use Rattle.grammar.specs.Rows.{rows, size}
+use Rattle.grammar.specs.Rows.{rows, size, literal, literal-row}
 
 -- the combinator's number and its operands
 abbrev pub made : ℕ → ℕ → ℕ → ℕ → Part
 made n a b c =
     getD (Eat a b c ∷ Step 1 a c ∷ Step 2 a c ∷ Node a b c ∷ Memo a b c ∷ Seq a b ∷ Then a b c ∷ When a b ∷ Many a c ∷ []) n (Try n a b c)
 
-unfoldable pub rowOf : ℕ → ℕ
-rowOf i = getD rows i 0
+-- a row where E says whether entrypoint is allowed
+unfoldable pub rowOf : Bool → ℕ → ℕ
+rowOf E i = getD (rows E) i 0
 
--- the table as it is lent
+-- whether a table allows entrypoint
+unfoldable pub allowed : List ℕ → Bool
+allowed t = eqb (getD t literal 0) (literal-row true)
+
+-- the table as it is lent, with entrypoint allowed or not
 pub record Lent (t : List ℕ) : Type 0 where
   pub long : length t ≡ size
-  pub row : (i : ℕ) → getD t i 0 ≡ rowOf i
+  pub row : (i : ℕ) → getD t i 0 ≡ rowOf (allowed t) i
 
 -- the table and the sets' words as they are lent
 abbrev pub Lends : List ℕ → List (List ℕ) → Type 0
@@ -44,8 +48,8 @@ Lends t sets = Lent t × Tabled sets
 abbrev pub split : ℕ → Part
 split r = made (r / 0o1_000_000_000) (r / 0o1_000_000 % 0o1_000) (r / 0o1_000 % 0o1_000) (r % 0o1_000)
 
-unfoldable pub partOf : ℕ → Part
-partOf i = split (rowOf i)
+unfoldable pub partOf : Bool → ℕ → Part
+partOf E i = split (rowOf E i)
 
 -- a production by its kind
 unfoldable pub production : ℕ → Production
@@ -72,34 +76,38 @@ progOf g (Many i k) = followed g k (many (g i))
 progOf g (Try n i j f) = ifb (eqb n 9) (opt (g i)) (ifb (eqb n 10) (last (g i)) (G._/_ (g i) (g j)))
 
 -- no part holds others more than 40 deep
-abbrev decode : ℕ → ℕ → Prog
-decode zero i = unless []
-decode (suc n) i = progOf (λ j. decode n j) (partOf i)
+abbrev decode : Bool → ℕ → ℕ → Prog
+decode E zero i = unless []
+decode E (suc n) i = progOf (λ j. decode E n j) (partOf E i)
 
-unfoldable pub prog : ℕ → Prog
-prog i = decode 40 i
+unfoldable pub prog : Bool → ℕ → Prog
+prog E i = decode E 40 i
 
--- a part of a line, where d more nodes may be opened
-abbrev pub reads : ℕ → Bool → Prog → P.Reader
-reads d o p a = P.exec d (λ o b u. P.run d o b u) p o a
+-- a part of a line, where E allows entrypoint and d more nodes may be opened
+abbrev pub reads : Bool → ℕ → Bool → Prog → P.Reader
+reads E d o p a = P.exec d (λ o b u. P.run E d o b u) p o a
+
+-- the limits that a line is read by: how many nodes may be open, and whether entrypoint is allowed
+abbrev pub reach : P.Limits → ℕ × Bool
+reach L = (L .depth, L .entrypoint)
 
 -- what is left of a line: a row and what follows it, or nothing
-abbrev pub follows : ℕ → Bool → ℕ → P.Reader
-follows d o i = ifb (eqb i 0) (λ a. a) (reads d o (prog i))
+abbrev pub follows : Bool → ℕ → Bool → ℕ → P.Reader
+follows E d o i = ifb (eqb i 0) (λ a. a) (reads E d o (prog E i))
 
 -- a row that is read
 abbrev pub Row : ℕ → Type 0
 Row i = (0 < i) × (i < size)
 
 -- a production's kind and the row of its line
-pub record Line (a i : ℕ) : Type 0 where
+pub record Line (E : Bool) (a i : ℕ) : Type 0 where
   pub known : kind (production a) ≡ a
-  pub line : prog i ≡ grammar (production a)
+  pub line : prog E i ≡ grammar E (production a)
   pub inside : Row i
 
 -- the row of an item whose first row has kind a
 pub record Begins (a i : ℕ) : Type 0 where
-  pub item : prog i ≡ item-of a
+  pub item : (E : Bool) → prog E i ≡ item-of a
   pub inside : Row i
 
 -- "`cached` (EXPR, TERM)", and the bit of a row
@@ -114,13 +122,13 @@ abbrev pub missedOf : ℕ → ℕ
 missedOf n = ifb (eqb n 10) 1 0
 
 -- a part whose first row is missed: the row of the table says what it is, and at is the row that stands there
-pub record Missing (led p pos : ℕ) (ids : List ℕ) (code at : ℕ) : Type 0 where
+pub record Missing (E : Bool) (led p pos : ℕ) (ids : List ℕ) (code at : ℕ) : Type 0 where
   pub asked : led ≡ 0 → ⊥
   pub set : ℕ
   pub next : ℕ
-  pub row : Eat set code next ≡ partOf p
+  pub row : Eat set code next ≡ partOf E p
   pub peeked : Peeked ids pos at
   pub none : hits (P.next (setOf set) (drop pos ids)) ≡ false
 
-pub record Foretold (led p pos : ℕ) (ids : List ℕ) (r : First) : Type 0 where
-  pub missed : (code at : ℕ) → r ≡ Missed code at → Missing led p pos ids code at
+pub record Foretold (E : Bool) (led p pos : ℕ) (ids : List ℕ) (r : First) : Type 0 where
+  pub missed : (code at : ℕ) → r ≡ Missed code at → Missing E led p pos ids code at

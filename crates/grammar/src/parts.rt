@@ -2,6 +2,8 @@
 // may still be opened, and within a line the row of the table.
 use crate::table::IMPORT_ITEM;
 use crate::table::INCLUDE_ITEM;
+use crate::table::LITERAL_ALL;
+use crate::table::LITERAL_LESS;
 use crate::table::RULE_ITEM;
 use kinds::kind;
 use kinds::within;
@@ -11,7 +13,7 @@ use notes::names::expected;
 use notes::rows::peek;
 use steps::state::State;
 ghost use mathlib.Core.Path.{_≡_};
-ghost use mathlib.Core.Bool.{true, false};
+ghost use mathlib.Core.Bool.{Bool, true, false};
 ghost use mathlib.Core.Logic.{_⊎_};
 ghost use Prim.Native.Nat.{_≤_, _<_};
 ghost use lib.ListN.{length};
@@ -23,8 +25,18 @@ ghost use Rattle.definition.specs.Run as P;
 ghost use Rattle.notes.specs.Means.{source, bufs, Rows};
 ghost use Rattle.notes.specs.Did.{Wf, Did, Both};
 ghost use Rattle.steps.specs.Steps.{whole, Whence, Tabled};
-ghost use Rattle.grammar.specs.Rows.{size};
-ghost use Rattle.grammar.specs.Table.{Lent, Lends, Row, Foretold, missedOf, partOf, stepOf, prog, production, reads, Line, Begins, Cached, Bit};
+ghost use Rattle.grammar.specs.Rows.{size, literal-row};
+ghost use Rattle.grammar.specs.Table.{allowed, reach, Lent, Lends, Row, Foretold, missedOf, partOf, stepOf, prog, production, reads, Line, Begins, Cached, Bit};
+
+// The row LITERAL of the table by whether entrypoint is allowed.
+pub fn literal(entrypoint: bool) -> u32
+    ensures { λ r. ⌜ r ≡ literal-row entrypoint ⌝ }
+{
+    if entrypoint {
+        return LITERAL_ALL;
+    }
+    LITERAL_LESS
+}
 
 // `not`, beside `recover`.
 const UNLESS: u32 = 1;
@@ -53,7 +65,7 @@ pub enum Part {
 // A row of the table, which is lent: a table named where it is read would be laid out anew for each row.
 fn part_at(i: usize, table: &[u32; 288]) -> Part
     requires { ⌜ (i < size) × Lent (now table) ⌝ }
-    ensures { λ r. ⌜ r ≡ partOf i ⌝ }
+    ensures { λ r. ⌜ r ≡ partOf (allowed (now (table .entry))) i ⌝ }
 {
     let row = table[i];
     let n = row / 0o1_000_000_000;
@@ -101,10 +113,10 @@ fn first_row(
     pos: usize,
     ids: &[u32],
     table: &[u32; 288],
-    sets: &[[u64; 2]; 55],
+    sets: &[[u64; 2]; 56],
 ) -> First
     requires { ⌜ (p < size) × Lends (now table) (now sets) × (pos ≤ length (now ids)) ⌝ }
-    ensures { λ r. ⌜ Foretold led p pos (now (ids .entry)) r ⌝ }
+    ensures { λ r. ⌜ Foretold (allowed (now (table .entry))) led p pos (now (ids .entry)) r ⌝ }
 {
     if led == 0 {
         return First::Unknown;
@@ -146,14 +158,15 @@ fn step(
     ends: &[u32],
     events: &mut [u32],
     errors: &mut [u32],
-    notes: &mut [usize; 68],
-    sets: &[[u64; 2]; 55],
+    notes: &mut [usize; 69],
+    sets: &[[u64; 2]; 56],
 ) -> State
     requires { ⌜ Whence (now src) (now ids) (now ends) s (now notes) (now events) (now errors) × (set < 55) × Tabled (now sets) ⌝ }
     ensures { λ r. ⌜
-        Both (reads d optional (stepOf which set)) (source (now (src .entry)) (now (ids .entry)) (now (ends .entry)))
+        ((E : Bool)
+        → Both (reads E d optional (stepOf which set)) (source (now (src .entry)) (now (ids .entry)) (now (ends .entry)))
         (whole s (now (notes .entry))) (whole r (now (notes .exit))) (now (events .entry)) (now (events .exit)) (now (errors .entry))
-        (now (errors .exit)) ⌝ }
+        (now (errors .exit))) ⌝ }
 {
     if which == UNLESS {
         return s.unless(set, ids, ends, events, notes, sets);
@@ -186,9 +199,9 @@ fn exec(
     events: &mut [u32],
     errors: &mut [u32],
     scratch: &mut [u64],
-    notes: &mut [usize; 68],
+    notes: &mut [usize; 69],
     table: &[u32; 288],
-    sets: &[[u64; 2]; 55],
+    sets: &[[u64; 2]; 56],
 ) -> State
     requires { ⌜
         Rows (source (now src) (now ids) (now ends))
@@ -196,7 +209,7 @@ fn exec(
         × Row i
         × Lends (now table) (now sets) ⌝ }
     ensures { λ r. ⌜
-        Did (reads d optional (prog i)) (source (now (src .entry)) (now (ids .entry)) (now (ends .entry))) (whole s (now (notes .entry)))
+        Did (reads (allowed (now (table .entry))) d optional (prog (allowed (now (table .entry))) i)) (source (now (src .entry)) (now (ids .entry)) (now (ends .entry))) (whole s (now (notes .entry)))
         (whole r (now (notes .exit))) (bufs (now (events .entry)) (now (errors .entry)) (now (scratch .entry)))
         (bufs (now (events .exit)) (now (errors .exit)) (now (scratch .exit))) ⌝ }
 {
@@ -376,17 +389,17 @@ fn node(
     events: &mut [u32],
     errors: &mut [u32],
     scratch: &mut [u64],
-    notes: &mut [usize; 68],
+    notes: &mut [usize; 69],
     table: &[u32; 288],
-    sets: &[[u64; 2]; 55],
+    sets: &[[u64; 2]; 56],
 ) -> State
     requires { ⌜
         Rows (source (now src) (now ids) (now ends))
         × Wf (source (now src) (now ids) (now ends)) (bufs (now events) (now errors) (now scratch)) (whole s (now notes))
-        × Line kind line
+        × Line (allowed (now table)) kind line
         × Lends (now table) (now sets) ⌝ }
     ensures { λ r. ⌜
-        Did (P.run d optional (production kind)) (source (now (src .entry)) (now (ids .entry)) (now (ends .entry))) (whole s (now (notes .entry)))
+        Did (P.run (allowed (now (table .entry))) d optional (production kind)) (source (now (src .entry)) (now (ids .entry)) (now (ends .entry))) (whole s (now (notes .entry)))
         (whole r (now (notes .exit))) (bufs (now (events .entry)) (now (errors .entry)) (now (scratch .entry)))
         (bufs (now (events .exit)) (now (errors .exit)) (now (scratch .exit))) ⌝ }
 {
@@ -451,18 +464,18 @@ fn cached(
     events: &mut [u32],
     errors: &mut [u32],
     scratch: &mut [u64],
-    notes: &mut [usize; 68],
+    notes: &mut [usize; 69],
     table: &[u32; 288],
-    sets: &[[u64; 2]; 55],
+    sets: &[[u64; 2]; 56],
 ) -> State
     requires { ⌜
         Rows (source (now src) (now ids) (now ends))
         × Wf (source (now src) (now ids) (now ends)) (bufs (now events) (now errors) (now scratch)) (whole s (now notes))
-        × Line kind line
+        × Line (allowed (now table)) kind line
         × Cached kind
         × Lends (now table) (now sets) ⌝ }
     ensures { λ r. ⌜
-        Did (P.memos (K.kind (production kind)) (P.run d optional (production kind)))
+        Did (P.memos (K.kind (production kind)) (P.run (allowed (now (table .entry))) d optional (production kind)))
         (source (now (src .entry)) (now (ids .entry)) (now (ends .entry))) (whole s (now (notes .entry))) (whole r (now (notes .exit)))
         (bufs (now (events .entry)) (now (errors .entry)) (now (scratch .entry)))
         (bufs (now (events .exit)) (now (errors .exit)) (now (scratch .exit))) ⌝ }
@@ -511,9 +524,9 @@ fn many(
     events: &mut [u32],
     errors: &mut [u32],
     scratch: &mut [u64],
-    notes: &mut [usize; 68],
+    notes: &mut [usize; 69],
     table: &[u32; 288],
-    sets: &[[u64; 2]; 55],
+    sets: &[[u64; 2]; 56],
 ) -> State
     requires { ⌜
         Rows (source (now src) (now ids) (now ends))
@@ -521,7 +534,7 @@ fn many(
         × Row p
         × Lends (now table) (now sets) ⌝ }
     ensures { λ r. ⌜
-        Did (reads d true (G.many (prog p))) (source (now (src .entry)) (now (ids .entry)) (now (ends .entry))) (whole s (now (notes .entry)))
+        Did (reads (allowed (now (table .entry))) d true (G.many (prog (allowed (now (table .entry))) p))) (source (now (src .entry)) (now (ids .entry)) (now (ends .entry))) (whole s (now (notes .entry)))
         (whole r (now (notes .exit))) (bufs (now (events .entry)) (now (errors .entry)) (now (scratch .entry)))
         (bufs (now (events .exit)) (now (errors .exit)) (now (scratch .exit))) ⌝ }
 {
@@ -581,16 +594,16 @@ pub fn read_item(
     events: &mut [u32],
     errors: &mut [u32],
     scratch: &mut [u64],
-    notes: &mut [usize; 68],
+    notes: &mut [usize; 69],
     table: &[u32; 288],
-    sets: &[[u64; 2]; 55],
+    sets: &[[u64; 2]; 56],
 ) -> State
     requires { ⌜
         Rows (source (now src) (now ids) (now ends))
         × Wf (source (now src) (now ids) (now ends)) (bufs (now events) (now errors) (now scratch)) (whole s (now notes))
         × Lends (now table) (now sets) ⌝ }
     ensures { λ r. ⌜
-        ((L : P.Limits) → L .depth ≡ depth
+        ((L : P.Limits) → reach L ≡ (depth, allowed (now (table .entry)))
         → Did (P.read-item L (K.item-of first)) (source (now (src .entry)) (now (ids .entry)) (now (ends .entry))) (whole s (now (notes .entry)))
         (whole r (now (notes .exit))) (bufs (now (events .entry)) (now (errors .entry)) (now (scratch .entry)))
         (bufs (now (events .exit)) (now (errors .exit)) (now (scratch .exit)))) ⌝ }

@@ -9,6 +9,13 @@ pub const IMPORT_ITEM: usize = 286;
 
 pub const INCLUDE_ITEM: usize = 287;
 
+// The row that is another where entrypoint is not allowed, what it is where it is, and where it is not.
+pub const LITERAL: usize = 99;
+
+pub const LITERAL_ALL: u32 = 0o0_052_067_000;
+
+pub const LITERAL_LESS: u32 = 0o0_067_067_000;
+
 pub const ROWS: [u32; 288] = [
     0o0_000_000_000,
     // INCLUDE_STMT <- INCLUDE_KW STRING_LIT

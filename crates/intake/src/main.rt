@@ -1,10 +1,15 @@
-// Reads the rows of one file from standard input, and writes what the reader and the merger make of them (document 01, "Small files").
+// Reads the rows of one file from standard input, and writes what the reader and the merger make of them (document 01, "Small files"), by edition 1 or by
+// the edition that the arguments name: --settings FILE --edition N.
 use desk::read::Reading;
+use libc::STDERR_FILENO;
 use libc::STDIN_FILENO;
 use libc::STDOUT_FILENO;
 use listing::Line;
 use listing::Next;
+use listing::Number;
 use merger::Merged;
+use reading::Named;
+use settings::Chosen;
 use shapes::event::END;
 use shapes::event::EVENT;
 use shapes::event::KIND;
@@ -38,6 +43,18 @@ enum Step {
 enum Source {
     Bytes(usize),
     Unreadable,
+}
+
+// The settings edition by which the file is read, and how long the settings text is.
+struct Edition {
+    number: u32,
+    size: usize,
+}
+
+enum Asked {
+    By(Edition),
+    // An argument that is none, or a settings file that cannot be read or is too long.
+    Wrong,
 }
 
 // The number, from 1, of the line behind those that have read. No run has so many lines that it wraps.
@@ -251,6 +268,18 @@ fn write_refusal(refusal: u32) {
     io::write_all(STDOUT_FILENO, &room[..k]);
 }
 
+fn say(text: &[u8]) {
+    io::write_all(STDERR_FILENO, text);
+}
+
+// 19 comes before the file is judged; its line is told beside the listing, which has no place for it.
+fn write_bad_line(line: u32) {
+    write_refusal(refusal::SETTINGS);
+    say(b"intake: the settings text does not read, line ");
+    io::print_decimal(STDERR_FILENO, line as u64);
+    say(b"\n");
+}
+
 fn write_result(outcome: u32, rows: u32, fuel: u32) {
     let mut room = [0u8; 4096];
     let k = listing::result_line(outcome, rows, fuel, &mut room);
@@ -318,22 +347,7 @@ fn row_count(covered: usize) -> u32 {
     covered as u32
 }
 
-// "It .. has room for 4,096 events and 16,384 numbers of error records." 129 words of scratch are what 4,096 rows ask for.
-fn answer(source: &[u8], ids: &[u32], starts: &[u32], ends: &[u32], fuel: u32) {
-    let mut scratch = [0u64; 129];
-    let mut events = [0u32; 16384];
-    let mut errors = [0u32; 16384];
-    let reading = desk::read::read(
-        source,
-        ids,
-        starts,
-        ends,
-        fuel,
-        desk::read::base(),
-        &mut scratch,
-        &mut events,
-        &mut errors,
-    );
+fn write_reading(reading: Reading, events: &[u32], errors: &[u32]) {
     match reading {
         Reading::Refused(n) => write_refusal(n),
         Reading::Answered {
@@ -343,14 +357,53 @@ fn answer(source: &[u8], ids: &[u32], starts: &[u32], ends: &[u32], fuel: u32) {
             errors: _,
             left,
         } => {
-            if write_merged(first_events(&events, count), &errors) {
+            if write_merged(first_events(events, count), errors) {
                 write_result(outcome, row_count(covered), left);
             }
         }
     }
 }
 
-fn answer_within(t: Taken, source: &[u8], ids: &[u32], starts: &[u32], ends: &[u32])
+// "It .. has room for 4,096 events and 16,384 numbers of error records." 129 words of scratch are what 4,096 rows ask for.
+fn answer(
+    text: &[u8],
+    edition: u32,
+    source: &[u8],
+    ids: &[u32],
+    starts: &[u32],
+    ends: &[u32],
+    fuel: u32,
+) {
+    let mut scratch = [0u64; 129];
+    let mut events = [0u32; 16384];
+    let mut errors = [0u32; 16384];
+    let named = reading::read(
+        text,
+        edition,
+        source,
+        ids,
+        starts,
+        ends,
+        fuel,
+        &mut scratch,
+        &mut events,
+        &mut errors,
+    );
+    match named {
+        Named::BadLine(line) => write_bad_line(line),
+        Named::Read(reading) => write_reading(reading, &events, &errors),
+    }
+}
+
+fn answer_within(
+    t: Taken,
+    text: &[u8],
+    edition: u32,
+    source: &[u8],
+    ids: &[u32],
+    starts: &[u32],
+    ends: &[u32],
+)
     requires { ⌜ (65536 ≤ length (now source)) × (4096 ≤ length (now ids)) × (4096 ≤ length (now starts)) × (4096 ≤ length (now ends)) ⌝ }
 {
     let size = t.size;
@@ -364,6 +417,8 @@ fn answer_within(t: Taken, source: &[u8], ids: &[u32], starts: &[u32], ends: &[u
         return;
     }
     answer(
+        text,
+        edition,
         &source[..size],
         &ids[..rows],
         &starts[..rows],
@@ -375,15 +430,92 @@ fn answer_within(t: Taken, source: &[u8], ids: &[u32], starts: &[u32], ends: &[u
 // As arrays, so that their lengths are known from their types.
 fn answer_taken(
     t: Taken,
+    text: &[u8],
+    edition: u32,
     source: &[u8; 65537],
     ids: &[u32; 4096],
     starts: &[u32; 4096],
     ends: &[u32; 4096],
 ) {
-    answer_within(t, source, ids, starts, ends);
+    match settings::choose(text, edition, t.fuel) {
+        Chosen::BadLine(line) => write_bad_line(line),
+        Chosen::Unknown => answer_within(t, text, edition, source, ids, starts, ends),
+        Chosen::Named(_) => answer_within(t, text, edition, source, ids, starts, ends),
+    }
+}
+
+fn same(word: &[u8], wanted: &[u8]) -> bool {
+    if word.len() != wanted.len() {
+        return false;
+    }
+    let mut i = 0;
+    while i < word.len() {
+        if i < wanted.len() {
+            if word[i] != wanted[i] {
+                return false;
+            }
+        }
+        i += 1;
+    }
+    true
+}
+
+fn take_settings(name: &[u8], number: u32, room: &mut [u8; 65537]) -> Asked {
+    let Source::Bytes(size) = open_source(name, room) else {
+        return Asked::Wrong;
+    };
+    if MOST_BYTES < size {
+        return Asked::Wrong;
+    }
+    Asked::By(Edition { number, size })
+}
+
+fn take_edition(digits: &[u8], size: usize) -> Asked {
+    let Number::Is(number) = listing::read_number(digits) else {
+        return Asked::Wrong;
+    };
+    Asked::By(Edition { number, size })
+}
+
+// A word and its value, where they are there.
+fn take_pair(at: usize, next: usize, e: Edition, room: &mut [u8; 65537]) -> Asked {
+    let mut word = [0u8; 4096];
+    let n = os::arg(at, &mut word);
+    if n == 0 {
+        return Asked::By(e);
+    }
+    let mut value = [0u8; 4096];
+    let m = os::arg(next, &mut value);
+    if same(&word[..n], b"--settings") {
+        return take_settings(&value[..m], e.number, room);
+    }
+    if same(&word[..n], b"--edition") {
+        return take_edition(&value[..m], e.size);
+    }
+    Asked::Wrong
+}
+
+// The text of the settings. No more was taken than there is room for.
+fn text_of(e: Edition, room: &[u8; 65537]) -> &[u8] {
+    let n = e.size;
+    let all = &room[..];
+    if all.len() < n {
+        return all;
+    }
+    &all[..n]
 }
 
 fn main() {
+    let mut room = [0u8; 65537];
+    let first = Edition { number: 1, size: 0 };
+    let Asked::By(one) = take_pair(1, 2, first, &mut room) else {
+        say(b"intake: the arguments are --settings FILE and --edition N\n");
+        return;
+    };
+    let Asked::By(edition) = take_pair(3, 4, one, &mut room) else {
+        say(b"intake: the arguments are --settings FILE and --edition N\n");
+        return;
+    };
     let mut buffer = [0u8; 16384];
     let mut source = [0u8; 65537];
     let mut ids = [0u32; 4096];
@@ -393,6 +525,14 @@ fn main() {
     let step = take_input(&mut buffer, &mut source, &mut ids, &mut starts, &mut ends);
     match step {
         Step::Unread(number) => write_unread(number),
-        Step::On(t) => answer_taken(t, &source, &ids, &starts, &ends),
+        Step::On(t) => answer_taken(
+            t,
+            text_of(edition, &room),
+            edition.number,
+            &source,
+            &ids,
+            &starts,
+            &ends,
+        ),
     }
 }

@@ -61,17 +61,17 @@ own-pick (a ∷ S) i t = go (eqb i (idOf a)) refl (own-pick S i (both-right (eqb
 abbrev plain : ℕ → Bool
 plain s = elim (eqb s 15) [ true ↦ true | false ↦ elim (eqb s 39) [ true ↦ true | false ↦ own (setOf s) ] ]
 
-tried : all plain 55 ≡ true
+tried : all plain 56 ≡ true
 unfolding idOf
 tried = refl
 
 pub plain-kind : (s i : ℕ) → (s ≡ 15 → ⊥) → (s ≡ 39 → ⊥) → i ≡ kindIn s i
 unfolding kindIn
-plain-kind s i n k = go (decLt s 55)
+plain-kind s i n k = go (decLt s 56)
   where
     here : plain s ≡ own (setOf s)
     here = ap (λ (b : Bool). elim b [ true ↦ true | false ↦ elim (eqb s 39) [ true ↦ true | false ↦ own (setOf s) ] ]) (ne-eqb s 15 n) ∙ ap (λ (b : Bool). elim b [ true ↦ true | false ↦ own (setOf s) ]) (ne-eqb s 39 k)
 
-    go : Dec (s < 55) → i ≡ kindIn s i
-    go (yes h) = own-pick (setOf s) i (sym here ∙ all-sound plain 55 tried s h)
+    go : Dec (s < 56) → i ≡ kindIn s i
+    go (yes h) = own-pick (setOf s) i (sym here ∙ all-sound plain 56 tried s h)
     go (no h) = sym (ap (λ (S : List ℕ). orId i (pick S i)) (set-none s (omega (arith, h))))

@@ -15,14 +15,14 @@ use Rattle.kinds.specs.Answers.{order, starts, PartOf}
 use Rattle.kinds.proofs.Parts.{parts}
 
 -- a number that no set has
-pub set-none : (s : ℕ) → 55 ≤ s → setOf s ≡ []
+pub set-none : (s : ℕ) → 56 ≤ s → setOf s ≡ []
 set-none s h = List·getD-eq-default sets [] h
 
-pub place-none : (s : ℕ) → 55 ≤ s → PartOf order (setOf s) 0 0
+pub place-none : (s : ℕ) → 56 ≤ s → PartOf order (setOf s) 0 0
 place-none s h = record { forward = omega arith; within = omega arith; is = sym (set-none s h) }
 
 -- where a set stands, by the numbers that its beginning and the next are
-pub placed : {s from to : ℕ} → s < 55 → from ≡ getD (starts 0 sets) s 0 → to ≡ getD (starts 0 sets) (s + 1) 0 → PartOf order (setOf s) from to
+pub placed : {s from to : ℕ} → s < 56 → from ≡ getD (starts 0 sets) s 0 → to ≡ getD (starts 0 sets) (s + 1) 0 → PartOf order (setOf s) from to
 placed {s} h e f = rw (e, f) (parts sets s h)
 
 -- looking for the id i in the list l, which stands in the whole up to to, with the kinds before the place p passed

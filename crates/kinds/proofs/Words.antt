@@ -1,7 +1,7 @@
 -- A pair of words read bit by bit, and the rule of the sets' words: one computed test over all sets and ids. Assumes nothing.
-use Prim.Native.Nat.{ℕ, _+_, _-_, _/_, _%_, _^_, _≤_, _<_}
+use Prim.Native.Nat.{ℕ, _-_, _/_, _%_, _^_, _≤_, _<_}
 use mathlib.Core.Path.{_≡_, refl, sym, ap, ap₂, _∙_}
-use mathlib.Core.List.{List, [], _∷_, map}
+use mathlib.Core.List.{List, [], _∷_}
 use mathlib.Core.Bool.{Bool, true, false}
 use mathlib.Core.Option.{none, some}
 use native.Mathlib.Nat.{zero-div}
@@ -11,7 +11,7 @@ use borrow.Author.Tests.{eqb-true, ltb-true, ne-eqb}
 use lib.Bits.{bitAnd, and-mask}
 use lib.Dec.{eqb, ltb}
 use lib.ListN.{length, getD, List·getD-eq-default}
-use Rattle.kinds.specs.Sets.{idOf, pick, sets, setOf}
+use Rattle.kinds.specs.Sets.{idOf, pick, setOf}
 use Rattle.kinds.specs.Answers.{inPair, isSome, words}
 use Rattle.kinds.proofs.Order.{set-none}
 use Rattle.kinds.proofs.Tables.{both, both-left, both-right, all, all-sound, alike, alike-sound}
@@ -61,15 +61,15 @@ agrees s i = alike (inPair (getD words s []) i) (isSome (pick (setOf s) i))
 abbrev right : ℕ → Bool
 right s = both (eqb (length (getD words s [])) 2) (both (low (setOf s)) (all (agrees s) 128))
 
-tried : all right 55 ≡ true
+tried : all right 56 ≡ true
 unfolding idOf inPair words
 tried = refl
 
-pub words-right : (s i : ℕ) → s < 55 → inPair (getD words s []) i ≡ isSome (pick (setOf s) i)
+pub words-right : (s i : ℕ) → s < 56 → inPair (getD words s []) i ≡ isSome (pick (setOf s) i)
 words-right s i h = go (decLt i 128)
   where
     here : right s ≡ true
-    here = all-sound right 55 tried s h
+    here = all-sound right 56 tried s h
 
     rest : both (low (setOf s)) (all (agrees s) 128) ≡ true
     rest = both-right (eqb (length (getD words s [])) 2) (both (low (setOf s)) (all (agrees s) 128)) here
@@ -80,14 +80,14 @@ words-right s i h = go (decLt i 128)
         sym (in-none (getD words s []) i (eqb-true _ 2 (both-left (eqb (length (getD words s [])) 2) (both (low (setOf s)) (all (agrees s) 128)) here)) (omega (arith, k)))
         ∙ sym (ap isSome (low-none (setOf s) i (both-left (low (setOf s)) (all (agrees s) 128) rest) (omega (arith, k))))
 
-long : length words ≡ 55
+long : length words ≡ 56
 unfolding words
 long = refl
 
 -- the table as it is lent, at any number
 pub lent-right : (l : List (List ℕ)) → l ≡ words → (s i : ℕ) → inPair (getD l s []) i ≡ isSome (pick (setOf s) i)
-lent-right l e s i = ap (λ (t : List (List ℕ)). inPair (getD t s []) i) e ∙ go (decLt s 55)
+lent-right l e s i = ap (λ (t : List (List ℕ)). inPair (getD t s []) i) e ∙ go (decLt s 56)
   where
-    go : Dec (s < 55) → inPair (getD words s []) i ≡ isSome (pick (setOf s) i)
+    go : Dec (s < 56) → inPair (getD words s []) i ≡ isSome (pick (setOf s) i)
     go (yes h) = words-right s i h
     go (no h) = in-nothing words s i (rw long (omega (arith, h))) ∙ sym (ap (λ (S : List ℕ). isSome (pick S i)) (set-none s (omega (arith, h))))

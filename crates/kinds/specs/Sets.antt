@@ -48,7 +48,8 @@ pick (a ∷ S) i = elim (eqb i (idOf a)) [ true ↦ some a | false ↦ pick S i 
 abbrev pub idsOf : List ℕ → List ℕ
 idsOf S = map idOf S
 
--- the module's sets in the order of its text, each once, and the keywords at which an item begins
+-- the module's sets in the order of its text, each once; the keywords at which an item begins; and the rows that are a term by themselves in an
+-- edition that turns entrypoint off
 abbrev pub sets : List (List ℕ)
 sets =
     (k.IMPORT-KW ∷ [])
@@ -106,6 +107,7 @@ sets =
     ∷ (k.PERCENT ∷ [])
     ∷ (k.ASTERISK ∷ [])
     ∷ (k.GLOBAL-KW ∷ k.PRIVATE-KW ∷ k.RULE-KW ∷ [])
+    ∷ (k.FLOAT-LIT ∷ k.INTEGER-LIT ∷ k.STRING-LIT ∷ k.REGEXP ∷ k.FILESIZE-KW ∷ [])
     ∷ []
 
 -- a number that no set has gives the empty set

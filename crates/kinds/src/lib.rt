@@ -3,7 +3,7 @@ ghost use mathlib.Core.Path.{_≡_};
 ghost use mathlib.Core.List.{[]};
 ghost use lib.ListN.{getD, getElem?};
 ghost use Rattle.kinds.specs.Sets.{isId, trivial, idOf, kindOf, pick, idsOf, setOf};
-ghost use Rattle.kinds.specs.Answers.{matchedOf, nameOf, isSome, inPair, kindIn, order, PartOf};
+ghost use Rattle.kinds.specs.Answers.{matchedOf, nameOf, inPair, kindIn, order, PartOf};
 
 mod answer;
 pub mod id;
@@ -13,7 +13,7 @@ pub mod set;
 mod table;
 mod text;
 
-pub use answer::Matched;
+use answer::Matched;
 pub use answer::Name;
 pub use table::SETS;
 use table::begins;
@@ -69,19 +69,8 @@ pub fn member(pair: [u64; 2], id: u32) -> bool
     false
 }
 
-// Whether the set has a kind with the id.
-pub fn contains(set: usize, id: u32) -> bool
-    ensures { λ r. ⌜ r ≡ isSome (pick (setOf set) id) ⌝ }
-{
-    if set < 55 {
-        let pair = SETS[set];
-        return member(pair, id);
-    }
-    false
-}
-
-// The same by a table of pairs that is lent, as one that is named here would be laid out anew at each call.
-pub fn within(set: usize, id: u32, sets: &[[u64; 2]; 55]) -> bool
+// Whether the set has a kind with the id, by a table of pairs that is lent: one that is named here would be laid out anew at each call.
+pub fn within(set: usize, id: u32, sets: &[[u64; 2]; 56]) -> bool
     ensures { λ r. ⌜ r ≡ inPair (getD (now (sets .entry)) set []) id ⌝ }
 {
     let table = &sets[..];
@@ -101,7 +90,7 @@ struct Part {
 fn place(set: usize) -> Part
     ensures { λ r. ⌜ PartOf order (setOf set) (r .from) (r .to) ⌝ }
 {
-    if set < 55 {
+    if set < 56 {
         return Part {
             from: begins(set),
             to: begins(set + 1),
@@ -111,7 +100,7 @@ fn place(set: usize) -> Part
 }
 
 // The first kind in the set that has the id.
-pub fn matched(set: usize, id: u32) -> Matched
+fn matched(set: usize, id: u32) -> Matched
     ensures { λ r. ⌜ r ≡ matchedOf (pick (setOf set) id) ⌝ }
 {
     let p = place(set);

@@ -7,7 +7,7 @@ ghost use Rattle.kinds.specs.Answers.{order, starts, NoneBelow};
 use crate::kind;
 
 // Bit i of a pair, counted through its two words, says whether the set has the id i.
-pub const SETS: [[u64; 2]; 55] = [
+pub const SETS: [[u64; 2]; 56] = [
     [0x2000000, 0],
     [0, 0x100],
     [0x8000000, 0],
@@ -63,6 +63,7 @@ pub const SETS: [[u64; 2]; 55] = [
     [0x4000000000000000, 0],
     [0x40000000000000, 0],
     [0x3000200000, 0],
+    [0x40000, 0x18300],
 ];
 
 // The number is none of those below n, so it is n or more: what the last arm of a `match` on each number below n knows.
@@ -183,8 +184,13 @@ pub fn ordered(i: usize) -> u32
         102 => kind::GLOBAL_KW,
         103 => kind::PRIVATE_KW,
         104 => kind::RULE_KW,
+        105 => kind::FLOAT_LIT,
+        106 => kind::INTEGER_LIT,
+        107 => kind::STRING_LIT,
+        108 => kind::REGEXP,
+        109 => kind::FILESIZE_KW,
         _ => {
-            past(105, i);
+            past(110, i);
             0
         }
     }
@@ -252,8 +258,9 @@ pub fn begins(set: usize) -> usize
         53 => 101,
         54 => 102,
         55 => 105,
+        56 => 110,
         _ => {
-            past(56, set);
+            past(57, set);
             0
         }
     }

@@ -7,3 +7,4 @@ pub mod Written
 pub mod Records
 pub mod Lent
 pub mod Small
+pub mod Marks

@@ -7,7 +7,7 @@ use Rattle.listing.specs.Numbers.{decimal}
 use Rattle.listing.specs.Listing.{eventLine, listed, refused, unread}
 
 p4 : listed
-    (1 ∷ k.SOURCE-FILE ∷ 0 ∷ 22 ∷ 1 ∷ k.ERROR ∷ 0 ∷ 0 ∷ 1 ∷ k.ERROR ∷ 0 ∷ 0 ∷ 3 ∷ k.ERROR ∷ 0 ∷ 0 ∷ 3 ∷ k.ERROR ∷ 0 ∷ 0 ∷ 3 ∷ k.SOURCE-FILE ∷ 0 ∷ 22 ∷ [])
+    (1 ∷ k.SOURCE-FILE ∷ 0 ∷ 22 ∷ 0 ∷ 1 ∷ k.ERROR ∷ 0 ∷ 0 ∷ 1 ∷ 1 ∷ k.ERROR ∷ 0 ∷ 0 ∷ 2 ∷ 3 ∷ k.ERROR ∷ 0 ∷ 0 ∷ 2 ∷ 3 ∷ k.ERROR ∷ 0 ∷ 0 ∷ 1 ∷ 3 ∷ k.SOURCE-FILE ∷ 0 ∷ 22 ∷ 0 ∷ [])
     [] 1 0 0
     ≡ bytes "L\t1\nB\tSOURCE_FILE\t0\t22\nB\tERROR\t0\t0\nB\tERROR\t0\t0\nE\tERROR\t0\t0\nE\tERROR\t0\t0\nE\tSOURCE_FILE\t0\t22\nR\t1\t0\t0\n"
 unfolding eventLine kindText decimal

@@ -61,7 +61,7 @@ abbrev pub recordsFrom : ℕ → List ℕ → List ℕ
 recordsFrom zero l = l
 recordsFrom (suc k) l = recordsFrom k (drop (recordSize (getD l FORM 0) (getD l COUNT 0)) l)
 
--- "sort (1 begin, 2 token, 3 end, 4 error), kind or error record index (from 0), start, end"
+-- "sort (1 begin, 2 token, 3 end, 4 error), kind or error record index (from 0), start, end"; edition 1 does not show an event's depth
 unfoldable pub eventLine : List ℕ → ℕ → ℕ → ℕ → ℕ → List ℕ
 eventLine errors sort second start end =
     cond (eqb sort Sort.BEGIN) (nodeLine 66 second start end)
@@ -74,7 +74,8 @@ eventLines errors [] = []
 eventLines errors (a ∷ []) = []
 eventLines errors (a ∷ b ∷ []) = []
 eventLines errors (a ∷ b ∷ c ∷ []) = []
-eventLines errors (a ∷ b ∷ c ∷ d ∷ events) = eventLine errors a b c d ++ eventLines errors events
+eventLines errors (a ∷ b ∷ c ∷ d ∷ []) = []
+eventLines errors (a ∷ b ∷ c ∷ d ∷ depth ∷ events) = eventLine errors a b c d ++ eventLines errors events
 
 -- the listing of a file that was read
 abbrev pub listed : List ℕ → List ℕ → ℕ → ℕ → ℕ → List ℕ

@@ -12,6 +12,7 @@ pub use read::read_line;
 pub use read::read_number;
 pub use write::event_line;
 pub use write::head_line;
+pub use write::numbers_line;
 pub use write::put;
 pub use write::put_byte;
 pub use write::put_decimal;

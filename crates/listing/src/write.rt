@@ -122,7 +122,7 @@ fn put_names(names: &[u32], room: &mut [u8], at: usize) -> usize
 }
 
 // A line whose fields are all numbers.
-fn numbers_line(letter: u8, numbers: &[u64], room: &mut [u8]) -> usize
+pub fn numbers_line(letter: u8, numbers: &[u64], room: &mut [u8]) -> usize
     requires { ⌜ 2 + 21 * length (now numbers) ≤ length (now room) ⌝ }
     ensures { λ r. ⌜ Spelled (lineWith letter (map decimal (now (numbers .entry)))) (now (room .entry)) (now (room .exit)) r ⌝ }
 {

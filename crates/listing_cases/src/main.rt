@@ -170,20 +170,24 @@ fn write_error(number: u32) {
         7,
         16,
         1,
+        1,
         2,
         kind::META_KW,
         kind::STRINGS_KW,
         40,
         41,
         10,
+        2,
         0,
         4,
         7,
         9,
+        3,
         0,
         5,
         21,
         21,
+        3,
         3,
         2,
         name::OPERATOR,
@@ -191,6 +195,7 @@ fn write_error(number: u32) {
         9,
         99,
         2,
+        900,
         4,
         name::EXPRESSION,
         name::MODIFIER,
@@ -200,7 +205,7 @@ fn write_error(number: u32) {
     write_event(4, number, 0, 0, &errors);
 }
 
-// Records with names and without, with a place, with a name that is none, and a record that is not there.
+// Records with names and without, with a place, with a name that is none, and a record that is not there. Edition 1 does not show their items.
 fn write_errors() {
     write_error(0);
     write_error(1);

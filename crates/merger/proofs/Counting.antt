@@ -17,18 +17,18 @@ use Rattle.merger.specs.declared.judge.Tally.the-variants as tally
 
 abbrev left : List Mark → ℕ
 left [] = 0
-left (opens z ∷ ms) = suc (left ms)
+left (opens d z ∷ ms) = suc (left ms)
 left (joins z ∷ ms) = left ms
-left (closes ∷ ms) = suc (left ms)
+left (closes d ∷ ms) = suc (left ms)
 left (keeps e ∷ ms) = suc (left ms)
 
 length-merge : (ms : List Mark) (st : List Span) → paired ms (length st) ≡ true → length (merge ms st) ≡ left ms
 length-merge [] st h = refl
-length-merge (opens z ∷ ms) st h = ap suc (length-merge ms (reach ms 0 z ∷ st) h)
+length-merge (opens d z ∷ ms) st h = ap suc (length-merge ms (reach ms 0 z ∷ st) h)
 length-merge (joins z ∷ ms) [] h = never h
 length-merge (joins z ∷ ms) (y ∷ st) h = length-merge ms (y ∷ st) h
-length-merge (closes ∷ ms) [] h = never h
-length-merge (closes ∷ ms) (y ∷ st) h = ap suc (length-merge ms st h)
+length-merge (closes d ∷ ms) [] h = never h
+length-merge (closes d ∷ ms) (y ∷ st) h = ap suc (length-merge ms st h)
 length-merge (keeps e ∷ ms) st h = ap suc (length-merge ms st h)
 
 -- what a tally comes to with the marks that are left
@@ -44,11 +44,11 @@ comes-first ms = go (paired ms 0) refl
     go false h = refl
 
 comes-more : (m : Mark) (ms : List Mark) (h n : ℕ) → comes (tally.Open h n) (m ∷ ms) ≡ comes (tallied m h n) ms
-comes-more (opens z) ms h n = ap₂ (λ (i j : ℕ). sized (paired ms i) j) (sym (add-one h)) (omega arith)
+comes-more (opens d z) ms h n = ap₂ (λ (i j : ℕ). sized (paired ms i) j) (sym (add-one h)) (omega arith)
 comes-more (joins z) ms zero n = refl
 comes-more (joins z) ms (suc h) n = refl
-comes-more closes ms zero n = refl
-comes-more closes ms (suc h) n = ap₂ (λ (i j : ℕ). sized (paired ms i) j) (omega arith) (omega arith)
+comes-more (closes d) ms zero n = refl
+comes-more (closes d) ms (suc h) n = ap₂ (λ (i j : ℕ). sized (paired ms i) j) (omega arith) (omega arith)
 comes-more (keeps e) ms h n = ap (sized (paired ms h)) (omega arith)
 
 pub comes-turn : (ms ms′ : List Mark) (m : Mark) (h n : ℕ) (t : Tally) → ms ≡ m ∷ ms′ → t ≡ tallied m h n → comes (tally.Open h n) ms ≡ comes t ms′
@@ -66,9 +66,9 @@ inside-one zero t f = absurd (f refl)
 inside-one (suc h) t f = refl
 
 pub tallied-more : (m : Mark) (h n h′ n′ : ℕ) → tallied m h n ≡ tally.Open h′ n′ → (h′ ≤ h + 1) × (n′ ≤ n + 1)
-tallied-more (opens z) h n h′ n′ e = let p : h + 1 ≡ h′ = cc in let q : n + 1 ≡ n′ = cc in omega arith
+tallied-more (opens d z) h n h′ n′ e = let p : h + 1 ≡ h′ = cc in let q : n + 1 ≡ n′ = cc in omega arith
 tallied-more (joins z) zero n h′ n′ e = let z : _≡_ {A = ℕ} 0 1 = cc in omega arith
 tallied-more (joins z) (suc h) n h′ n′ e = let p : suc h ≡ h′ = cc in let q : n ≡ n′ = cc in omega arith
-tallied-more closes zero n h′ n′ e = let z : _≡_ {A = ℕ} 0 1 = cc in omega arith
-tallied-more closes (suc h) n h′ n′ e = let p : suc h - 1 ≡ h′ = cc in let q : n + 1 ≡ n′ = cc in omega arith
+tallied-more (closes d) zero n h′ n′ e = let z : _≡_ {A = ℕ} 0 1 = cc in omega arith
+tallied-more (closes d) (suc h) n h′ n′ e = let p : suc h - 1 ≡ h′ = cc in let q : n + 1 ≡ n′ = cc in omega arith
 tallied-more (keeps e) h n h′ n′ e′ = let p : h ≡ h′ = cc in let q : n + 1 ≡ n′ = cc in omega arith

@@ -11,18 +11,19 @@ use Rattle.shapes.specs.Sort as Sort
 use Rattle.shapes.specs.Shapes.{EVENT, Entry, flat}
 use Rattle.shapes.proofs.Laws.{flat-length}
 use Rattle.definition.specs.Merge.{Mark, opens, joins, closes, keeps, Span, widened, paired, reach, merge, error-event}
-use Rattle.merger.specs.Events.{entry-at, put-at}
+use Rattle.events.specs.Events.{entry-at}
+use Rattle.merger.specs.Events.{put-at}
 use Rattle.merger.specs.Pen.{Page, page, pen-at, link, around, span-of, begun, joined, turn, Roomy, Inside, Able}
 use Rattle.merger.proofs.Lists.{amid, put-amid, entry-amid, length-put}
 use Rattle.merger.proofs.Bools.{never}
 
 flat-append : (a b : List Entry) → flat (a ++ b) ≡ flat a ++ flat b
 flat-append [] b = refl
-flat-append (e ∷ a) b = ap (λ (l : List ℕ). e .0 ∷ e .1 ∷ e .2 ∷ e .3 ∷ l) (flat-append a b)
+flat-append (e ∷ a) b = ap (λ (l : List ℕ). e .0 ∷ e .1 ∷ e .2 ∷ e .3 ∷ e .4 ∷ l) (flat-append a b)
 
--- a node that is open: the events between the begin event around it and its own, and its span so far
+-- a node that is open: the events between the begin event around it and its own, its span so far, and its depth
 abbrev pub Frame : Type 0
-Frame = List Entry × Span
+Frame = List Entry × Span × ℕ
 
 -- the innermost node is first; the place past its begin event
 abbrev pub place : List Frame → ℕ
@@ -32,12 +33,12 @@ place (f ∷ fs) = place fs + (EVENT * length (f .0) + EVENT)
 -- the room up to there
 abbrev pub laid : List Frame → List ℕ
 laid [] = []
-laid (f ∷ fs) = laid fs ++ (flat (f .0) ++ flat (link (place fs) (f .1) ∷ []))
+laid (f ∷ fs) = laid fs ++ (flat (f .0) ++ flat (link (place fs) (f .1) (f .2) ∷ []))
 
 -- the finished list up to there, and the finished spans: r gives the span of a node in which so many are open
 abbrev pub done : (ℕ → Span → Span) → List Frame → List Entry
 done r [] = []
-done r (f ∷ fs) = done (λ h. r (suc h)) fs ++ (f .0 ++ (error-event Sort.BEGIN (r 0 (f .1)) ∷ []))
+done r (f ∷ fs) = done (λ h. r (suc h)) fs ++ (f .0 ++ (error-event Sort.BEGIN (r 0 (f .1)) (f .2) ∷ []))
 
 abbrev pub spans : (ℕ → Span → Span) → List Frame → List Span
 spans r [] = []
@@ -77,7 +78,8 @@ split [] h = absurd (omega arith)
 split (a ∷ []) h = absurd (omega arith)
 split (a ∷ b ∷ []) h = absurd (omega arith)
 split (a ∷ b ∷ c ∷ []) h = absurd (omega arith)
-split (a ∷ b ∷ c ∷ d ∷ t) h = refl
+split (a ∷ b ∷ c ∷ d ∷ []) h = absurd (omega arith)
+split (a ∷ b ∷ c ∷ d ∷ e ∷ t) h = refl
 
 -- at the end of what is written
 module _ (fs : List Frame) (since : List Entry) where
@@ -103,38 +105,38 @@ module _ (f : Frame) (fs : List Frame) (l rest : List ℕ) (node : ℕ) (h : l �
   begin : node - EVENT ≡ length (written fs (f .0))
   begin = omega (arith, length-written fs (f .0))
 
-  cells : l ≡ amid (written fs (f .0)) (link (place fs) (f .1)) rest
+  cells : l ≡ amid (written fs (f .0)) (link (place fs) (f .1) (f .2)) rest
   unfolding written
   cells = h ∙ simp append-assoc
 
-  pub held : entry-at l (node - EVENT) ≡ link (place fs) (f .1)
-  held = ap₂ entry-at cells begin ∙ entry-amid (written fs (f .0)) rest (link (place fs) (f .1))
+  pub held : entry-at l (node - EVENT) ≡ link (place fs) (f .1) (f .2)
+  held = ap₂ entry-at cells begin ∙ entry-amid (written fs (f .0)) rest (link (place fs) (f .1) (f .2))
 
   pub patched : (e : Entry) → put-at l (node - EVENT) e ≡ laid fs ++ ((flat (f .0) ++ flat (e ∷ [])) ++ rest)
   unfolding written
   patched e =
       ap₂ (λ (t : List ℕ) (i : ℕ). put-at t i e) cells begin
-      ∙ put-amid (written fs (f .0)) rest (link (place fs) (f .1)) e
+      ∙ put-amid (written fs (f .0)) rest (link (place fs) (f .1) (f .2)) e
       ∙ simp append-assoc
 
 -- THE STEPS
 roomy : (r : ℕ → Span → Span) (fs : List Frame) (since : List Entry) (e : Entry) (es out : List Entry) (n : ℕ) → out ≡ done r fs ++ (since ++ (e ∷ es)) → EVENT * length out ≤ n → place fs + EVENT * length since + EVENT ≤ n
 roomy r fs since e es out n h k = omega (arith, length-done r fs, ap length h, length-append (done r fs) (since ++ (e ∷ es)), length-append since (e ∷ es))
 
-around-link : (n : ℕ) (z : Span) → around (link n z) ≡ n
-around-link n z = omega arith
+around-link : (n : ℕ) (z : Span) (d : ℕ) → around (link n z d) ≡ n
+around-link n z d = omega arith
 
 module _ (out : List Entry) (ms : List Mark) (g : Page) where
   abbrev Step : Mark → Type 0
   Step m = Able m g × Draft out ms (turn m g)
 
-  opening : (z : Span) (fs : List Frame) (since : List Entry) (tail : List ℕ) → Lies out (opens z ∷ ms) g fs since tail → Step (opens z)
-  opening z fs since tail d =
+  opening : (i : ℕ) (z : Span) (fs : List Frame) (since : List Entry) (tail : List ℕ) → Lies out (opens i z ∷ ms) g fs since tail → Step (opens i z)
+  opening i z fs since tail d =
       let room : Roomy g = rw (d .to) (roomy (λ h. reach ms (suc h)) fs since _ _ out (length (g .room)) (d .whole) (d .fits)) in
-      let lies : Lies out ms (turn (opens z) g) ((since, z) ∷ fs) [] (drop EVENT tail) = record {
+      let lies : Lies out ms (turn (opens i z) g) ((since, z, i) ∷ fs) [] (drop EVENT tail) = record {
         cells =
-            appended fs since (g .room) tail (g .pen .to) (link (g .pen .node) z) (d .cells) (d .to) room
-            ∙ ap (λ (n : ℕ). laid fs ++ (flat (since ++ (link n z ∷ [])) ++ drop EVENT tail)) (d .node)
+            appended fs since (g .room) tail (g .pen .to) (link (g .pen .node) z i) (d .cells) (d .to) room
+            ∙ ap (λ (n : ℕ). laid fs ++ (flat (since ++ (link n z i ∷ [])) ++ drop EVENT tail)) (d .node)
             ∙ simp (flat-append, append-assoc);
         to = omega (arith, d .to);
         node = omega (arith, d .to);
@@ -142,7 +144,7 @@ module _ (out : List Entry) (ms : List Mark) (g : Page) where
         whole = d .whole ∙ simp append-assoc;
         fits = rw length-put (d .fits);
       } in
-      (room, record { frames = (since, z) ∷ fs; since = []; tail = drop EVENT tail; lies = lies })
+      (room, record { frames = (since, z, i) ∷ fs; since = []; tail = drop EVENT tail; lies = lies })
 
   keeping : (e : Entry) (fs : List Frame) (since : List Entry) (tail : List ℕ) → Lies out (keeps e ∷ ms) g fs since tail → Step (keeps e)
   keeping e fs since tail d =
@@ -162,7 +164,7 @@ module _ (out : List Entry) (ms : List Mark) (g : Page) where
     inside : Inside g
     inside = omega (arith, d .node, ap length (d .cells), length-append (laid (f ∷ fs)) (flat since ++ tail), length-laid (f ∷ fs))
 
-    begins : begun g ≡ link (place fs) (f .1)
+    begins : begun g ≡ link (place fs) (f .1) (f .2)
     begins = held f fs (g .room) (flat since ++ tail) (g .pen .node) (d .cells) (d .node)
 
     repaired : (e : Entry) → put-at (g .room) (g .pen .node - EVENT) e ≡ laid fs ++ ((flat (f .0) ++ flat (e ∷ [])) ++ (flat since ++ tail))
@@ -170,10 +172,10 @@ module _ (out : List Entry) (ms : List Mark) (g : Page) where
 
   joining : (z : Span) (f : Frame) (fs : List Frame) (since : List Entry) (tail : List ℕ) → Lies out (joins z ∷ ms) g (f ∷ fs) since tail → Step (joins z)
   joining z f fs since tail d =
-      let lies : Lies out ms (turn (joins z) g) ((f .0, widened (f .1) z) ∷ fs) since tail = record {
+      let lies : Lies out ms (turn (joins z) g) ((f .0, widened (f .1) z, f .2) ∷ fs) since tail = record {
         cells =
             ap (λ (e : Entry). put-at (g .room) (g .pen .node - EVENT) (joined e z)) (begins (joins z) f fs since tail d)
-            ∙ repaired (joins z) f fs since tail d (link (place fs) (widened (f .1) z))
+            ∙ repaired (joins z) f fs since tail d (link (place fs) (widened (f .1) z) (f .2))
             ∙ simp append-assoc;
         to = d .to;
         node = d .node;
@@ -181,34 +183,34 @@ module _ (out : List Entry) (ms : List Mark) (g : Page) where
         whole = d .whole;
         fits = rw length-put (d .fits);
       } in
-      (inside (joins z) f fs since tail d, record { frames = (f .0, widened (f .1) z) ∷ fs; since = since; tail = tail; lies = lies })
+      (inside (joins z) f fs since tail d, record { frames = (f .0, widened (f .1) z, f .2) ∷ fs; since = since; tail = tail; lies = lies })
 
-  closing : (f : Frame) (fs : List Frame) (since : List Entry) (tail : List ℕ) → Lies out (closes ∷ ms) g (f ∷ fs) since tail → Step closes
-  closing f fs since tail d =
-      let room : Roomy g = rw (d .to) (roomy (reach (closes ∷ ms)) (f ∷ fs) since _ _ out (length (g .room)) (d .whole) (d .fits)) in
-      let begin = begins closes f fs since tail d in
-      let shut : List Entry = f .0 ++ (error-event Sort.BEGIN (f .1) ∷ since) in
-      let long = length-append (f .0) (error-event Sort.BEGIN (f .1) ∷ since) in
-      let patch : put-at (g .room) (g .pen .node - EVENT) (error-event Sort.BEGIN (f .1)) ≡ laid fs ++ (flat shut ++ tail) =
-      repaired closes f fs since tail d (error-event Sort.BEGIN (f .1)) ∙ simp (flat-append, append-assoc) in
-      let lies : Lies out ms (turn closes g) fs (shut ++ (error-event Sort.END (f .1) ∷ [])) (drop EVENT tail) = record {
+  closing : (i : ℕ) (f : Frame) (fs : List Frame) (since : List Entry) (tail : List ℕ) → Lies out (closes i ∷ ms) g (f ∷ fs) since tail → Step (closes i)
+  closing i f fs since tail d =
+      let room : Roomy g = rw (d .to) (roomy (reach (closes i ∷ ms)) (f ∷ fs) since _ _ out (length (g .room)) (d .whole) (d .fits)) in
+      let begin = begins (closes i) f fs since tail d in
+      let shut : List Entry = f .0 ++ (error-event Sort.BEGIN (f .1) (f .2) ∷ since) in
+      let long = length-append (f .0) (error-event Sort.BEGIN (f .1) (f .2) ∷ since) in
+      let patch : put-at (g .room) (g .pen .node - EVENT) (error-event Sort.BEGIN (f .1) (f .2)) ≡ laid fs ++ (flat shut ++ tail) =
+      repaired (closes i) f fs since tail d (error-event Sort.BEGIN (f .1) (f .2)) ∙ simp (flat-append, append-assoc) in
+      let lies : Lies out ms (turn (closes i) g) fs (shut ++ (error-event Sort.END (f .1) i ∷ [])) (drop EVENT tail) = record {
         cells =
-            ap (λ (e : Entry). put-at (put-at (g .room) (g .pen .node - EVENT) (error-event Sort.BEGIN (span-of e))) (g .pen .to) (error-event Sort.END (span-of e))) begin
-            ∙ appended fs shut _ tail (g .pen .to) (error-event Sort.END (f .1)) patch (omega (arith, d .to, long)) (rw length-put room);
-        to = omega (arith, d .to, long, length-append shut (error-event Sort.END (f .1) ∷ []));
-        node = ap around begin ∙ around-link (place fs) (f .1);
+            ap (λ (e : Entry). put-at (put-at (g .room) (g .pen .node - EVENT) (error-event Sort.BEGIN (span-of e) (e .4))) (g .pen .to) (error-event Sort.END (span-of e) i)) begin
+            ∙ appended fs shut _ tail (g .pen .to) (error-event Sort.END (f .1) i) patch (omega (arith, d .to, long)) (rw length-put room);
+        to = omega (arith, d .to, long, length-append shut (error-event Sort.END (f .1) i ∷ []));
+        node = ap around begin ∙ around-link (place fs) (f .1) (f .2);
         nested = d .nested;
         whole = d .whole ∙ simp append-assoc;
         fits = rw length-put (rw length-put (d .fits));
       } in
-      ((room, inside closes f fs since tail d), record { frames = fs; since = shut ++ (error-event Sort.END (f .1) ∷ []); tail = drop EVENT tail; lies = lies })
+      ((room, inside (closes i) f fs since tail d), record { frames = fs; since = shut ++ (error-event Sort.END (f .1) i ∷ []); tail = drop EVENT tail; lies = lies })
 
   step : (m : Mark) (fs : List Frame) (since : List Entry) (tail : List ℕ) → Lies out (m ∷ ms) g fs since tail → Step m
-  step (opens z) fs since tail d = opening z fs since tail d
+  step (opens i z) fs since tail d = opening i z fs since tail d
   step (joins z) [] since tail d = never (d .nested)
   step (joins z) (f ∷ fs) since tail d = joining z f fs since tail d
-  step closes [] since tail d = never (d .nested)
-  step closes (f ∷ fs) since tail d = closing f fs since tail d
+  step (closes i) [] since tail d = never (d .nested)
+  step (closes i) (f ∷ fs) since tail d = closing i f fs since tail d
   step (keeps e) fs since tail d = keeping e fs since tail d
 
 module _ (out : List Entry) (ms : List Mark) (m : Mark) (ms′ : List Mark) (g : Page) (first : ms ≡ m ∷ ms′) (d : Draft out ms g) where

@@ -1,6 +1,5 @@
 pub mod Bools
 pub mod Lists
-pub mod Listing
 pub mod Reading
 pub mod Counting
 pub mod Turning

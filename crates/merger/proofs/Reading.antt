@@ -11,12 +11,13 @@ use Rattle.kinds.specs.Kinds as k
 use Rattle.shapes.specs.Sort as Sort
 use Rattle.shapes.specs.Shapes.{EVENT, Entry, entries}
 use Rattle.definition.specs.Merge.{Mark, opens, joins, closes, keeps, ended, marked, marks, error-of}
-use Rattle.merger.specs.Events.{entry-at, rest}
+use Rattle.events.specs.Events.{entry-at}
+use Rattle.merger.specs.Events.{rest}
 use Rattle.merger.proofs.Bools.{sort-of}
-use Rattle.merger.proofs.Lists.{entries-at, entries-end}
+use Rattle.events.proofs.Lists.{entries-at, entries-end}
 
 -- OF EVENTS
-opened : (e : Entry) (es : List Entry) → error-of Sort.BEGIN e ≡ true → marks (e ∷ es) ≡ opens (e .2, e .3) ∷ marks es
+opened : (e : Entry) (es : List Entry) → error-of Sort.BEGIN e ≡ true → marks (e ∷ es) ≡ opens (e .4) (e .2, e .3) ∷ marks es
 opened e es h = ap (λ (t : Bool). marked t (error-of Sort.END e) e (marks es)) h
 
 kept : (e : Entry) (es : List Entry) → error-of Sort.BEGIN e ≡ false → error-of Sort.END e ≡ false → marks (e ∷ es) ≡ keeps e ∷ marks es
@@ -25,19 +26,19 @@ kept e es h g = ap (λ (t : Bool). marked t (error-of Sort.END e) e (marks es)) 
 not-begin : (e : Entry) → error-of Sort.END e ≡ true → error-of Sort.BEGIN e ≡ false
 not-begin e h = ap (λ (t : Bool). t && eqb (e .1) k.ERROR) (ne-eqb (e .0) 1 (λ q. omega (arith, sort-of 3 e h)))
 
-shut : (e : Entry) (es : List Entry) → error-of Sort.END e ≡ true → marks (e ∷ es) ≡ ended (marks es)
+shut : (e : Entry) (es : List Entry) → error-of Sort.END e ≡ true → marks (e ∷ es) ≡ ended (e .4) (marks es)
 shut e es h = ap (λ (t : Bool). marked t (error-of Sort.END e) e (marks es)) (not-begin e h) ∙ ap (λ (t : Bool). marked false t e (marks es)) h
 
 -- an end before what is no begin
-closed : (e : Entry) (es : List Entry) → error-of Sort.BEGIN e ≡ false → ended (marks (e ∷ es)) ≡ closes ∷ marks (e ∷ es)
-closed e es h = ap (λ (t : Bool). ended (marked t (error-of Sort.END e) e (marks es))) h ∙ go (error-of Sort.END e) (marks es) ∙ ap (λ (t : Bool). closes ∷ marked t (error-of Sort.END e) e (marks es)) (sym h)
+closed : (d : ℕ) (e : Entry) (es : List Entry) → error-of Sort.BEGIN e ≡ false → ended d (marks (e ∷ es)) ≡ closes d ∷ marks (e ∷ es)
+closed d e es h = ap (λ (t : Bool). ended d (marked t (error-of Sort.END e) e (marks es))) h ∙ go (error-of Sort.END e) (marks es) ∙ ap (λ (t : Bool). closes d ∷ marked t (error-of Sort.END e) e (marks es)) (sym h)
   where
-    go : (t : Bool) (ms : List Mark) → ended (marked false t e ms) ≡ closes ∷ marked false t e ms
+    go : (t : Bool) (ms : List Mark) → ended d (marked false t e ms) ≡ closes d ∷ marked false t e ms
     go false ms = refl
     go true [] = refl
-    go true (opens z ∷ ms) = refl
+    go true (opens i z ∷ ms) = refl
     go true (joins z ∷ ms) = refl
-    go true (closes ∷ ms) = refl
+    go true (closes i ∷ ms) = refl
     go true (keeps f ∷ ms) = refl
 
 -- the code's test
@@ -60,7 +61,7 @@ module _ (l : List ℕ) (at : ℕ) (more : at + EVENT ≤ length l) (e : Entry) 
   here : rest l at ≡ marks (e ∷ entries (drop (at + EVENT) l))
   here = ap marks (entries-at l at more) ∙ ap (λ (f : Entry). marks (f ∷ entries (drop (at + EVENT) l))) (sym is)
 
-  pub opens-at : error-of Sort.BEGIN e ≡ true → rest l at ≡ opens (e .2, e .3) ∷ rest l (at + EVENT)
+  pub opens-at : error-of Sort.BEGIN e ≡ true → rest l at ≡ opens (e .4) (e .2, e .3) ∷ rest l (at + EVENT)
   opens-at h = here ∙ opened e (entries (drop (at + EVENT) l)) h
 
   pub keeps-at : error-of Sort.BEGIN e ≡ false → error-of Sort.END e ≡ false → rest l at ≡ keeps e ∷ rest l (at + EVENT)
@@ -69,23 +70,26 @@ module _ (l : List ℕ) (at : ℕ) (more : at + EVENT ≤ length l) (e : Entry) 
   pub other-at : (getD l (at + 1) 0 ≡ k.ERROR → ⊥) → rest l at ≡ keeps e ∷ rest l (at + EVENT)
   other-at h = let n : e .1 ≡ k.ERROR → ⊥ = λ p. h (sym (ap (λ (f : Entry). f .1) is) ∙ p) in keeps-at (other e 1 n) (other e 3 n)
 
-  no-begin : error-of Sort.BEGIN e ≡ false → ended (rest l at) ≡ closes ∷ rest l at
-  no-begin h = ap ended here ∙ closed e (entries (drop (at + EVENT) l)) h ∙ ap (λ (ms : List Mark). closes ∷ ms) (sym here)
+  no-begin : (d : ℕ) → error-of Sort.BEGIN e ≡ false → ended d (rest l at) ≡ closes d ∷ rest l at
+  no-begin d h = ap (ended d) here ∙ closed d e (entries (drop (at + EVENT) l)) h ∙ ap (λ (ms : List Mark). closes d ∷ ms) (sym here)
 
 pub rest-end : (l : List ℕ) (at : ℕ) → length l - at < EVENT → rest l at ≡ []
 rest-end l at h = ap marks (entries-end l at h)
 
 -- an end at a place, e the event after it
 module _ (l : List ℕ) (at : ℕ) (more : at + EVENT ≤ length l) (end : error-of Sort.END (entry-at l at) ≡ true) where
-  ended-at : rest l at ≡ ended (rest l (at + EVENT))
+  abbrev d : ℕ
+  d = entry-at l at .4
+
+  ended-at : rest l at ≡ ended d (rest l (at + EVENT))
   ended-at = here l at more (entry-at l at) refl ∙ shut (entry-at l at) (entries (drop (at + EVENT) l)) end
 
-  pub closes-last : length l - (at + EVENT) < EVENT → rest l at ≡ closes ∷ rest l (at + EVENT)
-  closes-last h = ended-at ∙ ap ended (rest-end l (at + EVENT) h) ∙ ap (λ (ms : List Mark). closes ∷ ms) (sym (rest-end l (at + EVENT) h))
+  pub closes-last : length l - (at + EVENT) < EVENT → rest l at ≡ closes d ∷ rest l (at + EVENT)
+  closes-last h = ended-at ∙ ap (ended d) (rest-end l (at + EVENT) h) ∙ ap (λ (ms : List Mark). closes d ∷ ms) (sym (rest-end l (at + EVENT) h))
 
   module _ (next : (at + EVENT) + EVENT ≤ length l) (e : Entry) (is : e ≡ entry-at l (at + EVENT)) where
     pub joins-at : error-of Sort.BEGIN e ≡ true → rest l at ≡ joins (e .2, e .3) ∷ rest l ((at + EVENT) + EVENT)
-    joins-at h = ended-at ∙ ap ended (opens-at l (at + EVENT) next e is h)
+    joins-at h = ended-at ∙ ap (ended d) (opens-at l (at + EVENT) next e is h)
 
-    pub closes-at : error-of Sort.BEGIN e ≡ false → rest l at ≡ closes ∷ rest l (at + EVENT)
-    closes-at h = ended-at ∙ no-begin l (at + EVENT) next e is h
+    pub closes-at : error-of Sort.BEGIN e ≡ false → rest l at ≡ closes d ∷ rest l (at + EVENT)
+    closes-at h = ended-at ∙ no-begin l (at + EVENT) next e is d h

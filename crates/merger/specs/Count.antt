@@ -23,7 +23,7 @@ inside (suc h) t = t
 
 -- a mark more; h nodes are open and n events left
 abbrev pub tallied : Mark → ℕ → ℕ → Tally
-tallied (opens z) h n = tally.Open (h + 1) (n + 1)
+tallied (opens d z) h n = tally.Open (h + 1) (n + 1)
 tallied (joins z) h n = inside h (tally.Open h n)
-tallied closes h n = inside h (tally.Open (h - 1) (n + 1))
+tallied (closes d) h n = inside h (tally.Open (h - 1) (n + 1))
 tallied (keeps e) h n = tally.Open h (n + 1)

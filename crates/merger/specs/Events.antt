@@ -1,30 +1,23 @@
--- Events and marks of the code as those of the definition, and what reading and writing one means.
+-- Marks of the code as those of the definition, and what reading a mark and writing an event means.
 use Prim.Native.Nat.{ℕ, _+_, _≤_}
 use mathlib.Core.Path.{_≡_}
 use mathlib.Core.List.{List, _∷_}
-use lib.ListN.{length, getD, drop, set}
+use lib.ListN.{length, drop, set}
 use Rattle.shapes.specs.Shapes.{EVENT, Entry, entries}
 use Rattle.definition.specs.Merge as D
-use Rattle.merger.specs.declared.marks.Event.{Event}
+use Rattle.events.specs.Events.{entryOf}
 use Rattle.merger.specs.declared.marks.Step.{Step}
 use Rattle.merger.specs.declared.marks.Mark.{Mark}
 use Rattle.merger.specs.declared.marks.Mark.the-variants.{Opens, Joins, Closes, Keeps}
 
-abbrev pub entryOf : Event → Entry
-entryOf e = (e .sort, e .kind, e .start, e .end)
-
 abbrev pub markOf : Mark → D.Mark
-markOf (Opens s e) = D.opens (s, e)
+markOf (Opens d s e) = D.opens d (s, e)
 markOf (Joins s e) = D.joins (s, e)
-markOf Closes = D.closes
+markOf (Closes d) = D.closes d
 markOf (Keeps e) = D.keeps (entryOf e)
 
--- the event whose four numbers start at a place
-abbrev pub entry-at : List ℕ → ℕ → Entry
-entry-at l at = (getD l at 0, getD l (at + 1) 0, getD l (at + 2) 0, getD l (at + 3) 0)
-
 abbrev pub put-at : List ℕ → ℕ → Entry → List ℕ
-put-at l at e = set (set (set (set l at (e .0)) (at + 1) (e .1)) (at + 2) (e .2)) (at + 3) (e .3)
+put-at l at e = set (set (set (set (set l at (e .0)) (at + 1) (e .1)) (at + 2) (e .2)) (at + 3) (e .3)) (at + 4) (e .4)
 
 -- the marks from a place on
 abbrev pub rest : List ℕ → ℕ → List D.Mark

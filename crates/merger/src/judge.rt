@@ -1,10 +1,9 @@
-// Refusals 9 and 10, and the size of the finished list.
+// Refusal 10, and the size of the finished list.
 use crate::marks::Mark;
 use crate::marks::mark_at;
 use kinds::kind::ERROR;
 use shapes::event::EVENT;
 use shapes::event::KIND;
-use shapes::sort;
 ghost use mathlib.Core.Path.{_≡_};
 ghost use Prim.Native.Nat.{_<_, _^_};
 ghost use Rattle.shapes.specs.Shapes.{entries};
@@ -23,40 +22,19 @@ pub enum Tally {
     Open(usize, usize),
 }
 
-// Whether the list is no case of refusal 9.
-pub fn well_formed(events: &[u32]) -> bool
-    ensures { λ r. ⌜ r ≡ D.well-formed (now (events .entry)) ⌝ }
-{
-    if events.len() % EVENT != 0 {
-        return false;
-    }
-    let mut at: usize = 0;
-    while at < events.len() {
-        let sort = events[at];
-        if sort < sort::BEGIN {
-            return false;
-        }
-        if sort > sort::ERROR {
-            return false;
-        }
-        at += EVENT;
-    }
-    true
-}
-
 // A mark more in the tally.
 fn one_more(m: Mark, nodes: usize, left: usize) -> Tally
     requires { ⌜ (nodes < 2 ^ 63) × (left < 2 ^ 63) ⌝ }
     ensures { λ r. ⌜ r ≡ tallied (markOf m) nodes left ⌝ }
 {
     match m {
-        Mark::Opens(_, _) => Tally::Open(nodes + 1, left + 1),
+        Mark::Opens(_, _, _) => Tally::Open(nodes + 1, left + 1),
         Mark::Joins(_, _) => if nodes == 0 {
             Tally::Unpaired
         } else {
             Tally::Open(nodes, left)
         },
-        Mark::Closes => if nodes == 0 {
+        Mark::Closes(_) => if nodes == 0 {
             Tally::Unpaired
         } else {
             Tally::Open(nodes - 1, left + 1)

@@ -5,9 +5,9 @@ mod pen;
 
 use crate::judge::Size;
 use crate::judge::count;
-use crate::judge::well_formed;
 use crate::pen::write;
 use cells::clear;
+use events::well_formed;
 use shapes::event::EVENT;
 ghost use mathlib.Core.Path.{_≡_};
 ghost use Rattle.definition.specs.Merge.{merging};

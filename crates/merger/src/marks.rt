@@ -1,5 +1,8 @@
 // What an event list is to the merger, one mark after the other.
+use events::Event;
+use events::read;
 use kinds::kind::ERROR;
+use shapes::event::DEPTH;
 use shapes::event::END;
 use shapes::event::EVENT;
 use shapes::event::KIND;
@@ -12,20 +15,14 @@ ghost use lib.ListN.{length};
 ghost use Rattle.shapes.specs.Sort as Sort;
 ghost use Rattle.shapes.specs.Shapes.{EVENT};
 ghost use Rattle.definition.specs.Merge.{error-of};
-ghost use Rattle.merger.specs.Events.{entryOf, entry-at, put-at, Reads};
+ghost use Rattle.events.specs.Events.{entryOf, entry-at};
+ghost use Rattle.merger.specs.Events.{put-at, Reads};
 
-pub struct Event {
-    pub sort: u32,
-    pub kind: u32,
-    pub start: u32,
-    pub end: u32,
-}
-
-// Opens and Joins bear the span of an ERROR begin.
+// Opens bears depth and span of an ERROR begin, Joins its span, Closes the depth of an ERROR end.
 pub enum Mark {
-    Opens(u32, u32),
+    Opens(u32, u32, u32),
     Joins(u32, u32),
-    Closes,
+    Closes(u32),
     Keeps(Event),
 }
 
@@ -33,18 +30,6 @@ pub enum Mark {
 pub struct Step {
     pub mark: Mark,
     pub past: usize,
-}
-
-pub fn read(l: &[u32], at: usize) -> Event
-    requires { ⌜ at + EVENT ≤ length (now l) ⌝ }
-    ensures { λ r. ⌜ entryOf r ≡ entry-at (now (l .entry)) at ⌝ }
-{
-    Event {
-        sort: l[at],
-        kind: l[at + KIND],
-        start: l[at + START],
-        end: l[at + END],
-    }
 }
 
 pub fn put(room: &mut [u32], at: usize, e: Event)
@@ -55,6 +40,7 @@ pub fn put(room: &mut [u32], at: usize, e: Event)
     room[at + KIND] = e.kind;
     room[at + START] = e.start;
     room[at + END] = e.end;
+    room[at + DEPTH] = e.depth;
 }
 
 fn is_error(e: Event, sort: u32) -> bool
@@ -72,10 +58,11 @@ fn ended(events: &[u32], at: usize) -> Step
     requires { ⌜ (at + EVENT ≤ length (now events)) × (error-of Sort.END (entry-at (now events) at) ≡ true) ⌝ }
     ensures { λ r. ⌜ Reads (now (events .entry)) at r ⌝ }
 {
+    let depth = events[at + DEPTH];
     let past = at + EVENT;
     if events.len() - past < EVENT {
         return Step {
-            mark: Mark::Closes,
+            mark: Mark::Closes(depth),
             past,
         };
     }
@@ -87,7 +74,7 @@ fn ended(events: &[u32], at: usize) -> Step
         };
     }
     Step {
-        mark: Mark::Closes,
+        mark: Mark::Closes(depth),
         past,
     }
 }
@@ -100,7 +87,7 @@ pub fn mark_at(events: &[u32], at: usize) -> Step
     let e = read(events, at);
     if is_error(e, sort::BEGIN) {
         return Step {
-            mark: Mark::Opens(e.start, e.end),
+            mark: Mark::Opens(e.depth, e.start, e.end),
             past: at + EVENT,
         };
     }

@@ -1,11 +1,11 @@
 // Writing the finished list. While an ERROR node is open, sort and kind of its begin event are known, so their cells hold a link instead: the place past
 // the begin event of the ERROR node around it, in two halves of 32 bits, since a list may be longer than a cell can count. When the node closes, the
 // link says at once which node is the innermost again, and sort and kind are written back.
-use crate::marks::Event;
 use crate::marks::Mark;
 use crate::marks::mark_at;
 use crate::marks::put;
-use crate::marks::read;
+use events::Event;
+use events::read;
 use kinds::kind::ERROR;
 use shapes::event::EVENT;
 use shapes::event::KIND;
@@ -15,7 +15,8 @@ ghost use Prim.Native.Nat.{_*_, min, max};
 ghost use lib.ListN.{length, take};
 ghost use Rattle.shapes.specs.Shapes.{EVENT, flat};
 ghost use Rattle.definition.specs.Merge as D;
-ghost use Rattle.merger.specs.Events.{markOf, entryOf};
+ghost use Rattle.events.specs.Events.{entryOf};
+ghost use Rattle.merger.specs.Events.{markOf};
 ghost use Rattle.merger.specs.Pen.{page, turn, Able, Writable};
 
 // What half a link can count.
@@ -41,9 +42,9 @@ fn greatest(a: u32, b: u32) -> u32
 }
 
 impl Pen {
-    fn opens(self, start: u32, end: u32, room: &mut [u32]) -> Self
-        requires { ⌜ Able (D.opens (start, end)) (page (now room) self) ⌝ }
-        ensures { λ r. ⌜ page (now (room .exit)) r ≡ turn (D.opens (start, end)) (page (now (room .entry)) self) ⌝ }
+    fn opens(self, depth: u32, start: u32, end: u32, room: &mut [u32]) -> Self
+        requires { ⌜ Able (D.opens depth (start, end)) (page (now room) self) ⌝ }
+        ensures { λ r. ⌜ page (now (room .exit)) r ≡ turn (D.opens depth (start, end)) (page (now (room .entry)) self) ⌝ }
     {
         let to = self.to;
         let node = self.node;
@@ -52,6 +53,7 @@ impl Pen {
             kind: (node / HALF) as u32,
             start,
             end,
+            depth,
         };
         put(room, to, e);
         Pen {
@@ -72,9 +74,9 @@ impl Pen {
         self
     }
 
-    fn closes(self, room: &mut [u32]) -> Self
-        requires { ⌜ Able D.closes (page (now room) self) ⌝ }
-        ensures { λ r. ⌜ page (now (room .exit)) r ≡ turn D.closes (page (now (room .entry)) self) ⌝ }
+    fn closes(self, depth: u32, room: &mut [u32]) -> Self
+        requires { ⌜ Able (D.closes depth) (page (now room) self) ⌝ }
+        ensures { λ r. ⌜ page (now (room .exit)) r ≡ turn (D.closes depth) (page (now (room .entry)) self) ⌝ }
     {
         let begin = self.node - EVENT;
         let to = self.to;
@@ -84,6 +86,7 @@ impl Pen {
         e.kind = ERROR;
         put(room, begin, e);
         e.sort = sort::END;
+        e.depth = depth;
         put(room, to, e);
         Pen {
             to: to + EVENT,
@@ -108,9 +111,9 @@ impl Pen {
         ensures { λ r. ⌜ page (now (room .exit)) r ≡ turn (markOf m) (page (now (room .entry)) self) ⌝ }
     {
         match m {
-            Mark::Opens(start, end) => self.opens(start, end, room),
+            Mark::Opens(depth, start, end) => self.opens(depth, start, end, room),
             Mark::Joins(start, end) => self.joins(start, end, room),
-            Mark::Closes => self.closes(room),
+            Mark::Closes(depth) => self.closes(depth, room),
             Mark::Keeps(e) => self.keeps(e, room),
         }
     }

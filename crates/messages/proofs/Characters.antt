@@ -1,16 +1,15 @@
 -- The message of a record that reads is UTF-8: the name text is, and what is quoted of the source. Assumes nothing.
 use Prim.Native.Nat.{ℕ, zero, suc, _-_, _≤_}
-use Prim.Native.String.{String}
 use mathlib.Core.Path.{_≡_, refl, sym, ap, _∙_}
 use mathlib.Core.List.{List, [], _∷_, _++_, map}
-use mathlib.Core.Bool.{Bool, true, false, cond, not, _&&_, _||_}
+use mathlib.Core.Bool.{Bool, true, false, cond, not, _&&_}
 use mathlib.Core.Option.{Option, none, some}
 use native.Mathlib.Numerals.{unary-clauses}
 use native.Mathlib.Omega.{arith}
 use lib.Dec.{eqb}
 use lib.ListN.{getD}
 use Rattle.kinds.specs.Spelling.{bytes}
-use Rattle.utf8.specs.Utf8.{Range, nothing, next, walk, utf8}
+use Rattle.utf8.specs.Utf8.{Range, next, walk, utf8}
 use Rattle.messages.specs.Texts as t
 use Rattle.messages.specs.Record.{form, names, found, empty, quotes, reads}
 use Rattle.messages.specs.Message.{described, others, listed, sentences, message}

@@ -12,3 +12,4 @@ pub mod Readable
 pub mod Examples
 pub mod Spots
 pub mod Characters
+pub mod Sizes

@@ -1,19 +1,20 @@
 -- An error record as numbers, and which records read (refusal 11).
--- "An error record is start, end, form, count of names, then the names."; in form 9 the place stands behind them (request (vi)). Where its numbers stand
--- is said here and in src/record.rt alone: with request (x) `head` is 5 and `count-at` 4, and nothing else here moves.
+-- "An error record is start, end, form, count of names, then the names."; behind the form its item's number (request (x)), in form 9 the place behind the
+-- names (request (vi)). Where its numbers stand crate shapes says.
 use Prim.Native.Nat.{ℕ, zero, suc, _+_, _-_}
 use mathlib.Core.List.{List, [], _∷_}
 use mathlib.Core.Bool.{Bool, true, false, cond, not, _&&_, _||_}
 use lib.Dec.{eqb, ltb, leb}
 use lib.ListN.{length, getD, take, drop}
+use Rattle.shapes.specs.Shapes.{HEAD, FORM, COUNT}
 use Rattle.utf8.specs.Utf8.{utf8}
 
 -- how many numbers stand before the names, and which of them is the count
 abbrev pub head : ℕ
-head = 4
+head = HEAD
 
 abbrev pub count-at : ℕ
-count-at = 3
+count-at = COUNT
 
 abbrev pub start : List ℕ → ℕ
 start r = getD r 0 0
@@ -22,7 +23,7 @@ abbrev pub end : List ℕ → ℕ
 end r = getD r 1 0
 
 abbrev pub form : List ℕ → ℕ
-form r = getD r 2 0
+form r = getD r FORM 0
 
 abbrev pub count : List ℕ → ℕ
 count r = getD r count-at 0

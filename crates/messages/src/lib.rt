@@ -9,17 +9,17 @@ mod writing;
 
 use crate::reading::least;
 use crate::reading::reads;
-use crate::record::COUNT;
-use crate::record::END;
-use crate::record::FORM;
-use crate::record::HEAD;
-use crate::record::START;
 use crate::record::number_at;
-use crate::writing::clear;
 use crate::writing::put;
 pub use answer::Part;
 pub use answer::Written;
+use cells::blank;
 pub use record::size;
+use shapes::record::COUNT;
+use shapes::record::END;
+use shapes::record::FORM;
+use shapes::record::HEAD;
+use shapes::record::START;
 pub use spot::Spot;
 pub use spot::spot_of;
 pub use text::TEXT;
@@ -250,7 +250,7 @@ pub fn message(source: &[u8], numbers: &[u32], room: &mut [u8]) -> Written
         return Written::Full;
     }
     let end = write(source, &text, numbers, room);
-    clear(&mut room[end..]);
+    blank(&mut room[end..]);
     Written::Length(end)
 }
 

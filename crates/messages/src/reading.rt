@@ -1,10 +1,10 @@
 // Which records read (refusal 11).
-use crate::record::COUNT;
-use crate::record::END;
-use crate::record::FORM;
-use crate::record::HEAD;
-use crate::record::START;
 use crate::record::behind;
+use shapes::record::COUNT;
+use shapes::record::END;
+use shapes::record::FORM;
+use shapes::record::HEAD;
+use shapes::record::START;
 ghost use Prim.Native.Nat.{_≤_, min};
 ghost use mathlib.Core.Path.{_≡_};
 ghost use mathlib.Core.List.{[]};

@@ -1,19 +1,11 @@
-// Where the numbers of an error record stand. This file and specs/Record say it, and no other place of the crate.
+// The numbers of an error record: where they stand crate shapes says.
+use shapes::record::COUNT;
+use shapes::record::FORM;
+use shapes::record::HEAD;
 ghost use Prim.Native.Nat.{_≤_};
 ghost use mathlib.Core.Path.{_≡_};
 ghost use lib.ListN.{getD};
 ghost use Rattle.messages.specs.Record.{behind, size};
-
-pub const START: usize = 0;
-
-pub const END: usize = 1;
-
-pub const FORM: usize = 2;
-
-// Which number is the count of names, and how many numbers stand before the names.
-pub const COUNT: usize = 3;
-
-pub const HEAD: usize = 4;
 
 // How many numbers stand behind the names of a record of form 9.
 const PLACES: usize = 1;

@@ -1,6 +1,6 @@
 // Writes messages. A line has the refusal's number or 0, the message's length, and the room after: zeros as `_`, and as it was lent `.`.
 // `stdout` was written by hand from the crate's wording and the page of requests. Names are numbers of docs/KINDS.md: 67 is R_BRACE, 74 IDENT,
-// 82 "expression", 83 "operator".
+// 82 "expression", 83 "operator". A record's item, behind its form, is not looked at.
 use libc::STDOUT_FILENO;
 use messages::Written;
 
@@ -53,28 +53,28 @@ fn line(source: &[u8], numbers: &[u32], size: usize) {
 // The ten forms; one, two, three and four names, two of them descriptions.
 fn forms() {
     let s = b"rule a{condition:true rule b{condition:true}";
-    line(s, &[22, 26, 1, 1, 67], 48);
-    line(s, &[22, 26, 1, 2, 83, 67], 48);
-    line(s, &[7, 16, 1, 3, 30, 39, 74], 64);
-    line(s, &[22, 26, 1, 4, 82, 57, 81, 67], 64);
-    line(s, &[0, 44, 2, 3, 72, 74, 84], 56);
-    line(s, &[44, 44, 3, 2, 83, 67], 48);
-    line(s, &[5, 6, 4, 0], 24);
-    line(s, &[44, 44, 5, 0], 24);
-    line(s, &[0, 4, 6, 0], 24);
-    line(s, &[0, 4, 7, 0], 24);
-    line(s, &[0, 4, 8, 0], 32);
-    line(s, &[0, 4, 9, 0, 2], 24);
-    line(s, &[0, 4, 10, 0], 48);
+    line(s, &[22, 26, 1, 1, 1, 67], 48);
+    line(s, &[22, 26, 1, 1, 2, 83, 67], 48);
+    line(s, &[7, 16, 1, 1, 3, 30, 39, 74], 64);
+    line(s, &[22, 26, 1, 1, 4, 82, 57, 81, 67], 64);
+    line(s, &[0, 44, 2, 1, 3, 72, 74, 84], 56);
+    line(s, &[44, 44, 3, 1, 2, 83, 67], 48);
+    line(s, &[5, 6, 4, 1, 0], 24);
+    line(s, &[44, 44, 5, 1, 0], 24);
+    line(s, &[0, 4, 6, 1, 0], 24);
+    line(s, &[0, 4, 7, 1, 0], 24);
+    line(s, &[0, 4, 8, 1, 0], 32);
+    line(s, &[0, 4, 9, 1, 0, 2], 24);
+    line(s, &[0, 4, 10, 1, 0], 48);
 }
 
 // A found text of 15 bytes, and one of 16, which the reader gives form 2; characters of more than one byte.
 fn found() {
     let s = b"abcdefghijklmnop\xC3\xA9\xF0\x9F\x99\x82";
-    line(s, &[0, 15, 1, 1, 74], 48);
-    line(s, &[0, 16, 2, 1, 74], 24);
-    line(s, &[0, 16, 1, 1, 74], 48);
-    line(s, &[16, 22, 4, 0], 19);
+    line(s, &[0, 15, 1, 1, 1, 74], 48);
+    line(s, &[0, 16, 2, 900, 1, 74], 24);
+    line(s, &[0, 16, 1, 1, 1, 74], 48);
+    line(s, &[16, 22, 4, 1, 0], 19);
 }
 
 // Records that do not read: cut short, spans, forms, counts, names, and what is quoted; then two that do, of which the first has numbers behind it that
@@ -82,34 +82,34 @@ fn found() {
 fn unread() {
     let s = b"a\xC2b";
     line(s, &[], 8);
-    line(s, &[0, 1, 4], 8);
-    line(s, &[0, 1, 1, 2, 7], 8);
-    line(s, &[0, 2, 9, 0], 8);
-    line(s, &[1, 0, 4, 0], 8);
-    line(s, &[0, 4, 4, 0], 8);
-    line(s, &[0, 1, 0, 0], 8);
-    line(s, &[0, 1, 11, 0], 8);
-    line(s, &[0, 1, 1, 0], 8);
-    line(s, &[0, 1, 2, 0], 8);
-    line(s, &[3, 3, 3, 0], 8);
-    line(s, &[0, 1, 5, 1, 7], 8);
-    line(s, &[0, 1, 10, 1, 7], 8);
-    line(s, &[0, 1, 1, 1, 85], 8);
-    line(s, &[0, 1, 1, 3, 7, 8, 7], 8);
-    line(s, &[1, 1, 4, 0], 8);
-    line(s, &[0, 2, 4, 0], 8);
-    line(s, &[0, 2, 1, 1, 7], 8);
-    line(s, &[0, 1, 3, 1, 7], 8);
-    line(s, &[2, 3, 4, 0, 99, 99], 16);
-    line(s, &[0, 2, 2, 1, 55], 16);
+    line(s, &[0, 1, 4, 1], 8);
+    line(s, &[0, 1, 1, 1, 2, 7], 8);
+    line(s, &[0, 2, 9, 1, 0], 8);
+    line(s, &[1, 0, 4, 1, 0], 8);
+    line(s, &[0, 4, 4, 1, 0], 8);
+    line(s, &[0, 1, 0, 1, 0], 8);
+    line(s, &[0, 1, 11, 1, 0], 8);
+    line(s, &[0, 1, 1, 1, 0], 8);
+    line(s, &[0, 1, 2, 1, 0], 8);
+    line(s, &[3, 3, 3, 1, 0], 8);
+    line(s, &[0, 1, 5, 1, 1, 7], 8);
+    line(s, &[0, 1, 10, 1, 1, 7], 8);
+    line(s, &[0, 1, 1, 1, 1, 85], 8);
+    line(s, &[0, 1, 1, 1, 3, 7, 8, 7], 8);
+    line(s, &[1, 1, 4, 1, 0], 8);
+    line(s, &[0, 2, 4, 1, 0], 8);
+    line(s, &[0, 2, 1, 1, 1, 7], 8);
+    line(s, &[0, 1, 3, 1, 1, 7], 8);
+    line(s, &[2, 3, 4, 1, 0, 99, 99], 16);
+    line(s, &[0, 2, 2, 1, 1, 55], 16);
 }
 
 // Just enough room, and one byte less; 11 stands before 12.
 fn rooms() {
-    line(b"x", &[0, 1, 4, 0], 14);
-    line(b"x", &[0, 1, 4, 0], 13);
-    line(b"x", &[0, 1, 4, 0], 0);
-    line(b"x", &[0, 1, 4, 1, 7], 0);
+    line(b"x", &[0, 1, 4, 1, 0], 14);
+    line(b"x", &[0, 1, 4, 1, 0], 13);
+    line(b"x", &[0, 1, 4, 1, 0], 0);
+    line(b"x", &[0, 1, 4, 1, 1, 7], 0);
 }
 
 fn spot(source: &[u8], at: usize) {

@@ -7,7 +7,7 @@ use libc::STDERR_FILENO;
 use libc::STDIN_FILENO;
 use libc::STDOUT_FILENO;
 use outline::Listed;
-use outline::WIDTH;
+use shapes::event::EVENT;
 ghost use Prim.Native.Nat.{_≤_};
 ghost use lib.ListN.{length};
 
@@ -136,10 +136,10 @@ fn write_rules(source: &[u8], rules: &[u32; 32768], count: usize) {
 
 // The first events of a list. The reader counts no more than its room has.
 fn first_events(list: &[u32], count: usize) -> &[u32] {
-    if list.len() / WIDTH < count {
+    if list.len() / EVENT < count {
         return list;
     }
-    let n = count * WIDTH;
+    let n = count * EVENT;
     &list[..n]
 }
 

@@ -80,10 +80,6 @@ module _ (bit : ℕ) (l : List ℕ) (h : bit / 64 < length l) where
 abbrev pub Clear : List ℕ → Type 0
 Clear l = (i : ℕ) → bitAt l i ≡ false
 
-pub zeros-clear : (l : List ℕ) → ((j : ℕ) → getD l j 0 ≡ 0) → Clear l
-unfolding bitAt
-zeros-clear l z i = ap (λ (w : ℕ). eqb (w / 2 ^ (i % 64) % 2) 1) (z (i / 64)) ∙ ap (λ (w : ℕ). eqb (w % 2) 1) (zero-div (2 ^ (i % 64)))
-
 -- forgetting, a word at a time
 pub forgot-start : {from to : ℕ} {l : List ℕ} → to ≤ from → Forgot from to l l
 forgot-start h = record { inside = λ i a b. absurd (omega arith); outside = λ i e. e }
@@ -131,9 +127,6 @@ bit-kind term term p = eq-eqb (2 * p + 1) (2 * p + 1) refl
 pub cached-at : {n first far : ℕ} {l : List ℕ} {c : List (ℕ × ℕ)} → Cached n first far l c → (t : Memo) (p : ℕ) → p ≤ n → bitAt l (bitOf t p) ≡ P.known c (n - p) (kindOf t)
 cached-at w expr = w .expr
 cached-at w term = w .term
-
-pub cached-none : {n first far : ℕ} {l : List ℕ} → Clear l → Cached n first far l []
-cached-none z = record { expr = λ p h. z (2 * p); term = λ p h. z (2 * p + 1); below = λ i h. z i; above = λ i h. z i }
 
 pub forgotten : {n first far : ℕ} {l l′ : List ℕ} {c : List (ℕ × ℕ)} → Cached n first far l c → Forgot first far l l′ → Clear l′
 forgotten {n} {first} {far} {l} {l′} w f i = go (decLt i (2 * first)) (decLt i (2 * far))

@@ -13,7 +13,8 @@ use lib.Seq.{take-take}
 use Rattle.shapes.specs.Shapes.{EVENT, event, Rec}
 use Rattle.definition.specs.Run as P
 use Rattle.definition.specs.Run.{Event, opened, leaf, closed, bad, Limits}
-use Rattle.definition.specs.Buffer.{buffer}
+use Rattle.definition.specs.Buffer.{height, cell, next-depth, buffer}
+use Rattle.definition.proofs.Buffer.{next-is}
 use Rattle.definition.specs.Render.{Source, records, said, held, used, exceeds, over}
 use Rattle.notes.specs.Whole.{Whole, beside}
 use Rattle.notes.specs.Bits.{ifb}
@@ -38,9 +39,6 @@ like-same {p} {x} e = record { all = λ z. ap bare e; over = ap (overOf p x) e }
 
 pub like-trans : {p : Past} {x : Source} {a b c : P.State} → Like p x a b → Like p x b c → Like p x a c
 like-trans k l = record { all = λ z. k .all z ∙ l .all (sym (k .over) ∙ z); over = k .over ∙ l .over }
-
-pub like-sym : {p : Past} {x : Source} {a b : P.State} → Like p x a b → Like p x b a
-like-sym l = record { all = λ z. sym (l .all (l .over ∙ z)); over = sym (l .over) }
 
 -- once a room is exceeded, it stays the one
 abbrev pub Sticky : Past → Source → P.State → P.State → Type 0
@@ -113,7 +111,7 @@ quiet-said L x (leaf a n) o q = refl
 quiet-said L x (closed a n m) o q = refl
 quiet-said L x (bad n c) o q = absurd q
 
--- four numbers more: what `write` returns
+-- an event more: what `write` returns
 module _ (at cap full : ℕ) (ev : List ℕ) where
   pub pen-not : (q : List ℕ) → at ≤ cap → (full ≡ 0 → ⊥) → Penned q at cap full at full ev ev
   pen-not q h f = record { stuck = λ n. refl; filled = λ z. absurd (f z); room = λ z. z; wrote = λ z. absurd (f z); more = λ z. absurd (f z); fits = h; grows = le-refl _; long = refl; kept = refl }
@@ -121,18 +119,18 @@ module _ (at cap full : ℕ) (ev : List ℕ) where
   pub pen-full : (q : List ℕ) → full ≡ 0 → at ≤ cap → cap < at + EVENT → Penned q at cap full at 7 ev ev
   pen-full q z h l = record { stuck = λ n. absurd (n z); filled = λ y. ap (λ (c : Bool). ifb c 7 0) (sym (lt-ltb cap (at + EVENT) l)); room = λ y. absurd (omega arith); wrote = λ y. absurd (omega arith); more = λ y. absurd (omega arith); fits = h; grows = le-refl _; long = refl; kept = refl }
 
-  pub pen-event : (a b c d : ℕ) → full ≡ 0 → at + EVENT ≤ cap → cap ≤ length ev → Penned (event a b c d) at cap full (at + EVENT) full ev (stored ev at a b c d)
-  pen-event a b c d z f l =
+  pub pen-event : (a b c d e : ℕ) → full ≡ 0 → at + EVENT ≤ cap → cap ≤ length ev → Penned (event a b c d e) at cap full (at + EVENT) full ev (stored ev at a b c d e)
+  pen-event a b c d e z f l =
       record {
         stuck = λ n. refl;
         filled = λ y. z ∙ ap (λ (t : Bool). ifb t 7 0) (sym (le-ltb cap (at + EVENT) f));
         room = λ y. z;
-        wrote = λ y. take-event ev at a b c d (le-trans f l);
+        wrote = λ y. take-event ev at a b c d e (le-trans f l);
         more = λ y. refl;
         fits = f;
         grows = omega arith;
-        long = length-event ev at a b c d;
-        kept = keep-event ev at a b c d;
+        long = length-event ev at a b c d e;
+        kept = keep-event ev at a b c d e;
       }
 
 -- and what that is in a state
@@ -141,26 +139,25 @@ put-of s u = record { is = refl; stuck = u .stuck; filled = u .filled; room = u 
 
 -- a state for any place: what holds of all that stand there is known of this one, where the code has none at hand
 abbrev pub blank : Whole
-blank = record { pos = 0; fuel = 0; mode = 0; ev = 0; evcap = 0; er = 0; ercap = 0; item = 0; first = 0; far = 0; quote = 0; want = 0; unwant = 0; full = 0; count = 0; mask = 0; codes = replicate 58 0 }
-
-pub ok-blank : (n pos ev cap full : ℕ) → pos ≤ n → ev ≤ cap → Ok n (standing pos ev cap full blank)
-ok-blank n pos ev cap full h k = (
-  record { here = h; since = omega arith; far-in = omega arith; want-in = omega arith; want-since = λ z. absurd (z refl); unwant-in = omega arith; unwant-since = λ z. absurd (z refl) },
-  none-named (replicate 58 0) refl,
-  record { events = k; since = le-refl _; errors = le-refl _ },
-)
+blank = record { pos = 0; fuel = 0; mode = 0; ev = 0; evcap = 0; er = 0; ercap = 0; item = 0; first = 0; far = 0; quote = 0; number = 0; want = 0; unwant = 0; full = 0; count = 0; mask = 0; codes = replicate 58 0 }
 
 -- what is noted beside a well formed state is well formed
 pub sound : {n : ℕ} (l : List ℕ) (s : Whole) → Ok n (beside l s) → Sound n l
 sound l s w = (
   record { here = le-trans (w .0 .since) (w .0 .here); since = le-refl _; far-in = w .0 .far-in; want-in = w .0 .want-in; want-since = w .0 .want-since; unwant-in = w .0 .unwant-in; unwant-since = w .0 .unwant-since },
   w .1,
-  record { events = le-refl _; since = w .2 .since; errors = w .2 .errors },
+  record { events = le-refl _; since = w .2 .since; errors = w .2 .errors; numbered = w .2 .numbered },
 )
+
+-- the depth at which the next event stands
+pub depth-is : {p : Past} {x : Source} {s : Whole} {b : Bufs} {a : P.State} → Wf x b s → Means p x s b a → next-depth (b .events) (s .ev) ≡ cell (height (a .out))
+depth-is {p} {x} {s} {b} {a} w m =
+    let e : s .ev ≡ EVENT * length (a .out) = omega (arith, ev-count w m) in
+    ap (next-depth (b .events)) e ∙ next-is x (b .events) (a .out) (ap (λ (i : ℕ). take i (b .events)) (sym e) ∙ m .written .is)
 
 module _ {q : List ℕ} {s r : Whole} {ev ev′ : List ℕ} (u : Put q s r ev ev′) where
   pub ok-put : {n : ℕ} → Ok n s → Ok n r
-  ok-put {n} w = subst (λ (t : Whole). Ok n t) (sym (u .is)) (w .0, w .1, record { events = u .fits; since = w .2 .since; errors = w .2 .errors })
+  ok-put {n} w = subst (λ (t : Whole). Ok n t) (sym (u .is)) (w .0, w .1, record { events = u .fits; since = w .2 .since; errors = w .2 .errors; numbered = w .2 .numbered })
 
   pub caps-put : (r .evcap ≡ s .evcap) × (r .ercap ≡ s .ercap)
   caps-put = (ap (λ (t : Whole). t .evcap) (u .is), ap (λ (t : Whole). t .ercap) (u .is))
@@ -168,7 +165,7 @@ module _ {q : List ℕ} {s r : Whole} {ev ev′ : List ℕ} (u : Put q s r ev ev
   pub wf-put : (x : Source) (er sc : List ℕ) → Wf x (bufs ev er sc) s → Wf x (bufs ev′ er sc) r
   wf-put x er sc w = (ok-put (w .0), record { events = omega (arith, w .1 .events, caps-put .0, u .long); errors = omega (arith, w .1 .errors, caps-put .1); scratch = w .1 .scratch })
 
-  -- the room that an event exceeds is found where its four numbers are written
+  -- the room that an event exceeds is found where its numbers are written
   module _ {p : Past} {x : Source} {ev₀ er sc : List ℕ} {a : P.State} (w : Wf x (bufs ev₀ er sc) s) (t : Stands p x s (bufs ev₀ er sc) a) (v : Event) (k : Quiet v) where
     put-over : r .full ≡ overOf p x (P.emit v a)
     unfolding overOf

@@ -1,7 +1,7 @@
 -- Rooms: which one was exceeded first, after each writing. Assumes nothing.
 use Prim.Native.Nat.{ℕ, zero, suc, _+_, _*_, _≤_, _<_}
 use mathlib.Core.Path.{_≡_, refl, sym, ap, ap₂, _∙_}
-use mathlib.Core.List.{List, [], _∷_, _++_, append-assoc}
+use mathlib.Core.List.{List, [], _∷_, _++_}
 use mathlib.Core.Bool.{Bool, true, false}
 use native.Mathlib.Omega.{arith}
 use native.Mathlib.Decide.{ℕ-discrete}
@@ -9,7 +9,8 @@ use borrow.Author.Tests.{le-ltb, lt-ltb, ltb-true, ltb-false}
 use lib.Dec.{ltb}
 use lib.ListN.{length, take, length-append}
 use lib.Seq.{length-take-le}
-use Rattle.shapes.specs.Shapes.{EVENT, HEAD, Rec, flat-records}
+use Rattle.shapes.specs.Shapes.{EVENT, Rec, Owned, flat-records, of-item, bare}
+pub use Rattle.shapes.proofs.Laws.{flat-append, lengths, flat-lengths, bare-of}
 use Rattle.definition.specs.Run as P
 use Rattle.definition.specs.Run.{Event, opened, leaf, closed, bad, Choice, Limits}
 use Rattle.definition.specs.Buffer.{buffer}
@@ -19,29 +20,21 @@ use Rattle.notes.specs.Whole.{Whole}
 use Rattle.notes.specs.Means.{Bufs, Past, recorded, Means, Stands, overOf}
 use Rattle.notes.specs.Did.{Wf}
 
--- records as numbers
-pub flat-append : (a b : List Rec) → flat-records (a ++ b) ≡ flat-records a ++ flat-records b
-flat-append [] b = refl
-flat-append (e ∷ a) b =
-    ap (λ (l : List ℕ). e .0 ∷ e .1 ∷ e .2 ∷ length (e .3) ∷ l)
-    (ap (λ (l : List ℕ). e .3 ++ (e .4 ++ l)) (flat-append a b)
-    ∙ ap (λ (l : List ℕ). e .3 ++ l) (sym (append-assoc (e .4) (flat-records a) (flat-records b)))
-    ∙ sym (append-assoc (e .3) (e .4 ++ flat-records a) (flat-records b)))
+-- records as numbers: those before, and those of the item at hand
+pub flat-size : (l : List Owned) (n : ℕ) (q : List Rec) → length (flat-records (l ++ of-item n q)) ≡ lengths (bare l) + lengths q
+flat-size l n q = ap length (flat-append l (of-item n q)) ∙ length-append (flat-records l) (flat-records (of-item n q)) ∙ ap₂ (λ (i j : ℕ). i + j) (flat-lengths l) (flat-lengths (of-item n q) ∙ ap lengths (bare-of n q))
 
-flat-length : (e : Rec) (l : List Rec) → length (flat-records (e ∷ l)) ≡ HEAD + length (e .3) + length (e .4) + length (flat-records l)
-flat-length e l = omega (arith, length-append (e .3) (e .4 ++ flat-records l), length-append (e .4) (flat-records l))
-
-pub said-is : (L : Limits) (x : Source) (o : List Event) (l : List Rec) → said L x o + length (flat-records l) ≡ length (flat-records (records L x o l))
+pub said-is : (L : Limits) (x : Source) (o : List Event) (l : List Rec) → said L x o + lengths l ≡ lengths (records L x o l)
 said-is L x [] l = omega arith
 said-is L x (opened n ∷ o) l = said-is L x o l
 said-is L x (leaf a n ∷ o) l = said-is L x o l
 said-is L x (closed a n m ∷ o) l = said-is L x o l
-said-is L x (bad n c ∷ o) l = omega (arith, said-is L x o (record-of L x n c ∷ l), flat-length (record-of L x n c) l)
+said-is L x (bad n c ∷ o) l = omega (arith, said-is L x o (record-of L x n c ∷ l))
 
-pub held-is : (L : Limits) (x : Source) (c : List (ℕ × Choice)) → held L x c ≡ length (flat-records (recorded L x c))
+pub held-is : (L : Limits) (x : Source) (c : List (ℕ × Choice)) → held L x c ≡ lengths (recorded L x c)
 unfolding recorded
 held-is L x [] = refl
-held-is L x (e ∷ c) = omega (arith, held-is L x c, flat-length (record-of L x (e .0) (e .1)) (recorded L x c))
+held-is L x (e ∷ c) = omega (arith, held-is L x c)
 
 -- how much of each list is used
 module _ {p : Past} {x : Source} {s : Whole} {b : Bufs} {a : P.State} (w : Wf x b s) (m : Means p x s b a) where
@@ -51,9 +44,9 @@ module _ {p : Past} {x : Source} {s : Whole} {b : Bufs} {a : P.State} (w : Wf x 
   pub er-count : s .er ≡ said (p .limits) x (a .out) + held (p .limits) x (a .chosen)
   er-count =
       sym (length-take-le (s .er) (b .errors) (omega (arith, w .0 .2 .errors, w .1 .errors)))
-      ∙ ap length (m .chosen .is ∙ flat-append (p .records) (recorded (p .limits) x (a .chosen)))
-      ∙ length-append (flat-records (p .records)) (flat-records (recorded (p .limits) x (a .chosen)))
-      ∙ ap₂ (λ (i j : ℕ). i + j) (ap (λ (l : List Rec). length (flat-records l)) (sym (m .written .past)) ∙ sym (said-is (p .limits) x (a .out) []) ∙ omega arith) (sym (held-is (p .limits) x (a .chosen)))
+      ∙ ap length (m .chosen .is)
+      ∙ flat-size (p .records) (p .number) (recorded (p .limits) x (a .chosen))
+      ∙ ap₂ (λ (i j : ℕ). i + j) (ap lengths (sym (m .written .past)) ∙ sym (said-is (p .limits) x (a .out) []) ∙ omega arith) (sym (held-is (p .limits) x (a .chosen)))
 
 -- one moment more
 abbrev pub first-of : ℕ → ℕ → ℕ

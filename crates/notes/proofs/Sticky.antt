@@ -71,11 +71,11 @@ module _ (p : Past) (x : Source) where
   pub sticky-finish : (o : Bool) (i n : ℕ) → Sticks (P.finish o i n)
   sticky-finish = finish-up (Sticky p x) sticking
 
-  pub sticky-run : (d : ℕ) (o : Bool) (i : Production) → Sticks (P.run d o i)
+  pub sticky-run : (E : Bool) (d : ℕ) (o : Bool) (i : Production) → Sticks (P.run E d o i)
   sticky-run = run-kept sticky
 
-  pub sticky-exec : (d : ℕ) (g : Prog) (o : Bool) → Sticks (P.exec d (P.run d) g o)
-  sticky-exec d g o = exec-kept sticky d (P.run d) (run-kept sticky d) g o
+  pub sticky-exec : (E : Bool) (d : ℕ) (g : Prog) (o : Bool) → Sticks (P.exec d (P.run E d) g o)
+  sticky-exec E d g o = exec-kept sticky d (P.run E d) (run-kept sticky E d) g o
 
   -- steps that the combinators are made of
   pub sticky-or-else : (g : P.Reader) → Sticks g → (s t : P.State) → Sticky p x t (P.or-else g s t)

@@ -42,16 +42,17 @@ pub record Named (count mask : ℕ) (codes : List ℕ) : Type 0 where
 
 -- the same of the list of notes
 abbrev pub Coded : List ℕ → Type 0
-Coded l = Named (getD l 2 0) (getD l 3 0) (drop 10 l)
+Coded l = Named (getD l 2 0) (getD l 3 0) (drop 11 l)
 
-pub record Counted (ev evcap item er ercap : ℕ) : Type 0 where
+pub record Counted (ev evcap item er ercap number : ℕ) : Type 0 where
   pub events : ev ≤ evcap
   pub since : item ≤ er
   pub errors : er ≤ ercap
+  pub numbered : number ≤ 65536
 
 -- a state that is well formed among n rows; parts that a change leaves alone are the same by computing
 abbrev pub Ok : ℕ → Whole → Type 0
-Ok n s = Placed n (s .pos) (s .first) (s .far) (s .want) (s .unwant) × Named (s .count) (s .mask) (s .codes) × Counted (s .ev) (s .evcap) (s .item) (s .er) (s .ercap)
+Ok n s = Placed n (s .pos) (s .first) (s .far) (s .want) (s .unwant) × Named (s .count) (s .mask) (s .codes) × Counted (s .ev) (s .evcap) (s .item) (s .er) (s .ercap) (s .number)
 
 -- the same of the list of notes alone, at the item's first row
 abbrev pub Sound : ℕ → List ℕ → Type 0
@@ -125,7 +126,7 @@ pub record Both (f : P.Reader) (x : Source) (s r : Whole) (ev ev′ er er′ : L
   pub event-fits : r .evcap ≤ length ev′
   pub error-fits : r .ercap ≤ length er′
 
--- four numbers were written at a place, if there was room up to cap
+-- numbers were written at a place, if there was room for an event up to cap
 pub record Penned (q : List ℕ) (at cap full at′ full′ : ℕ) (ev ev′ : List ℕ) : Type 0 where
   pub stuck : (full ≡ 0 → ⊥) → full′ ≡ full
   pub filled : full ≡ 0 → full′ ≡ ifb (ltb cap (at + EVENT)) 7 0
@@ -137,7 +138,7 @@ pub record Penned (q : List ℕ) (at cap full at′ full′ : ℕ) (ev ev′ : L
   pub long : length ev′ ≡ length ev
   pub kept : take at ev′ ≡ take at ev
 
--- four numbers were written at the end of the events, if there was room
+-- numbers were written at the end of the events, if there was room for an event
 pub record Put (q : List ℕ) (s r : Whole) (ev ev′ : List ℕ) : Type 0 where
   pub is : r ≡ withEv (r .ev) (withFull (r .full) s)
   pub stuck : (s .full ≡ 0 → ⊥) → r .full ≡ s .full

@@ -11,7 +11,7 @@ use Rattle.definition.specs.Run.{Event, Choice, Mode, ok, failed, stopped, Stop
 use Rattle.definition.specs.Buffer.{buffer}
 use Rattle.definition.specs.Render.{Source, record-of, records, over, used}
 use Rattle.kinds.specs.Sets.{setOf, idsOf}
-use Rattle.shapes.specs.Shapes.{EVENT, Rec, flat-records}
+use Rattle.shapes.specs.Shapes.{EVENT, Rec, Owned, flat-records, of-item, bare}
 use Rattle.notes.specs.Whole.{Whole}
 use Rattle.notes.specs.Bits.{ifb, Cached}
 
@@ -27,12 +27,13 @@ pub record Bufs : Type 0 where
 abbrev pub bufs : List ℕ → List ℕ → List ℕ → Bufs
 bufs a b c = record { events = a; errors = b; scratch = c }
 
--- what stays throughout an item: the limits, the rooms, and the records of the items before
+-- what stays throughout an item: the limits, the rooms, the records of the items before with their numbers, and the item's own
 pub record Past : Type 0 where
   pub limits : Limits
   pub event-room : ℕ
   pub error-room : ℕ
-  pub records : List Rec
+  pub records : List Owned
+  pub number : ℕ
 
 -- what a step on events must know of the rows
 pub record Lines (ids ends : List ℕ) : Type 0 where
@@ -89,14 +90,15 @@ namesIn s = spelled (take (s .count) (s .codes))
 
 pub record Written (x : Source) (p : Past) (ev evcap : ℕ) (events : List ℕ) (out : List Event) : Type 0 where
   pub is : take ev events ≡ buffer x out
-  pub past : records (p .limits) x out [] ≡ p .records
+  pub past : records (p .limits) x out [] ≡ bare (p .records)
   pub room : p .event-room ≡ evcap + EVENT
 
-pub record Chosen (x : Source) (p : Past) (first er ercap item quote : ℕ) (errors : List ℕ) (chosen : List (ℕ × Choice)) : Type 0 where
-  pub is : take er errors ≡ flat-records (p .records ++ recorded (p .limits) x chosen)
+pub record Chosen (x : Source) (p : Past) (first er ercap item quote number : ℕ) (errors : List ℕ) (chosen : List (ℕ × Choice)) : Type 0 where
+  pub is : take er errors ≡ flat-records (p .records ++ of-item (p .number) (recorded (p .limits) x chosen))
   pub since : item ≡ length (flat-records (p .records))
   pub room : p .error-room ≡ ercap
   pub quoted : p .limits .quote ≡ quote
+  pub numbered : p .number ≡ number
   pub apart : Apart (length (x .ids) - first) chosen
 
 pub record Means (p : Past) (x : Source) (s : Whole) (b : Bufs) (a : P.State) : Type 0 where
@@ -106,7 +108,7 @@ pub record Means (p : Past) (x : Source) (s : Whole) (b : Bufs) (a : P.State) : 
   pub written : Written x p (s .ev) (s .evcap) (b .events) (a .out)
   pub want : a .want ≡ wantOf (length (x .ids)) (s .want) (namesIn s)
   pub unwant : a .unwant ≡ unwantOf (length (x .ids)) (s .unwant)
-  pub chosen : Chosen x p (s .first) (s .er) (s .ercap) (s .item) (s .quote) (b .errors) (a .chosen)
+  pub chosen : Chosen x p (s .first) (s .er) (s .ercap) (s .item) (s .quote) (s .number) (b .errors) (a .chosen)
   pub cache : Cached (length (x .ids)) (s .first) (s .far) (b .scratch) (a .cache)
 
 -- which room was exceeded first so far, 7 or 8, or 0

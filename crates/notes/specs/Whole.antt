@@ -30,6 +30,8 @@ pub record Whole : Type 0 where
   pub far : ℕ
   -- how long a found text may be to be quoted
   pub quote : ℕ
+  -- the number of the item at hand, from 1
+  pub number : ℕ
 
 -- the cells of the list of notes, in the order of src/names.rt
 abbrev pub beside : List ℕ → Whole → Whole
@@ -51,7 +53,8 @@ beside l s =
       first = getD l 7 0;
       far = getD l 8 0;
       quote = getD l 9 0;
-      codes = drop 10 l;
+      number = getD l 10 0;
+      codes = drop 11 l;
     }
 
 -- cells by the names that they have there, as contracts speak of them
@@ -73,9 +76,12 @@ firstOf l = getD l 7 0
 abbrev pub farOf : List ℕ → ℕ
 farOf l = getD l 8 0
 
+abbrev pub numberOf : List ℕ → ℕ
+numberOf l = getD l 10 0
+
 abbrev pub codesOf : List ℕ → List ℕ
-codesOf l = drop 10 l
+codesOf l = drop 11 l
 
 -- a state that rests at a row, where only what is noted counts
 abbrev pub resting : ℕ → Whole
-resting p = record { pos = p; fuel = 0; mode = 0; ev = 0; evcap = 0; full = 0; want = 0; unwant = 0; count = 0; mask = 0; codes = []; er = 0; ercap = 0; item = 0; first = 0; far = 0; quote = 0 }
+resting p = record { pos = p; fuel = 0; mode = 0; ev = 0; evcap = 0; full = 0; want = 0; unwant = 0; count = 0; mask = 0; codes = []; er = 0; ercap = 0; item = 0; first = 0; far = 0; quote = 0; number = 0 }

@@ -41,7 +41,7 @@ pub fn forget(from: usize, to: usize, scratch: &mut [u64])
 }
 
 // Remembers a failure by its bit, and that its row is to be forgotten.
-pub fn remembers(bit: usize, scratch: &mut [u64], notes: &mut [usize; 68])
+pub fn remembers(bit: usize, scratch: &mut [u64], notes: &mut [usize; 69])
     requires { ⌜ (bit / 64 < length (now scratch)) × Coded (now notes) ⌝ }
     ensures { λ _. ⌜
         ((s : Whole) → beside (now (notes .exit)) s ≡ withFar (max (farOf (now (notes .entry))) (bit / 2 + 1)) (beside (now (notes .entry)) s))

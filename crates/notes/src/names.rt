@@ -33,11 +33,14 @@ pub const FAR: usize = 8;
 // How long a found text may be to be quoted. It stands here so that only what chooses an error looks at it.
 pub const QUOTE: usize = 9;
 
+// The number of the item at hand, from 1, which its error records carry.
+pub const NUMBER: usize = 10;
+
 // The codes in order of first entry, 58 at the most: a set's number for the set's ids, or 55 to 57 for the three descriptions.
-pub const CODES: usize = 10;
+pub const CODES: usize = 11;
 
 // Enters a code, unless it is there.
-fn enter(code: usize, notes: &mut [usize; 68])
+fn enter(code: usize, notes: &mut [usize; 69])
     requires { ⌜ Coded (now notes) × (code < 58) ⌝ }
     ensures { λ _. ⌜
         ((s : Whole)
@@ -54,7 +57,7 @@ fn enter(code: usize, notes: &mut [usize; 68])
 }
 
 // Names were expected at the row.
-pub fn expected(code: usize, at: usize, notes: &mut [usize; 68])
+pub fn expected(code: usize, at: usize, notes: &mut [usize; 69])
     requires { ⌜ Coded (now notes) × (code < 58) × (at ≤ 65536) ⌝ }
     ensures { λ _. ⌜
         ((x : Source) (s : Whole) → Ok (length (x .ids)) (beside (now (notes .entry)) s) → Peeked (x .ids) (s .pos) at
@@ -76,7 +79,7 @@ pub fn expected(code: usize, at: usize, notes: &mut [usize; 68])
 }
 
 // A row was matched that must not stand there.
-pub fn unexpected(at: usize, notes: &mut [usize; 68])
+pub fn unexpected(at: usize, notes: &mut [usize; 69])
     requires { ⌜ at ≤ 65536 ⌝ }
     ensures { λ _. ⌜
         ((x : Source) (s : Whole) → Ok (length (x .ids)) (beside (now (notes .entry)) s) → Peeked (x .ids) (s .pos) at

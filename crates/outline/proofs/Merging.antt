@@ -4,56 +4,27 @@ use Prim.Native.Nat.{ℕ, zero, suc, _*_, _%_}
 use mathlib.Core.Path.{_≡_, refl, ap, ap₂, sym, _∙_, subst}
 use mathlib.Core.List.{List, [], _∷_}
 use mathlib.Core.Bool.{Bool, true, false, _&&_}
-use lib.Dec.{eqb, ltb, leb}
+use lib.Dec.{T, eqb, ltb}
 use lib.ListN.{length, drop}
 use borrow.Author.Tests.{eqb-true}
 use native.Mathlib.Omega.{arith}
-use Rattle.shapes.specs.Shapes.{Entry, entries}
+use Rattle.shapes.specs.Shapes.{EVENT, Entry, entries}
 use Rattle.shapes.proofs.Laws.{entries-flat, flat-length}
 use Rattle.kinds.specs.Kinds as kd
 use Rattle.shapes.specs.Shapes as W
 use Rattle.definition.specs.Merge as M
-use Rattle.definition.specs.Merge.{error-of, Span, Mark, ended, marked, marks, paired, merge, finished}
-use Rattle.outline.specs.Shape.{Event, opens, row, closes, tells, event, events, sorts, width, well-formed}
+use Rattle.definition.specs.Merge.{error-of, Span, Mark, ended, marked, marks, paired, merge, finished, well-formed}
+use Rattle.theorems.proofs.Depth.{merged-sound}
+use Rattle.outline.specs.Shape.{Event, opens, row, closes, tells, event, shown, events}
 use Rattle.outline.specs.Rules.{Rule, deepest, nests, rules, all-named, flat, refusing, Given, judged, fitting, listing}
 use Rattle.outline.specs.Forest.{joins, merged, blank, blanks}
+use Rattle.outline.proofs.Numbers.{form}
 use Rattle.outline.proofs.Walking.{never}
 use Rattle.outline.proofs.Growing.{and-left, and-right}
 use Rattle.outline.proofs.Joining.{merged-alike}
 
--- EVENTS OF FOUR NUMBERS
-
-abbrev pub of : Entry → Event
-of e = event (e .0) (e .1) (e .2) (e .3)
-
-abbrev pub shown : List Entry → List Event
-shown [] = []
-shown (e ∷ es) = of e ∷ shown es
-
-events-are : (l : List ℕ) → events l ≡ shown (entries l)
-events-are [] = refl
-events-are (a ∷ []) = refl
-events-are (a ∷ b ∷ []) = refl
-events-are (a ∷ b ∷ c ∷ []) = refl
-events-are (a ∷ b ∷ c ∷ d ∷ l) = ap (λ (es : List Event). event a b c d ∷ es) (events-are l)
-
 pub events-of : (es : List Entry) → events (W.flat es) ≡ shown es
-events-of es = events-are (W.flat es) ∙ ap shown (entries-flat es)
-
-sorts-are : (l : List ℕ) → sorts l ≡ M.sorts (entries l)
-sorts-are [] = refl
-sorts-are (a ∷ []) = refl
-sorts-are (a ∷ b ∷ []) = refl
-sorts-are (a ∷ b ∷ c ∷ []) = refl
-sorts-are (a ∷ b ∷ c ∷ d ∷ l) = ap (λ (t : Bool). leb 1 a && leb a 4 && t) (sorts-are l)
-
-pub well-formed-is : (l : List ℕ) → well-formed l ≡ M.well-formed l
-well-formed-is l = ap (λ (t : Bool). eqb (length l % width) 0 && t) (sorts-are l)
-
-well-formed-of : (es : List Entry) → M.sorts es ≡ true → well-formed (W.flat es) ≡ true
-well-formed-of es s =
-    let n : length (W.flat es) % width ≡ 0 = omega (arith, flat-length es) in
-    ap (λ (i : ℕ). eqb i 0 && sorts (W.flat es)) n ∙ sorts-are (W.flat es) ∙ ap M.sorts (entries-flat es) ∙ s
+events-of es = ap shown (entries-flat es)
 
 -- what an event is to the merger
 abbrev Plain : Event → Type 0
@@ -63,22 +34,14 @@ Plain (closes k) = eqb k kd.ERROR ≡ false
 Plain tells = Unit
 
 data Part (e : Entry) : Type 0 where
-  begins : of e ≡ opens kd.ERROR (e .2) (e .3) → error-of 1 e ≡ true → Part e
-  ends : of e ≡ closes kd.ERROR → error-of 1 e ≡ false → error-of 3 e ≡ true → Part e
-  other : Plain (of e) → error-of 1 e ≡ false → error-of 3 e ≡ false → Part e
-
--- its sort, by the tests for 1, 2 and 3
-abbrev form : Entry → Bool → Bool → Bool → Event
-form e x y z =
-    elim x [
-      | true ↦ opens (e .1) (e .2) (e .3)
-      | false ↦ elim y [ true ↦ row (e .1) (e .2) (e .3) | false ↦ elim z [ true ↦ closes (e .1) | false ↦ tells ] ]
-    ]
+  begins : event e ≡ opens kd.ERROR (e .2) (e .3) → error-of 1 e ≡ true → Part e
+  ends : event e ≡ closes kd.ERROR → error-of 1 e ≡ false → error-of 3 e ≡ true → Part e
+  other : Plain (event e) → error-of 1 e ≡ false → error-of 3 e ≡ false → Part e
 
 part : (e : Entry) → Part e
 part e = go (eqb (e .0) 1) (eqb (e .0) 2) (eqb (e .0) 3) (eqb (e .1) kd.ERROR) refl refl refl refl
   where
-    is : {x y z : Bool} → eqb (e .0) 1 ≡ x → eqb (e .0) 2 ≡ y → eqb (e .0) 3 ≡ z → of e ≡ form e x y z
+    is : {x y z : Bool} → eqb (e .0) 1 ≡ x → eqb (e .0) 2 ≡ y → eqb (e .0) 3 ≡ z → event e ≡ form e x y z
     is {x} p q r = ap (λ (t : Bool). form e t (eqb (e .0) 2) (eqb (e .0) 3)) p ∙ ap₂ (λ (t u : Bool). form e x t u) q r
 
     and-false : (b : Bool) → b && false ≡ false
@@ -97,10 +60,10 @@ part e = go (eqb (e .0) 1) (eqb (e .0) 2) (eqb (e .0) 3) (eqb (e .1) kd.ERROR) r
     go false false true false p q r s = other (subst Plain (sym (is p q r)) s) (tests 1 p s) (tests 3 r s)
     go false false false k p q r s = other (subst Plain (sym (is p q r)) tt) (tests 1 p s) (tests 3 r s)
 
-marks-begin : (e : Entry) (es : List Entry) → error-of 1 e ≡ true → marks (e ∷ es) ≡ M.opens (e .2, e .3) ∷ marks es
+marks-begin : (e : Entry) (es : List Entry) → error-of 1 e ≡ true → marks (e ∷ es) ≡ M.opens (e .4) (e .2, e .3) ∷ marks es
 marks-begin e es p = ap (λ (t : Bool). marked t (error-of 3 e) e (marks es)) p
 
-marks-end : (e : Entry) (es : List Entry) → error-of 1 e ≡ false → error-of 3 e ≡ true → marks (e ∷ es) ≡ ended (marks es)
+marks-end : (e : Entry) (es : List Entry) → error-of 1 e ≡ false → error-of 3 e ≡ true → marks (e ∷ es) ≡ ended (e .4) (marks es)
 marks-end e es p q = ap₂ (λ (t u : Bool). marked t u e (marks es)) p q
 
 marks-other : (e : Entry) (es : List Entry) → error-of 1 e ≡ false → error-of 3 e ≡ false → marks (e ∷ es) ≡ M.keeps e ∷ marks es
@@ -122,26 +85,26 @@ blanks-one tells es = refl
 
 abbrev left : List Mark → List Event
 left [] = []
-left (M.opens z ∷ ms) = opens kd.ERROR 0 0 ∷ left ms
+left (M.opens d z ∷ ms) = opens kd.ERROR 0 0 ∷ left ms
 left (M.joins z ∷ ms) = left ms
-left (M.closes ∷ ms) = closes kd.ERROR ∷ left ms
-left (M.keeps e ∷ ms) = dim (of e) ∷ left ms
+left (M.closes d ∷ ms) = closes kd.ERROR ∷ left ms
+left (M.keeps e ∷ ms) = dim (event e) ∷ left ms
 
 merge-leaves : (ms : List Mark) (st : List Span) → paired ms (length st) ≡ true → blanks (shown (merge ms st)) ≡ left ms
 merge-leaves [] st h = refl
-merge-leaves (M.opens z ∷ ms) st h = ap (λ (es : List Event). opens kd.ERROR 0 0 ∷ es) (merge-leaves ms (M.reach ms 0 z ∷ st) h)
+merge-leaves (M.opens d z ∷ ms) st h = ap (λ (es : List Event). opens kd.ERROR 0 0 ∷ es) (merge-leaves ms (M.reach ms 0 z ∷ st) h)
 merge-leaves (M.joins z ∷ ms) [] h = never cc
 merge-leaves (M.joins z ∷ ms) (y ∷ st) h = merge-leaves ms (y ∷ st) h
-merge-leaves (M.closes ∷ ms) [] h = never cc
-merge-leaves (M.closes ∷ ms) (y ∷ st) h = ap (λ (es : List Event). closes kd.ERROR ∷ es) (merge-leaves ms st h)
-merge-leaves (M.keeps e ∷ ms) st h = blanks-one (of e) (shown (merge ms st)) ∙ ap (λ (es : List Event). dim (of e) ∷ es) (merge-leaves ms st h)
+merge-leaves (M.closes d ∷ ms) [] h = never cc
+merge-leaves (M.closes d ∷ ms) (y ∷ st) h = ap (λ (es : List Event). closes kd.ERROR ∷ es) (merge-leaves ms st h)
+merge-leaves (M.keeps e ∷ ms) st h = blanks-one (event e) (shown (merge ms st)) ∙ ap (λ (es : List Event). dim (event e) ∷ es) (merge-leaves ms st h)
 
-ended-twice : (ms : List Mark) → left (ended (ended ms)) ≡ closes kd.ERROR ∷ left (ended ms)
-ended-twice [] = refl
-ended-twice (M.opens z ∷ ms) = refl
-ended-twice (M.joins z ∷ ms) = refl
-ended-twice (M.closes ∷ ms) = refl
-ended-twice (M.keeps e ∷ ms) = refl
+ended-twice : (i j : ℕ) (ms : List Mark) → left (ended i (ended j ms)) ≡ closes kd.ERROR ∷ left (ended j ms)
+ended-twice i j [] = refl
+ended-twice i j (M.opens d z ∷ ms) = refl
+ended-twice i j (M.joins z ∷ ms) = refl
+ended-twice i j (M.closes d ∷ ms) = refl
+ended-twice i j (M.keeps e ∷ ms) = refl
 
 joins-never : (k : ℕ) (es : List Event) → eqb k kd.ERROR ≡ false → joins k es ≡ false
 joins-never k [] p = refl
@@ -166,29 +129,29 @@ plain-merged tells es p = refl
 abbrev after-end : Bool → List Event → List Event
 after-end t es = blanks (elim t [ true ↦ drop 1 (merged es) | false ↦ closes kd.ERROR ∷ merged es ])
 
--- the marks of a list, and those behind an ERROR end
+-- the marks of a list, and those behind an ERROR end, whatever its depth
 abbrev Leaves : List Mark → List Event → Type 0
-Leaves ms es = (left ms ≡ blanks (merged es)) × (left (ended ms) ≡ after-end (joins kd.ERROR es) es)
+Leaves ms es = (left ms ≡ blanks (merged es)) × ((i : ℕ) → left (ended i ms) ≡ after-end (joins kd.ERROR es) es)
 
 marks-leave : (es : List Entry) → Leaves (marks es) (shown es)
-marks-leave [] = (refl, refl)
+marks-leave [] = (refl, λ i. refl)
 marks-leave (e ∷ es) = go (part e) (marks-leave es)
   where
-    as-opens : Leaves (marks es) (shown es) → Leaves (M.opens (e .2, e .3) ∷ marks es) (opens kd.ERROR (e .2) (e .3) ∷ shown es)
-    as-opens h = (ap (λ (x : List Event). opens kd.ERROR 0 0 ∷ x) (h .0), h .0)
+    as-opens : Leaves (marks es) (shown es) → Leaves (M.opens (e .4) (e .2, e .3) ∷ marks es) (opens kd.ERROR (e .2) (e .3) ∷ shown es)
+    as-opens h = (ap (λ (x : List Event). opens kd.ERROR 0 0 ∷ x) (h .0), λ i. h .0)
 
-    as-closes : Leaves (marks es) (shown es) → Leaves (ended (marks es)) (closes kd.ERROR ∷ shown es)
-    as-closes h = (h .1, ended-twice (marks es) ∙ ap (λ (x : List Event). closes kd.ERROR ∷ x) (h .1))
+    as-closes : Leaves (marks es) (shown es) → Leaves (ended (e .4) (marks es)) (closes kd.ERROR ∷ shown es)
+    as-closes h = (h .1 (e .4), λ i. ended-twice i (e .4) (marks es) ∙ ap (λ (x : List Event). closes kd.ERROR ∷ x) (h .1 (e .4)))
 
-    as-kept : Plain (of e) → Leaves (marks es) (shown es) → Leaves (M.keeps e ∷ marks es) (of e ∷ shown es)
+    as-kept : Plain (event e) → Leaves (marks es) (shown es) → Leaves (M.keeps e ∷ marks es) (event e ∷ shown es)
     as-kept p h =
-        let same = ap (λ (x : List Event). dim (of e) ∷ x) (h .0) ∙ sym (plain-merged (of e) (shown es) p) in
-        (same, ap (λ (x : List Event). closes kd.ERROR ∷ x) same ∙ ap (λ (t : Bool). after-end t (of e ∷ shown es)) (sym (plain-joins (of e) (shown es) p)))
+        let same = ap (λ (x : List Event). dim (event e) ∷ x) (h .0) ∙ sym (plain-merged (event e) (shown es) p) in
+        (same, λ i. ap (λ (x : List Event). closes kd.ERROR ∷ x) same ∙ ap (λ (t : Bool). after-end t (event e ∷ shown es)) (sym (plain-joins (event e) (shown es) p)))
 
-    moved : {ms : List Mark} {x : Event} → marks (e ∷ es) ≡ ms → of e ≡ x → Leaves ms (x ∷ shown es) → Leaves (marks (e ∷ es)) (of e ∷ shown es)
+    moved : {ms : List Mark} {x : Event} → marks (e ∷ es) ≡ ms → event e ≡ x → Leaves ms (x ∷ shown es) → Leaves (marks (e ∷ es)) (event e ∷ shown es)
     moved {ms} {x} p q h = subst (λ (y : Event). Leaves (marks (e ∷ es)) (y ∷ shown es)) (sym q) (subst (λ (ns : List Mark). Leaves ns (x ∷ shown es)) (sym p) h)
 
-    go : Part e → Leaves (marks es) (shown es) → Leaves (marks (e ∷ es)) (of e ∷ shown es)
+    go : Part e → Leaves (marks es) (shown es) → Leaves (marks (e ∷ es)) (event e ∷ shown es)
     go (begins p q) h = moved (marks-begin e es q) p (as-opens h)
     go (ends p q r) h = moved (marks-end e es q r) p (as-closes h)
     go (other p q r) h = moved (marks-other e es q r) refl (as-kept p h)
@@ -199,7 +162,6 @@ finished-is-merged l h =
     ap blanks (events-of (finished l))
     ∙ merge-leaves (marks (entries l)) [] h
     ∙ marks-leave (entries l) .0
-    ∙ ap (λ (es : List Event). blanks (merged es)) (sym (events-are l))
 
 -- A LIST THAT NESTS IS MERGED, and the merged list nests
 
@@ -238,12 +200,12 @@ abbrev errors : List ℕ → ℕ
 errors [] = 0
 errors (j ∷ js) = elim (eqb j kd.ERROR) [ true ↦ suc (errors js) | false ↦ errors js ]
 
-ended-pairs : (ms : List Mark) (h : ℕ) → paired ms h ≡ true → paired (ended ms) (suc h) ≡ true
-ended-pairs [] h e = e
-ended-pairs (M.opens z ∷ ms) h e = e
-ended-pairs (M.joins z ∷ ms) h e = e
-ended-pairs (M.closes ∷ ms) h e = e
-ended-pairs (M.keeps q ∷ ms) h e = e
+ended-pairs : (i : ℕ) (ms : List Mark) (h : ℕ) → paired ms h ≡ true → paired (ended i ms) (suc h) ≡ true
+ended-pairs i [] h e = e
+ended-pairs i (M.opens d z ∷ ms) h e = e
+ended-pairs i (M.joins z ∷ ms) h e = e
+ended-pairs i (M.closes d ∷ ms) h e = e
+ended-pairs i (M.keeps q ∷ ms) h e = e
 
 -- what other events do to the nodes that are open
 plain-pairs : (e : Event) (es : List Event) (js : List ℕ) (ms : List Mark) → Plain e → nests (e ∷ es) js ≡ true → ((is : List ℕ) → nests es is ≡ true → paired ms (errors is) ≡ true) → paired ms (errors js) ≡ true
@@ -255,11 +217,11 @@ plain-pairs (closes k) es (j ∷ js) ms p h H =
     ap (λ (t : Bool). paired ms (elim t [ true ↦ suc (errors js) | false ↦ errors js ])) (ap (λ (n : ℕ). eqb n kd.ERROR) e ∙ p) ∙ H js (and-right (eqb j k) (nests es js) h)
 plain-pairs tells es js ms p h H = H js h
 
-end-pairs : (es : List Event) (js : List ℕ) (ms : List Mark) → nests (closes kd.ERROR ∷ es) js ≡ true → ((is : List ℕ) → nests es is ≡ true → paired ms (errors is) ≡ true) → paired (ended ms) (errors js) ≡ true
-end-pairs es [] ms h H = never cc
-end-pairs es (j ∷ js) ms h H =
-    ap (λ (t : Bool). paired (ended ms) (elim t [ true ↦ suc (errors js) | false ↦ errors js ])) (and-left (eqb j kd.ERROR) (nests es js) h)
-    ∙ ended-pairs ms (errors js) (H js (and-right (eqb j kd.ERROR) (nests es js) h))
+end-pairs : (i : ℕ) (es : List Event) (js : List ℕ) (ms : List Mark) → nests (closes kd.ERROR ∷ es) js ≡ true → ((is : List ℕ) → nests es is ≡ true → paired ms (errors is) ≡ true) → paired (ended i ms) (errors js) ≡ true
+end-pairs i es [] ms h H = never cc
+end-pairs i es (j ∷ js) ms h H =
+    ap (λ (t : Bool). paired (ended i ms) (elim t [ true ↦ suc (errors js) | false ↦ errors js ])) (and-left (eqb j kd.ERROR) (nests es js) h)
+    ∙ ended-pairs i ms (errors js) (H js (and-right (eqb j kd.ERROR) (nests es js) h))
 
 nests-pairs : (es : List Entry) (js : List ℕ) → nests (shown es) js ≡ true → paired (marks es) (errors js) ≡ true
 nests-pairs [] [] h = refl
@@ -270,54 +232,23 @@ nests-pairs (e ∷ es) js h = go (part e) (λ is. nests-pairs es is)
     go (begins p q) H =
         ap (λ (ms : List Mark). paired ms (errors js)) (marks-begin e es q)
         ∙ H (kd.ERROR ∷ js) (and-right (ltb (length js) deepest) (nests (shown es) (kd.ERROR ∷ js)) (ap (λ (x : Event). nests (x ∷ shown es) js) (sym p) ∙ h))
-    go (ends p q r) H = ap (λ (ms : List Mark). paired ms (errors js)) (marks-end e es q r) ∙ end-pairs (shown es) js (marks es) (ap (λ (x : Event). nests (x ∷ shown es) js) (sym p) ∙ h) H
-    go (other p q r) H = ap (λ (ms : List Mark). paired ms (errors js)) (marks-other e es q r) ∙ plain-pairs (of e) (shown es) js (marks es) p h H
-
--- "a sort outside 1..4" is none of the merged list's
-abbrev sorted : List Mark → Bool
-sorted [] = true
-sorted (M.opens z ∷ ms) = sorted ms
-sorted (M.joins z ∷ ms) = sorted ms
-sorted (M.closes ∷ ms) = sorted ms
-sorted (M.keeps e ∷ ms) = leb 1 (e .0) && leb (e .0) 4 && sorted ms
-
-ended-sorted : (ms : List Mark) → sorted (ended ms) ≡ sorted ms
-ended-sorted [] = refl
-ended-sorted (M.opens z ∷ ms) = refl
-ended-sorted (M.joins z ∷ ms) = refl
-ended-sorted (M.closes ∷ ms) = refl
-ended-sorted (M.keeps e ∷ ms) = refl
-
-marks-sorted : (es : List Entry) → M.sorts es ≡ true → sorted (marks es) ≡ true
-marks-sorted [] h = refl
-marks-sorted (e ∷ es) h =
-    let ok = and-left (leb 1 (e .0) && leb (e .0) 4) (M.sorts es) h in
-    go (error-of 1 e) (error-of 3 e) ok (marks-sorted es (and-right (leb 1 (e .0) && leb (e .0) 4) (M.sorts es) h))
-  where
-    go : (a b : Bool) → leb 1 (e .0) && leb (e .0) 4 ≡ true → sorted (marks es) ≡ true → sorted (marked a b e (marks es)) ≡ true
-    go true b p q = q
-    go false true p q = ended-sorted (marks es) ∙ q
-    go false false p q = ap₂ _&&_ p q
-
-merge-sorts : (ms : List Mark) (st : List Span) → sorted ms ≡ true → M.sorts (merge ms st) ≡ true
-merge-sorts [] st h = refl
-merge-sorts (M.opens z ∷ ms) st h = merge-sorts ms (M.reach ms 0 z ∷ st) h
-merge-sorts (M.joins z ∷ ms) st h = merge-sorts ms st h
-merge-sorts (M.closes ∷ ms) [] h = merge-sorts ms [] h
-merge-sorts (M.closes ∷ ms) (y ∷ st) h = merge-sorts ms st h
-merge-sorts (M.keeps e ∷ ms) st h =
-    ap₂ _&&_ (and-left (leb 1 (e .0) && leb (e .0) 4) (sorted ms) h) (merge-sorts ms st (and-right (leb 1 (e .0) && leb (e .0) 4) (sorted ms) h))
+    go (ends p q r) H = ap (λ (ms : List Mark). paired ms (errors js)) (marks-end e es q r) ∙ end-pairs (e .4) (shown es) js (marks es) (ap (λ (x : Event). nests (x ∷ shown es) js) (sym p) ∙ h) H
+    go (other p q r) H = ap (λ (ms : List Mark). paired ms (errors js)) (marks-other e es q r) ∙ plain-pairs (event e) (shown es) js (marks es) p h H
 
 module _ (l : List ℕ) (w : well-formed l ≡ true) (n : nests (events l) [] ≡ true) where
   -- THEOREM: what `rules` does not refuse 9 or 15 for its nesting, the merger does not refuse 10
   pub nesting-pairs : paired (marks (entries l)) 0 ≡ true
-  nesting-pairs = nests-pairs (entries l) [] (ap (λ (es : List Event). nests es []) (sym (events-are l)) ∙ n)
+  nesting-pairs = nests-pairs (entries l) [] n
 
   -- THEOREM: the merged list is no case of refusal 9
   pub finished-well-formed : well-formed (W.flat (finished l)) ≡ true
   finished-well-formed =
-      let s = sym (sorts-are l) ∙ and-right (eqb (length l % width) 0) (sorts l) w in
-      well-formed-of (finished l) (merge-sorts (marks (entries l)) [] (marks-sorted (entries l) s))
+      let n : length (W.flat (finished l)) % EVENT ≡ 0 = omega (arith, flat-length (finished l)) in
+      ap (λ (i : ℕ). eqb i 0 && M.sound 0 (entries (W.flat (finished l)))) n ∙ ap (M.sound 0) (entries-flat (finished l)) ∙ truth (M.sound 0 (finished l)) (merged-sound l w nesting-pairs)
+    where
+      truth : (t : Bool) → T t → t ≡ true
+      truth true h = refl
+      truth false h = absurd h
 
   -- THEOREM: the merged list nests
   pub finished-nests : nests (events (W.flat (finished l))) [] ≡ true

@@ -278,21 +278,21 @@ module _ (most : ℕ) where
   second (node a) = node a
   second (memo a) = memo a
 
-  module _ (d : ℕ) (R : (o : Bool) (a : Production) → Low d (run d o a)) where
-    runs : (p : Prog) (o : Bool) → Low d (exec d (run d) p o)
-    runs = exec-low d (run d) R
+  module _ (E : Bool) (d : ℕ) (R : (o : Bool) (a : Production) → Low d (run E d o a)) where
+    runs : (p : Prog) (o : Bool) → Low d (exec d (run E d) p o)
+    runs = exec-low d (run E d) R
 
-    named : (o : Bool) (t : State) (ns : List Bool) → suc (length ns) + suc d ≤ most → Sound (false ∷ ns) (t .out) → (exec d (run d) (grammar RULE-DECL) o t) .mode ≡ ok → Sound (true ∷ ns) ((exec d (run d) (grammar RULE-DECL) o t) .out)
+    named : (o : Bool) (t : State) (ns : List Bool) → suc (length ns) + suc d ≤ most → Sound (false ∷ ns) (t .out) → (exec d (run E d) (grammar E RULE-DECL) o t) .mode ≡ ok → Sound (true ∷ ns) ((exec d (run E d) (grammar E RULE-DECL) o t) .out)
     unfolding grammar
     named o t ns l h e =
-        let tail : Prog = second (second (second (grammar RULE-DECL))) in
-        let u : State = exec d (run d) (one kd.RULE-KW) o (exec d (run d) (opt (node RULE-MODS)) o t) in
-        let v : State = exec d (run d) (one kd.IDENT) o u in
-        let a = ate kd.IDENT (idOf kd.IDENT ∷ []) u (strict-exec d (run d) (grows d) (λ o b s e. run-ok d o b s e .0) (λ o b s e. run-ok d o b s e .1) tail tt o v e) in
-        let before : Sound (false ∷ ns) (u .out) = runs (one kd.RULE-KW) o (exec d (run d) (opt (node RULE-MODS)) o t) (false ∷ ns) l (runs (opt (node RULE-MODS)) o t (false ∷ ns) l h) in
+        let tail : Prog = second (second (second (grammar E RULE-DECL))) in
+        let u : State = exec d (run E d) (one kd.RULE-KW) o (exec d (run E d) (opt (node RULE-MODS)) o t) in
+        let v : State = exec d (run E d) (one kd.IDENT) o u in
+        let a = ate kd.IDENT (idOf kd.IDENT ∷ []) u (strict-exec d (run E d) (grows E d) (λ o b s e. run-ok E d o b s e .0) (λ o b s e. run-ok E d o b s e .1) tail tt o v e) in
+        let before : Sound (false ∷ ns) (u .out) = runs (one kd.RULE-KW) o (exec d (run E d) (opt (node RULE-MODS)) o t) (false ∷ ns) l (runs (opt (node RULE-MODS)) o t (false ∷ ns) l h) in
         runs tail o v (true ∷ ns) l (subst (Sound (true ∷ ns)) (sym (a .1)) (trivia-keeps (false ∷ ns) u before))
 
-    body : (o : Bool) (a : Production) (t : State) (ns : List Bool) → suc (length ns) + suc d ≤ most → Sound (false ∷ ns) (t .out) → let u : State = exec d (run d) (grammar a) o t in u .mode ≡ ok → Sound (eqb (kind a) kd.RULE-DECL ∷ ns) (u .out)
+    body : (o : Bool) (a : Production) (t : State) (ns : List Bool) → suc (length ns) + suc d ≤ most → Sound (false ∷ ns) (t .out) → let u : State = exec d (run E d) (grammar E a) o t in u .mode ≡ ok → Sound (eqb (kind a) kd.RULE-DECL ∷ ns) (u .out)
     unfolding productions kind
     body o a t ns l h = go (each-but RULE-DECL (λ a. not (eqb (kind a) kd.RULE-DECL)) tt a)
       where
@@ -300,20 +300,20 @@ module _ (most : ℕ) where
         untrue true x = absurd x
         untrue false x = refl
 
-        go : T (not (eqb (kind a) kd.RULE-DECL)) ⊎ (a ≡ RULE-DECL) → let u : State = exec d (run d) (grammar a) o t in u .mode ≡ ok → Sound (eqb (kind a) kd.RULE-DECL ∷ ns) (u .out)
-        go (inl x) = λ e. subst (λ (b : Bool). Sound (b ∷ ns) ((exec d (run d) (grammar a) o t) .out)) (sym (untrue (eqb (kind a) kd.RULE-DECL) x)) (runs (grammar a) o t (false ∷ ns) l h)
-        go (inr x) = subst (λ (b : Production). let u : State = exec d (run d) (grammar b) o t in u .mode ≡ ok → Sound (eqb (kind b) kd.RULE-DECL ∷ ns) (u .out)) (sym x) (named o t ns l h)
+        go : T (not (eqb (kind a) kd.RULE-DECL)) ⊎ (a ≡ RULE-DECL) → let u : State = exec d (run E d) (grammar E a) o t in u .mode ≡ ok → Sound (eqb (kind a) kd.RULE-DECL ∷ ns) (u .out)
+        go (inl x) = λ e. subst (λ (b : Bool). Sound (b ∷ ns) ((exec d (run E d) (grammar E a) o t) .out)) (sym (untrue (eqb (kind a) kd.RULE-DECL) x)) (runs (grammar E a) o t (false ∷ ns) l h)
+        go (inr x) = subst (λ (b : Production). let u : State = exec d (run E d) (grammar E b) o t in u .mode ≡ ok → Sound (eqb (kind b) kd.RULE-DECL ∷ ns) (u .out)) (sym x) (named o t ns l h)
 
-  run-low : (d : ℕ) (o : Bool) (a : Production) → Low d (run d o a)
-  run-low zero o a s ns l h =
+  run-low : (E : Bool) (d : ℕ) (o : Bool) (a : Production) → Low d (run E d o a)
+  run-low E zero o a s ns l h =
       let t : State = begin zero s in
       let u = begin-sound zero ns s h in
       let c = charged (s .fuel) (trivia s) in
       finish-sound o (kind a) (length (t .rest)) t ns (omega (arith, l)) u (λ e. not-stopped (c .0) (sym (c .1) ∙ e))
-  run-low (suc d) o a s ns l h =
+  run-low E (suc d) o a s ns l h =
       let t : State = begin (suc d) s in
       let u = begin-sound (suc d) ns s h in
-      finish-sound o (kind a) (length (t .rest)) (exec d (run d) (grammar a) o t) ns (omega (arith, l)) (runs d (run-low d) (grammar a) o t (false ∷ ns) (omega (arith, l)) u) (body d (run-low d) o a t ns (omega (arith, l)) u)
+      finish-sound o (kind a) (length (t .rest)) (exec d (run E d) (grammar E a) o t) ns (omega (arith, l)) (runs E d (run-low E d) (grammar E a) o t (false ∷ ns) (omega (arith, l)) u) (body E d (run-low E d) o a t ns (omega (arith, l)) u)
 
 -- A WHOLE READING: as many nodes are open as the limit allows, and the one that is too deep
 
@@ -326,7 +326,7 @@ module _ (L : Limits) where
 
   reads-whole : (p : Prog) (s : State) → Whole (s .out) → Whole ((read-item L p s) .out)
   unfolding read-item
-  reads-whole p s h = exec-low most-open (L .depth) (run (L .depth)) (run-low most-open (L .depth)) p false s [] (omega arith) h
+  reads-whole p s h = exec-low most-open (L .depth) (run (L .entrypoint) (L .depth)) (run-low most-open (L .entrypoint) (L .depth)) p false s [] (omega arith) h
 
   stray-whole : (s : State) → Whole (s .out) → Whole ((stray-item s) .out)
   stray-whole s h =

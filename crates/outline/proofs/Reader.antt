@@ -21,12 +21,13 @@ use Rattle.definition.proofs.Agree.{nil-cons}
 use Rattle.definition.proofs.Shown.{render-keeps}
 use Rattle.theorems.proofs.Answered.{given-is}
 use Rattle.theorems.proofs.Joined.{read-well-formed}
-use Rattle.outline.specs.Shape.{Event, opens, row, closes, tells, events, well-formed}
+use Rattle.definition.specs.Merge.{well-formed}
+use Rattle.outline.specs.Shape.{Event, opens, row, closes, tells, shown, events}
 use Rattle.outline.specs.Rules as R
 use Rattle.outline.specs.Rules.{deepest, nests, inside, name, has-name, Rule, rule, rules, all-named, flat, refusing, Given, judged, fitting, listing, returned}
 use Rattle.outline.specs.Outline.{asked, outlined, outlining}
 use Rattle.outline.proofs.Walking.{never}
-use Rattle.outline.proofs.Merging.{shown, events-of, well-formed-is, finished-judged, finished-listing}
+use Rattle.outline.proofs.Merging.{events-of, finished-judged, finished-listing}
 use Rattle.outline.proofs.Named.{met, Sound, most-open, read-whole}
 
 name-inside : (es : List Event) (h : ℕ) → name (inside es h) h ≡ name es h
@@ -106,8 +107,8 @@ module _ (x : Source) (most : ℕ) (low : most < deepest) where
       go true e = ap₂ _&&_ (ap has-name (name-inside es 0) ∙ f (eqb-true (t .0) kd.RULE-DECL e)) h
       go false e = h
 
-  fine-open : (t : ℕ × ℕ) (n : ℕ) (st : List (ℕ × ℕ)) (ns : List Bool) (l : List Entry) → Fine (t ∷ st) (false ∷ ns) l → Fine st ns ((1, t .0, starts-at x n, t .1) ∷ l)
-  fine-open t n st ns l f = record {
+  fine-open : (i : ℕ) (t : ℕ × ℕ) (n : ℕ) (st : List (ℕ × ℕ)) (ns : List Bool) (l : List Entry) → Fine (t ∷ st) (false ∷ ns) l → Fine st ns ((1, t .0, starts-at x n, t .1, i) ∷ l)
+  fine-open i t n st ns l f = record {
     level = omega (arith, f .level);
     few = omega (arith, f .few);
     nest = ap₂ _&&_ (lt-ltb (length (kinds st)) deepest (omega (arith, kinds-length st, f .few, low))) (f .nest);
@@ -115,8 +116,8 @@ module _ (x : Source) (most : ℕ) (low : most < deepest) where
     named = open-named t (starts-at x n) (shown l) (λ e. f .names .0 e refl) (f .named);
   }
 
-  fine-row : (a b c : ℕ) (st : List (ℕ × ℕ)) (ns : List Bool) (l : List Entry) → Fine st ns l → Fine st (met a ns) ((2, a, b, c) ∷ l)
-  fine-row a b c st ns l f = record {
+  fine-row : (i a b c : ℕ) (st : List (ℕ × ℕ)) (ns : List Bool) (l : List Entry) → Fine st ns l → Fine st (met a ns) ((2, a, b, c, i) ∷ l)
+  fine-row i a b c st ns l f = record {
     level = met-level ns ∙ f .level;
     few = f .few;
     nest = f .nest;
@@ -128,8 +129,8 @@ module _ (x : Source) (most : ℕ) (low : most < deepest) where
       met-level [] = refl
       met-level (b ∷ ns) = refl
 
-  fine-close : (a b e : ℕ) (st : List (ℕ × ℕ)) (ns : List Bool) (l : List Entry) → suc (length ns) ≤ most → Fine st ns l → Fine ((a, e) ∷ st) (eqb a kd.RULE-DECL ∷ ns) ((3, a, b, e) ∷ l)
-  fine-close a b e st ns l h f = record {
+  fine-close : (i a b e : ℕ) (st : List (ℕ × ℕ)) (ns : List Bool) (l : List Entry) → suc (length ns) ≤ most → Fine st ns l → Fine ((a, e) ∷ st) (eqb a kd.RULE-DECL ∷ ns) ((3, a, b, e, i) ∷ l)
+  fine-close i a b e st ns l h f = record {
     level = ap suc (f .level);
     few = omega (arith, h, f .level);
     nest = ap₂ _&&_ (eq-eqb a a refl) (f .nest);
@@ -140,8 +141,8 @@ module _ (x : Source) (most : ℕ) (low : most < deepest) where
       other : {A : Type 0} → a ≡ kd.RULE-DECL → eqb a kd.RULE-DECL ≡ false → A
       other p q = let c : true ≡ false = sym (eq-eqb a kd.RULE-DECL p) ∙ q in never cc
 
-  fine-tell : (a b c : ℕ) (st : List (ℕ × ℕ)) (ns : List Bool) (l : List Entry) → Fine st ns l → Fine st ns ((4, a, b, c) ∷ l)
-  fine-tell a b c st ns l f = record { level = f .level; few = f .few; nest = f .nest; names = names-tell (shown l) 0 st ns (f .names); named = f .named }
+  fine-tell : (i a b c : ℕ) (st : List (ℕ × ℕ)) (ns : List Bool) (l : List Entry) → Fine st ns l → Fine st ns ((4, a, b, c, i) ∷ l)
+  fine-tell i a b c st ns l f = record { level = f .level; few = f .few; nest = f .nest; names = names-tell (shown l) 0 st ns (f .names); named = f .named }
 
   -- THE INDUCTION, as rendering goes: from the last event to the first
   fine-render : (w : List D.Event) (st : List (ℕ × ℕ)) (ns : List Bool) (l : List Entry) → Sound most ns w → Fine st ns l → Fine [] [] (render x st w l)
@@ -149,10 +150,10 @@ module _ (x : Source) (most : ℕ) (low : most < deepest) where
   fine-render [] (t ∷ st) ns l h f = absurd (omega (arith, f .level, ap length h))
   fine-render (D.opened n ∷ w) st [] l h f = absurd h
   fine-render (D.opened n ∷ w) [] (b ∷ ns) l h f = absurd (omega (arith, f .level))
-  fine-render (D.opened n ∷ w) (t ∷ st) (b ∷ ns) l h f = fine-render w st ns ((1, t .0, starts-at x n, t .1) ∷ l) (h .1) (fine-open t n st ns l (subst (λ (c : Bool). Fine (t ∷ st) (c ∷ ns) l) (h .0) f))
-  fine-render (D.leaf a n ∷ w) st ns l h f = fine-render w st (met a ns) ((2, a, starts-at x n, ends-at x n) ∷ l) h (fine-row a (starts-at x n) (ends-at x n) st ns l f)
-  fine-render (D.closed a n m ∷ w) st ns l h f = fine-render w ((a, span-end x n m) ∷ st) (eqb a kd.RULE-DECL ∷ ns) ((3, a, starts-at x n, span-end x n m) ∷ l) (h .1) (fine-close a (starts-at x n) (span-end x n m) st ns l (h .0) f)
-  fine-render (D.bad n c ∷ w) st ns l h f = fine-render w st ns ((4, bads w, starts-at x n, ends-at x n) ∷ l) h (fine-tell (bads w) (starts-at x n) (ends-at x n) st ns l f)
+  fine-render (D.opened n ∷ w) (t ∷ st) (b ∷ ns) l h f = fine-render w st ns ((1, t .0, starts-at x n, t .1, suc (length st)) ∷ l) (h .1) (fine-open (suc (length st)) t n st ns l (subst (λ (c : Bool). Fine (t ∷ st) (c ∷ ns) l) (h .0) f))
+  fine-render (D.leaf a n ∷ w) st ns l h f = fine-render w st (met a ns) ((2, a, starts-at x n, ends-at x n, suc (length st)) ∷ l) h (fine-row (suc (length st)) a (starts-at x n) (ends-at x n) st ns l f)
+  fine-render (D.closed a n m ∷ w) st ns l h f = fine-render w ((a, span-end x n m) ∷ st) (eqb a kd.RULE-DECL ∷ ns) ((3, a, starts-at x n, span-end x n m, suc (length st)) ∷ l) (h .1) (fine-close (suc (length st)) a (starts-at x n) (span-end x n m) st ns l (h .0) f)
+  fine-render (D.bad n c ∷ w) st ns l h f = fine-render w st ns ((4, bads w, starts-at x n, ends-at x n, suc (length st)) ∷ l) h (fine-tell (suc (length st)) (bads w) (starts-at x n) (ends-at x n) st ns l f)
 
 -- THE READER'S LIST, under a limit that no reader of ours exceeds
 module _ (L : Limits) (low : L .depth ≤ 1024) (d : Desk) (R : Reading) (e : answer L d ≡ A.given R) where
@@ -161,16 +162,16 @@ module _ (L : Limits) (low : L .depth ≤ 1024) (d : Desk) (R : Reading) (e : an
       let x : Source = source-of d in
       let z : ℕ = length (d .bytes) in
       let o : List D.Event = (read L (d .ids) (d .fuel)) .out in
-      let l : List Entry = (3, kd.SOURCE-FILE, 0, z) ∷ [] in
+      let l : List Entry = (3, kd.SOURCE-FILE, 0, z, 0) ∷ [] in
       let f = fine-render x (most-open L) (omega (arith, low)) o [] [] l (read-whole L (d .ids) (d .fuel)) (record { level = refl; few = omega arith; nest = refl; names = tt; named = refl }) in
-      let is : R .events ≡ (1, kd.SOURCE-FILE, 0, z) ∷ render x [] o l = ap (λ (r : Reading). r .events) (given-is L d R e .whole) ∙ ap (λ (l : List Entry). (1, kd.SOURCE-FILE, 0, z) ∷ l) (sym (render-keeps x [] o [] l)) in
+      let is : R .events ≡ (1, kd.SOURCE-FILE, 0, z, 0) ∷ render x [] o l = ap (λ (r : Reading). r .events) (given-is L d R e .whole) ∙ ap (λ (l : List Entry). (1, kd.SOURCE-FILE, 0, z, 0) ∷ l) (sym (render-keeps x [] o [] l)) in
       subst (λ (es : List Entry). (nests (shown es) [] ≡ true) × (all-named (rules (shown es)) ≡ true)) (sym is) (f .nest, f .named)
 
   abbrev l : List ℕ
   l = W.flat (R .events)
 
   read-9 : well-formed l ≡ true
-  read-9 = well-formed-is l ∙ read-well-formed L d R e
+  read-9 = read-well-formed L d R e
 
   -- THEOREM: it nests, at most 1,026 nodes deep
   pub read-nests : nests (events l) [] ≡ true

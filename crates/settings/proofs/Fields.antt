@@ -8,9 +8,10 @@ use native.Mathlib.Omega.{arith}
 use borrow.Author.Tests.{lt-ltb, le-leb, lt-leb}
 use lib.Dec.{leb}
 use lib.ListN.{length, drop}
+use Rattle.listing.specs.Numbers.{number}
 use Rattle.listing.specs.Lines.{parted, Piece}
 use Rattle.listing.proofs.Pieces.{part, marked, unmarked, one-piece}
-use Rattle.settings.specs.Settings.{inRange, ranged, lineOf}
+use Rattle.settings.specs.Settings.{inRange, ranged, editionOf, lineOf}
 use Rattle.settings.specs.Answer.{lineFrom}
 use Rattle.settings.specs.declared.lines.Values.{Values}
 use Rattle.settings.specs.declared.lines.Line.{Line}
@@ -37,10 +38,26 @@ module _ {s : List ℕ} {fs : List (List ℕ)} {at to : ℕ} (g : Passed s fs at
   pub finish : length s ≤ to → lineFrom (lineOf (fs ++ (part at to s ∷ []))) ≡ lineFrom (lineOf (parted 9 s))
   finish h = sym (ap (λ (ps : List (List ℕ)). lineFrom (lineOf ps)) (g .is ∙ ap (λ (ps : List (List ℕ)). fs ++ ps) (unmarked p h)))
 
-pub too-many : {s e f d q : List ℕ} {at : ℕ} → Passed s (e ∷ f ∷ d ∷ q ∷ []) at → line.Unread ≡ lineFrom (lineOf (parted 9 s))
-too-many {s} {e} {f} {d} {q} {at} g =
+pub too-many : {s e f d q p : List ℕ} {at : ℕ} → Passed s (e ∷ f ∷ d ∷ q ∷ p ∷ []) at → line.Unread ≡ lineFrom (lineOf (parted 9 s))
+too-many {s} {e} {f} {d} {q} {p} {at} g =
     sym (ap (λ (ps : List (List ℕ)). lineFrom (lineOf ps)) (g .is)
-    ∙ one-piece (λ (ps : List (List ℕ)). lineFrom (lineOf (e ∷ f ∷ d ∷ q ∷ ps)) ≡ line.Unread) (λ p ps. refl) 9 (drop at s))
+    ∙ one-piece (λ (ps : List (List ℕ)). lineFrom (lineOf (e ∷ f ∷ d ∷ q ∷ p ∷ ps)) ≡ line.Unread) (λ r ps. refl) 9 (drop at s))
+
+-- the fourth value, where it is a number and where it is none
+pub fourth-is : (e f d q p : List ℕ) {n : ℕ} → number p ≡ some n → lineFrom (editionOf (number e) (number f) (number d) (number q) (some n)) ≡ lineFrom (lineOf (e ∷ f ∷ d ∷ q ∷ p ∷ []))
+fourth-is e f d q p h = sym (ap (λ (o : Option ℕ). lineFrom (editionOf (number e) (number f) (number d) (number q) o)) h)
+
+none-read : (a b c d : Option ℕ) → line.Unread ≡ lineFrom (editionOf a b c d none)
+none-read none b c d = refl
+none-read (some w) none c d = refl
+none-read (some w) (some x) none d = refl
+none-read (some w) (some x) (some y) none = refl
+none-read (some w) (some x) (some y) (some z) = refl
+
+pub fourth-none : (e f d q p : List ℕ) → number p ≡ none → line.Unread ≡ lineFrom (lineOf (e ∷ f ∷ d ∷ q ∷ p ∷ []))
+fourth-none e f d q p h =
+    none-read (number e) (number f) (number d) (number q)
+    ∙ sym (ap (λ (o : Option ℕ). lineFrom (editionOf (number e) (number f) (number d) (number q) o)) h)
 
 pub out-of-range : (e : ℕ) (v : Values) → inRange v ≡ false → line.Unread ≡ lineFrom (ranged e v)
 out-of-range e v h = sym (ap (λ (t : Bool). lineFrom (cond t (some (e, v)) none)) h)
@@ -59,14 +76,17 @@ reads (some (m, w)) e f = cc
 
 -- the tests of a value one after another; its fuel is a 32-bit number
 module _ (v : Values) (f : v .fuel < 2 ^ 32) where
-  tested : (t u : Bool) → leb 1 (v .depth) ≡ t → leb (v .depth) 1024 ≡ u → (true && t && u && leb (v .quote) 255) ≡ inRange v
-  tested t u a b = sym (rw (lt-ltb (v .fuel) (2 ^ 32) f, a, b))
+  tested : (t u w : Bool) → leb 1 (v .depth) ≡ t → leb (v .depth) 1024 ≡ u → leb (v .quote) 255 ≡ w → (true && t && u && w && leb (v .entrypoint) 1) ≡ inRange v
+  tested t u w a b c = sym (rw (lt-ltb (v .fuel) (2 ^ 32) f, a, b, c))
 
   pub too-shallow : v .depth < 1 → false ≡ inRange v
-  too-shallow h = tested false (leb (v .depth) 1024) (lt-leb 1 (v .depth) h) refl
+  too-shallow h = tested false (leb (v .depth) 1024) (leb (v .quote) 255) (lt-leb 1 (v .depth) h) refl refl
 
   pub too-deep : 1 ≤ v .depth → 1024 < v .depth → false ≡ inRange v
-  too-deep h k = tested true false (le-leb 1 (v .depth) h) (lt-leb (v .depth) 1024 k)
+  too-deep h k = tested true false (leb (v .quote) 255) (le-leb 1 (v .depth) h) (lt-leb (v .depth) 1024 k) refl
 
-  pub quoted : 1 ≤ v .depth → v .depth ≤ 1024 → leb (v .quote) 255 ≡ inRange v
-  quoted h k = tested true true (le-leb 1 (v .depth) h) (le-leb (v .depth) 1024 k)
+  pub too-long : 1 ≤ v .depth → v .depth ≤ 1024 → 255 < v .quote → false ≡ inRange v
+  too-long h k l = tested true true false (le-leb 1 (v .depth) h) (le-leb (v .depth) 1024 k) (lt-leb (v .quote) 255 l)
+
+  pub one-or-none : 1 ≤ v .depth → v .depth ≤ 1024 → v .quote ≤ 255 → leb (v .entrypoint) 1 ≡ inRange v
+  one-or-none h k l = tested true true true (le-leb 1 (v .depth) h) (le-leb (v .depth) 1024 k) (le-leb (v .quote) 255 l)

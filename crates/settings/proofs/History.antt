@@ -6,15 +6,15 @@ use mathlib.Core.List.{List, [], _∷_, _++_, append-nil}
 use mathlib.Core.Bool.{Bool, true, false, cond, _&&_}
 use mathlib.Core.Option.{Option, none, some}
 use native.Mathlib.Omega.{arith}
-use borrow.Author.Tests.{eq-eqb, eqb-true}
-use lib.Dec.{eqb}
+use borrow.Author.Tests.{eq-eqb, eqb-true, lt-ltb, leb-true}
+use lib.Dec.{eqb, leb, ltb}
 use lib.ListN.{length}
 use Rattle.listing.specs.Numbers.{number}
 use Rattle.listing.specs.Lines.{onto, parted}
-use Rattle.settings.specs.Settings.{inRange, ranged, editionOf, lineOf, inTurn, Settings, bad, editions, from, behindLast, linesOf, settingsOf, today, named, numbered, choiceIn, choice, written}
+use Rattle.settings.specs.Settings.{inRange, ranged, editionOf, lineOf, inTurn, Settings, bad, editions, from, behindLast, linesOf, settingsOf, today, Reply, named, numbered, choiceIn, choice, written}
 use Rattle.settings.specs.declared.lines.Values.{Values}
 use Rattle.settings.proofs.Scanning.{before}
-use Rattle.settings.proofs.Written.{glue, onto-none, parted-append, body, one-line, body-reads}
+use Rattle.settings.proofs.Written.{glue, onto-none, parted-append, both, body, one-line, body-reads}
 
 -- lines that read, taken apart
 record Taken (o : Option Values) (s : Settings) (vs : List Values) : Type 0 where
@@ -79,20 +79,22 @@ ranged-in n w e v h = go (inRange w) refl h
     go true i h = ap inRange (sym (ap (values-of w) h)) ∙ i
     go false i h = absurd (let z : _≡_ {A = ℕ} 0 1 = cc in omega arith)
 
-edition-in : (a b c d : Option ℕ) (e : ℕ) (v : Values) → editionOf a b c d ≡ some (e, v) → inRange v ≡ true
-edition-in none b c d e v h = absurd (let z : _≡_ {A = ℕ} 0 1 = cc in omega arith)
-edition-in (some w) none c d e v h = absurd (let z : _≡_ {A = ℕ} 0 1 = cc in omega arith)
-edition-in (some w) (some x) none d e v h = absurd (let z : _≡_ {A = ℕ} 0 1 = cc in omega arith)
-edition-in (some w) (some x) (some y) none e v h = absurd (let z : _≡_ {A = ℕ} 0 1 = cc in omega arith)
-edition-in (some w) (some x) (some y) (some z) e v h = ranged-in w (record { fuel = x; depth = y; quote = z }) e v h
+edition-in : (a b c d p : Option ℕ) (e : ℕ) (v : Values) → editionOf a b c d p ≡ some (e, v) → inRange v ≡ true
+edition-in none b c d p e v h = absurd (let z : _≡_ {A = ℕ} 0 1 = cc in omega arith)
+edition-in (some w) none c d p e v h = absurd (let z : _≡_ {A = ℕ} 0 1 = cc in omega arith)
+edition-in (some w) (some x) none d p e v h = absurd (let z : _≡_ {A = ℕ} 0 1 = cc in omega arith)
+edition-in (some w) (some x) (some y) none p e v h = absurd (let z : _≡_ {A = ℕ} 0 1 = cc in omega arith)
+edition-in (some w) (some x) (some y) (some z) none e v h = absurd (let z : _≡_ {A = ℕ} 0 1 = cc in omega arith)
+edition-in (some w) (some x) (some y) (some z) (some p) e v h = ranged-in w (record { fuel = x; depth = y; quote = z; entrypoint = p }) e v h
 
 line-in : (fs : List (List ℕ)) (e : ℕ) (v : Values) → lineOf fs ≡ some (e, v) → inRange v ≡ true
 line-in [] e v h = absurd (let z : _≡_ {A = ℕ} 0 1 = cc in omega arith)
 line-in (a ∷ []) e v h = absurd (let z : _≡_ {A = ℕ} 0 1 = cc in omega arith)
 line-in (a ∷ b ∷ []) e v h = absurd (let z : _≡_ {A = ℕ} 0 1 = cc in omega arith)
 line-in (a ∷ b ∷ c ∷ []) e v h = absurd (let z : _≡_ {A = ℕ} 0 1 = cc in omega arith)
-line-in (a ∷ b ∷ c ∷ d ∷ []) e v h = edition-in (number a) (number b) (number c) (number d) e v h
-line-in (a ∷ b ∷ c ∷ d ∷ f ∷ fs) e v h = absurd (let z : _≡_ {A = ℕ} 0 1 = cc in omega arith)
+line-in (a ∷ b ∷ c ∷ d ∷ []) e v h = edition-in (number a) (number b) (number c) (number d) (some 1) e v h
+line-in (a ∷ b ∷ c ∷ d ∷ p ∷ []) e v h = edition-in (number a) (number b) (number c) (number d) (number p) e v h
+line-in (a ∷ b ∷ c ∷ d ∷ p ∷ f ∷ fs) e v h = absurd (let z : _≡_ {A = ℕ} 0 1 = cc in omega arith)
 
 every : (n : ℕ) (ls : List (List ℕ)) (vs : List Values) → Rising n ls vs → Every vs
 every n ls [] r = tt
@@ -182,3 +184,30 @@ own-fuel text k f g = go (settingsOf text)
     go : (s : Settings) → choiceIn s (suc (suc k)) f ≡ choiceIn s (suc (suc k)) g
     go (bad n) = refl
     go (editions vs) = refl
+
+-- WHAT A READING IS GIVEN IS IN RANGE
+
+today-in : (fuel : ℕ) → fuel < 2 ^ 32 → inRange (today fuel) ≡ true
+today-in fuel h = rw (lt-ltb fuel (2 ^ 32) h) refl
+
+numbered-in : (e : ℕ) (l : List Values) (v : Values) → Every l → numbered e l ≡ named v → inRange v ≡ true
+numbered-in zero l v h k = absurd (let z : _≡_ {A = ℕ} 18 0 = ap (λ (r : Reply). r .number) k in omega arith)
+numbered-in (suc n) [] v h k = absurd (let z : _≡_ {A = ℕ} 18 0 = ap (λ (r : Reply). r .number) k in omega arith)
+numbered-in (suc zero) (w ∷ l) v h k = ap inRange (sym (ap (λ (r : Reply). r .values) k)) ∙ h .0
+numbered-in (suc (suc n)) (w ∷ l) v h k = numbered-in (suc n) l v (h .1) k
+
+pub chosen-in : (text : List ℕ) (e fuel : ℕ) (v : Values) → fuel < 2 ^ 32 → choice text e fuel ≡ named v → inRange v ≡ true
+unfolding choice
+chosen-in text e fuel v h k = go (settingsOf text) refl k
+  where
+    go : (s : Settings) → settingsOf text ≡ s → choiceIn s e fuel ≡ named v → inRange v ≡ true
+    go (bad n) i k = absurd (let z : _≡_ {A = ℕ} 19 0 = ap (λ (r : Reply). r .number) k in omega arith)
+    go (editions vs) i k = numbered-in e (today fuel ∷ vs) v (today-in fuel h, in-ranges text vs i) k
+
+-- so the limits fit the reader's
+pub chosen-fits : (text : List ℕ) (e fuel : ℕ) (v : Values) → fuel < 2 ^ 32 → choice text e fuel ≡ named v → (v .depth ≤ 1024) × (v .quote ≤ 255)
+chosen-fits text e fuel v h k =
+    let o = both (ltb (v .fuel) (2 ^ 32) && leb 1 (v .depth) && leb (v .depth) 1024 && leb (v .quote) 255) (leb (v .entrypoint) 1) (chosen-in text e fuel v h k) in
+    let a = both (ltb (v .fuel) (2 ^ 32) && leb 1 (v .depth) && leb (v .depth) 1024) (leb (v .quote) 255) (o .0) in
+    let b = both (ltb (v .fuel) (2 ^ 32) && leb 1 (v .depth)) (leb (v .depth) 1024) (a .0) in
+    (leb-true (v .depth) 1024 (b .1), leb-true (v .quote) 255 (a .1))

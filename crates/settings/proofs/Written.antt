@@ -87,7 +87,7 @@ fields-of n (k ∷ ns) =
 
 module _ (e : ℕ) (v : Values) where
   values : List ℕ
-  values = v .fuel ∷ v .depth ∷ v .quote ∷ []
+  values = v .fuel ∷ v .depth ∷ v .quote ∷ v .entrypoint ∷ []
 
   -- the line without its line feed
   pub body : List ℕ
@@ -105,11 +105,13 @@ module _ (e : ℕ) (v : Values) where
     pub body-reads : lineOf (parted 9 body) ≡ some (e, v)
     unfolding values body
     body-reads =
-        let a = both (ltb (v .fuel) (2 ^ 32) && leb 1 (v .depth) && leb (v .depth) 1024) (leb (v .quote) 255) r in
+        let o = both (ltb (v .fuel) (2 ^ 32) && leb 1 (v .depth) && leb (v .depth) 1024 && leb (v .quote) 255) (leb (v .entrypoint) 1) r in
+        let a = both (ltb (v .fuel) (2 ^ 32) && leb 1 (v .depth) && leb (v .depth) 1024) (leb (v .quote) 255) (o .0) in
         let b = both (ltb (v .fuel) (2 ^ 32) && leb 1 (v .depth)) (leb (v .depth) 1024) (a .0) in
         let c = both (ltb (v .fuel) (2 ^ 32)) (leb 1 (v .depth)) (b .0) in
         let f : number (decimal (v .fuel)) ≡ some (v .fuel) = reads-back (v .fuel) (ltb-true (v .fuel) (2 ^ 32) (c .0)) in
         let d : number (decimal (v .depth)) ≡ some (v .depth) = reads-back (v .depth) (omega (arith, leb-true (v .depth) 1024 (b .1))) in
         let q : number (decimal (v .quote)) ≡ some (v .quote) = reads-back (v .quote) (omega (arith, leb-true (v .quote) 255 (a .1))) in
+        let p : number (decimal (v .entrypoint)) ≡ some (v .entrypoint) = reads-back (v .entrypoint) (omega (arith, leb-true (v .entrypoint) 1 (o .1))) in
         ap lineOf (fields-of e values)
-        ∙ rw (reads-back e h, f, d, q) (ap (λ (t : Bool). cond t (some (e, v)) none) r)
+        ∙ rw (reads-back e h, f, d, q, p) (ap (λ (t : Bool). cond t (some (e, v)) none) r)

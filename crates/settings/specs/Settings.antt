@@ -1,5 +1,6 @@
--- Settings with a history (document 02, request (xi)): "one record a line: edition number, the three values, fields parted by tabs. Edition 1 has
--- no line: it is today's values with the fuel given to the call. Lines rise from 2 without gaps; a new one is added at the end and none is changed."
+-- Settings with a history (document 02, requests (xi) and (xiv)): "one record a line: edition number, the three values, fields parted by tabs. Edition 1
+-- has no line: it is today's values with the fuel given to the call. Lines rise from 2 without gaps; a new one is added at the end and none is changed."
+-- "(a fourth value, 1 for allowed; editions written before have 1)"
 use Prim.Native.Nat.{ℕ, zero, suc, _+_, _-_, _^_}
 use mathlib.Core.List.{List, [], _∷_, _++_, map}
 use mathlib.Core.Bool.{Bool, true, false, cond, _&&_}
@@ -11,29 +12,32 @@ use Rattle.listing.specs.Lines.{parted}
 use Rattle.listing.specs.Listing.{led}
 use Rattle.settings.specs.declared.lines.Values.{Values}
 
--- "the depth limit (1 to 1,024) and the length above which found text is left out (today 15, allowed 0 to 255)"; fuel is any 32-bit number
+-- "the depth limit (1 to 1,024) and the length above which found text is left out (today 15, allowed 0 to 255)"; fuel is any 32-bit number;
+-- "19 also covers a fourth value other than 0 or 1"
 abbrev pub inRange : Values → Bool
-inRange v = ltb (v .fuel) (2 ^ 32) && leb 1 (v .depth) && leb (v .depth) 1024 && leb (v .quote) 255
+inRange v = ltb (v .fuel) (2 ^ 32) && leb 1 (v .depth) && leb (v .depth) 1024 && leb (v .quote) 255 && leb (v .entrypoint) 1
 
 -- an edition's number and its values, where they are in their ranges
 abbrev pub ranged : ℕ → Values → Option (ℕ × Values)
 ranged e v = cond (inRange v) (some (e, v)) none
 
-abbrev pub editionOf : Option ℕ → Option ℕ → Option ℕ → Option ℕ → Option (ℕ × Values)
-editionOf none f d q = none
-editionOf (some e) none d q = none
-editionOf (some e) (some f) none q = none
-editionOf (some e) (some f) (some d) none = none
-editionOf (some e) (some f) (some d) (some q) = ranged e (record { fuel = f; depth = d; quote = q })
+abbrev pub editionOf : Option ℕ → Option ℕ → Option ℕ → Option ℕ → Option ℕ → Option (ℕ × Values)
+editionOf none f d q p = none
+editionOf (some e) none d q p = none
+editionOf (some e) (some f) none q p = none
+editionOf (some e) (some f) (some d) none p = none
+editionOf (some e) (some f) (some d) (some q) none = none
+editionOf (some e) (some f) (some d) (some q) (some p) = ranged e (record { fuel = f; depth = d; quote = q; entrypoint = p })
 
--- "edition number, the three values"; a field too few or too many does not read
+-- "edition number, the three values", and the fourth; a line of three values has 1 there, wherever it stands; a field too few or too many does not read
 abbrev pub lineOf : List (List ℕ) → Option (ℕ × Values)
 lineOf [] = none
 lineOf (e ∷ []) = none
 lineOf (e ∷ f ∷ []) = none
 lineOf (e ∷ f ∷ d ∷ []) = none
-lineOf (e ∷ f ∷ d ∷ q ∷ []) = editionOf (number e) (number f) (number d) (number q)
-lineOf (e ∷ f ∷ d ∷ q ∷ g ∷ fs) = none
+lineOf (e ∷ f ∷ d ∷ q ∷ []) = editionOf (number e) (number f) (number d) (number q) (some 1)
+lineOf (e ∷ f ∷ d ∷ q ∷ p ∷ []) = editionOf (number e) (number f) (number d) (number q) (number p)
+lineOf (e ∷ f ∷ d ∷ q ∷ p ∷ g ∷ fs) = none
 
 -- the values of a line that has this edition's number
 abbrev pub inTurn : ℕ → Option (ℕ × Values) → Option Values
@@ -68,10 +72,10 @@ settingsOf text = linesOf 1 (parted 10 text)
 
 -- "today's values with the fuel given to the call"
 abbrev pub today : ℕ → Values
-today fuel = record { fuel = fuel; depth = 1024; quote = 15 }
+today fuel = record { fuel = fuel; depth = 1024; quote = 15; entrypoint = 1 }
 
 abbrev pub noValues : Values
-noValues = record { fuel = 0; depth = 0; quote = 0 }
+noValues = record { fuel = 0; depth = 0; quote = 0; entrypoint = 0 }
 
 -- the refusal's number, 0 where there is none; the line of refusal 19; the values. "A refusal returns its number and zeros."
 pub record Reply : Type 0 where
@@ -105,7 +109,7 @@ choice text edition fuel = choiceIn (settingsOf text) edition fuel
 
 -- the line of an edition
 abbrev pub written : ℕ → Values → List ℕ
-written e v = decimal e ++ (led 9 (map decimal (v .fuel ∷ v .depth ∷ v .quote ∷ [])) ++ (10 ∷ []))
+written e v = decimal e ++ (led 9 (map decimal (v .fuel ∷ v .depth ∷ v .quote ∷ v .entrypoint ∷ [])) ++ (10 ∷ []))
 
 -- what adding returns, and what the room holds then
 pub record Grown : Type 0 where

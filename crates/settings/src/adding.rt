@@ -23,12 +23,17 @@ pub enum Added {
     Text(usize),
 }
 
-// Four numbers of at most 20 digits, each with a tab or the line feed behind it.
+// Five numbers of at most 20 digits, each with a tab or the line feed behind it.
 fn write_line(edition: u32, values: Values, room: &mut [u8; 128]) -> usize
     ensures { λ r. ⌜ Spelled (written edition values) (now (room .entry)) (now (room .exit)) r ⌝ }
 {
     let first = put_decimal(edition as u64, room, 0);
-    let numbers = [values.fuel as u64, values.depth as u64, values.quote as u64];
+    let numbers = [
+        values.fuel as u64,
+        values.depth as u64,
+        values.quote as u64,
+        values.entrypoint as u64,
+    ];
     let last = put_numbers(&numbers, room, first);
     put_byte(b'\n', room, last)
 }

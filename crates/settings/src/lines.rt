@@ -4,10 +4,11 @@ use listing::piece_end;
 use listing::read_number;
 ghost use mathlib.Core.Path.{_≡_};
 ghost use mathlib.Core.Bool.{cond};
-ghost use mathlib.Core.List.{[], _∷_};
 ghost use lib.Dec.{eqb};
+ghost use mathlib.Core.Option.{some};
+ghost use Rattle.listing.specs.Numbers.{number};
 ghost use Rattle.listing.specs.Lines.{parted};
-ghost use Rattle.settings.specs.Settings.{inRange, lineOf, settingsOf, choice};
+ghost use Rattle.settings.specs.Settings.{inRange, editionOf, lineOf, settingsOf, choice};
 ghost use Rattle.settings.specs.Answer.{replyOf, lineFrom, scanOf};
 
 // What an edition sets.
@@ -17,6 +18,8 @@ pub struct Values {
     pub depth: u32,
     // The length above which found text is left out.
     pub quote: u32,
+    // 1 where entrypoint is a term, 0 where it is not.
+    pub entrypoint: u32,
 }
 
 pub enum Chosen {
@@ -44,6 +47,9 @@ const DEPTH: u32 = 1024;
 
 const QUOTE: u32 = 15;
 
+// Entrypoint is a term in edition 1, and where a line has no fourth value.
+const ENTRYPOINT: u32 = 1;
+
 pub fn allowed(values: Values) -> bool
     ensures { λ r. ⌜ r ≡ inRange values ⌝ }
 {
@@ -53,12 +59,17 @@ pub fn allowed(values: Values) -> bool
     if 1024 < values.depth {
         return false;
     }
-    values.quote <= 255
+    if 255 < values.quote {
+        return false;
+    }
+    values.entrypoint <= 1
 }
 
-// The line of four fields.
-fn fields(edition: &[u8], fuel: &[u8], depth: &[u8], quote: &[u8]) -> Line
-    ensures { λ r. ⌜ r ≡ lineFrom (lineOf (now (edition .entry) ∷ now (fuel .entry) ∷ now (depth .entry) ∷ now (quote .entry) ∷ [])) ⌝ }
+// The line of four fields and its last value.
+fn fields(edition: &[u8], fuel: &[u8], depth: &[u8], quote: &[u8], entrypoint: u32) -> Line
+    ensures { λ r. ⌜
+        r ≡ lineFrom (editionOf (number (now (edition .entry))) (number (now (fuel .entry))) (number (now (depth .entry))) (number (now (quote .entry)))
+        (some entrypoint)) ⌝ }
 {
     let Number::Is(edition) = read_number(edition) else {
         return Line::Unread;
@@ -72,11 +83,16 @@ fn fields(edition: &[u8], fuel: &[u8], depth: &[u8], quote: &[u8]) -> Line
     let Number::Is(quote) = read_number(quote) else {
         return Line::Unread;
     };
-    let values = Values { fuel, depth, quote };
+    let values = Values {
+        fuel,
+        depth,
+        quote,
+        entrypoint,
+    };
     if !allowed(values) {
         return Line::Unread;
     }
-    Line::Edition(edition, Values { fuel, depth, quote })
+    Line::Edition(edition, values)
 }
 
 fn read_line(line: &[u8]) -> Line
@@ -98,14 +114,29 @@ fn read_line(line: &[u8]) -> Line
     }
     let fourth = depth + 1;
     let quote = piece_end(line, fourth, b'\t');
-    if quote < line.len() {
+    if quote == line.len() {
+        return fields(
+            &line[0..edition],
+            &line[second..fuel],
+            &line[third..depth],
+            &line[fourth..quote],
+            ENTRYPOINT,
+        );
+    }
+    let fifth = quote + 1;
+    let end = piece_end(line, fifth, b'\t');
+    if end < line.len() {
         return Line::Unread;
     }
+    let Number::Is(entrypoint) = read_number(&line[fifth..end]) else {
+        return Line::Unread;
+    };
     fields(
         &line[0..edition],
         &line[second..fuel],
         &line[third..depth],
         &line[fourth..quote],
+        entrypoint,
     )
 }
 
@@ -152,6 +183,7 @@ pub fn choose(text: &[u8], edition: u32, fuel: u32) -> Chosen
         fuel,
         depth: DEPTH,
         quote: QUOTE,
+        entrypoint: ENTRYPOINT,
     };
     match read_all(text, edition, first) {
         Scan::BadLine(line) => Chosen::BadLine(line),

@@ -13,8 +13,13 @@ fn field(n: u64) {
     io::print_decimal(STDOUT_FILENO, n);
 }
 
-fn values(fuel: u32, depth: u32, quote: u32) -> Values {
-    Values { fuel, depth, quote }
+fn values(fuel: u32, depth: u32, quote: u32, entrypoint: u32) -> Values {
+    Values {
+        fuel,
+        depth,
+        quote,
+        entrypoint,
+    }
 }
 
 // The fuel given to the call is always 7.
@@ -26,10 +31,11 @@ fn ask(text: &[u8], edition: u32) {
         }
         Chosen::Unknown => write(b"18"),
         Chosen::Named(v) => {
-            write(b"fuel, depth, quote");
+            write(b"fuel, depth, quote, entrypoint");
             field(v.fuel as u64);
             field(v.depth as u64);
             field(v.quote as u64);
+            field(v.entrypoint as u64);
         }
     }
     write(b"\n");
@@ -89,6 +95,18 @@ fn ask_values() {
     ask(b"2\t5\t4294967297\t15\n", 1);
 }
 
+// The fourth value: 0, 1, none behind a line that has one, and what is neither.
+fn ask_fourth() {
+    ask(b"2\t5\t9\t9\t0\n", 2);
+    ask(b"2\t5\t9\t9\t1\n", 2);
+    let two = b"2\t5\t9\t9\t0\n3\t6\t8\t7\n";
+    ask(two, 2);
+    ask(two, 3);
+    ask(b"2\t5\t9\t9\t2\n", 2);
+    ask(b"2\t5\t9\t9\n3\t6\t8\t7\t2\n", 2);
+    ask(b"2\t5\t9\t9\tx\n", 2);
+}
+
 fn ask_lines() {
     // Numbers out of turn: a gap, a repeated edition, a first that is not 2.
     ask(b"2\t5\t9\t9\n4\t5\t9\t9\n", 2);
@@ -96,7 +114,7 @@ fn ask_lines() {
     ask(b"1\t5\t9\t9\n", 1);
     ask(b"3\t5\t9\t9\n", 3);
     // A field too many, too few, an empty one.
-    ask(b"2\t5\t9\t9\t1\n", 2);
+    ask(b"2\t5\t9\t9\t1\t1\n", 2);
     ask(b"2\t5\t9\n", 2);
     ask(b"2\t\t9\t9\n", 2);
     ask(b"2\t5\t9\t9\t\n", 2);
@@ -114,23 +132,23 @@ fn ask_lines() {
 }
 
 fn add_editions() {
-    let mut exact = [120u8; 8];
-    grow(b"", values(5, 9, 9), &mut exact);
-    let mut short = [120u8; 7];
-    grow(b"", values(5, 9, 9), &mut short);
+    let mut exact = [120u8; 10];
+    grow(b"", values(5, 9, 9, 1), &mut exact);
+    let mut short = [120u8; 9];
+    grow(b"", values(5, 9, 9, 1), &mut short);
     let one = b"2\t5\t9\t9\n";
-    let mut more = [120u8; 33];
-    grow(one, values(4294967295, 1024, 255), &mut more);
-    let mut all = [120u8; 30];
-    grow(one, values(4294967295, 1024, 255), &mut all);
+    let mut more = [120u8; 35];
+    grow(one, values(4294967295, 1024, 255, 0), &mut more);
+    let mut all = [120u8; 32];
+    grow(one, values(4294967295, 1024, 255, 0), &mut all);
     ask(&all, 2);
     ask(&all, 3);
-    let mut less = [120u8; 29];
-    grow(one, values(4294967295, 1024, 255), &mut less);
-    let mut tenth = [120u8; 74];
+    let mut less = [120u8; 31];
+    grow(one, values(4294967295, 1024, 255, 0), &mut less);
+    let mut tenth = [120u8; 76];
     grow(
         b"2\t0\t1\t0\n3\t0\t1\t0\n4\t0\t1\t0\n5\t0\t1\t0\n6\t0\t1\t0\n7\t0\t1\t0\n8\t0\t1\t0\n9\t0\t1\t0\n",
-        values(1, 1, 0),
+        values(1, 1, 0, 1),
         &mut tenth,
     );
 }
@@ -138,17 +156,19 @@ fn add_editions() {
 fn add_refused() {
     let one = b"2\t5\t9\t9\n";
     let mut room = [120u8; 3];
-    grow(one, values(5, 0, 9), &mut room);
-    grow(one, values(5, 1025, 9), &mut room);
-    grow(one, values(5, 9, 256), &mut room);
-    grow(b"2\t5\t9\t9", values(5, 9, 9), &mut room);
-    grow(b"2\t5\t9\t9\n3\t5\t9\t256\n", values(5, 9, 9), &mut room);
-    grow(one, values(5, 9, 9), &mut room);
+    grow(one, values(5, 0, 9, 1), &mut room);
+    grow(one, values(5, 1025, 9, 1), &mut room);
+    grow(one, values(5, 9, 256, 1), &mut room);
+    grow(one, values(5, 9, 9, 2), &mut room);
+    grow(b"2\t5\t9\t9", values(5, 9, 9, 1), &mut room);
+    grow(b"2\t5\t9\t9\n3\t5\t9\t256\n", values(5, 9, 9, 1), &mut room);
+    grow(one, values(5, 9, 9, 1), &mut room);
 }
 
 fn main() {
     ask_editions();
     ask_values();
+    ask_fourth();
     ask_lines();
     add_editions();
     add_refused();

@@ -1,9 +1,10 @@
-// An error record: "start, end, form, count of names, then the names"; behind them, in form 9 alone, the place.
+// An error record: "start, end, form, count of names, then the names", with the number of its item behind the form; behind the names, in form 9 alone, the
+// place.
 ghost use mathlib.Core.Path.{_≡_};
 ghost use Rattle.shapes.specs.Shapes.{recordSize, next-record};
 
 // How many numbers stand before the names.
-pub const HEAD: usize = 4;
+pub const HEAD: usize = 5;
 
 // Where each of them stands in it.
 pub const START: usize = 0;
@@ -12,7 +13,9 @@ pub const END: usize = 1;
 
 pub const FORM: usize = 2;
 
-pub const COUNT: usize = 3;
+pub const ITEM: usize = 3;
+
+pub const COUNT: usize = 4;
 
 // How many numbers a record of the form has.
 fn record_size(form: u32, names: u32) -> usize

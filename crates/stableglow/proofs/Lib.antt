@@ -1,3 +1,4 @@
 pub mod CutRead
+pub mod Lines
 pub mod ReadMessage
 pub mod ReadRules

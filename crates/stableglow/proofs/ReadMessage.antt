@@ -8,7 +8,8 @@ use lib.Dec.{eqb, ltb, leb}
 use lib.ListN.{length, length-append, getD, drop, List·getD-eq-default}
 use lib.Seq.{drop-at}
 use borrow.Author.Tests.{ltb-true, ltb-false, le-leb, lt-ltb, ne-eqb}
-use Rattle.shapes.specs.Shapes.{Rec, flat-records}
+use Rattle.shapes.specs.Shapes.{Rec, Owned, flat-records, owned, bare}
+use Rattle.shapes.proofs.Laws.{bare-owned, bare-length}
 use Rattle.kinds.specs.Kinds as kinds
 use Rattle.utf8.specs.Utf8.{utf8, bad-byte}
 use Rattle.definition.specs.Run.{State, Limits, Event, opened, leaf, closed, bad, Choice, wanted, unwanted, stray, read}
@@ -193,29 +194,31 @@ records-told L d r (leaf a n ∷ o) l w h = records-told L d r o l w h
 records-told L d r (closed a n m ∷ o) l w h = records-told L d r o l w h
 records-told L d r (bad n c ∷ o) l w h = records-told L d r o (record-of L (source-of d) n c ∷ l) (w .1) (record-tells d r L n c (w .0), h)
 
--- ITS NUMBERS
+-- ITS NUMBERS, with any item's
 
-first-reads : (bytes after : List ℕ) (r : Rec) (rs : List Rec) → Tells bytes r → reads bytes (flat-records (r ∷ rs) ++ after) ≡ true
-first-reads bytes after r rs t =
-    ap (λ (l : List ℕ). reads bytes (r .0 ∷ r .1 ∷ r .2 ∷ length (r .3) ∷ l)) (append-assoc (r .3) (r .4 ++ flat-records rs) after)
-    ∙ reads-when bytes (r .0) (r .1) (r .2) (r .3) ((r .4 ++ flat-records rs) ++ after) (t .forward) (t .within) (t .shown .least) (t .shown .most) (t .count)
-    (omega (arith, t .placed, length-append (r .4 ++ flat-records rs) after, length-append (r .4) (flat-records rs))) (t .names) (t .shown .is)
+first-reads : (bytes after : List ℕ) (e : Owned) (es : List Owned) → Tells bytes (e .0) → reads bytes (flat-records (e ∷ es) ++ after) ≡ true
+first-reads bytes after e es t =
+    let r : Rec = e .0 in
+    ap (λ (l : List ℕ). reads bytes (r .0 ∷ r .1 ∷ r .2 ∷ e .1 ∷ length (r .3) ∷ l)) (append-assoc (r .3) (r .4 ++ flat-records es) after)
+    ∙ reads-when bytes (r .0) (r .1) (r .2) (e .1) (r .3) ((r .4 ++ flat-records es) ++ after) (t .forward) (t .within) (t .shown .least) (t .shown .most) (t .count)
+    (omega (arith, t .placed, length-append (r .4 ++ flat-records es) after, length-append (r .4) (flat-records es))) (t .names) (t .shown .is)
 
-behind-first : (after : List ℕ) (r : Rec) (rs : List Rec) → length (r .4) ≡ behind (r .2) → let l = flat-records (r ∷ rs) ++ after in drop (size l) l ≡ flat-records rs ++ after
-behind-first after r rs p =
-    let l : List ℕ = flat-records (r ∷ rs) ++ after in
-    let n : size l ≡ suc (suc (suc (suc (length (r .3) + length (r .4))))) = omega (arith, p) in
-    let w : (r .3 ++ (r .4 ++ flat-records rs)) ++ after ≡ (r .3 ++ r .4) ++ (flat-records rs ++ after) =
-    ap (λ (m : List ℕ). m ++ after) (sym (append-assoc (r .3) (r .4) (flat-records rs))) ∙ append-assoc (r .3 ++ r .4) (flat-records rs) after in
+behind-first : (after : List ℕ) (e : Owned) (es : List Owned) → length (e .0 .4) ≡ behind (e .0 .2) → let l = flat-records (e ∷ es) ++ after in drop (size l) l ≡ flat-records es ++ after
+behind-first after e es p =
+    let r : Rec = e .0 in
+    let l : List ℕ = flat-records (e ∷ es) ++ after in
+    let n : size l ≡ suc (suc (suc (suc (suc (length (r .3) + length (r .4)))))) = omega (arith, p) in
+    let w : (r .3 ++ (r .4 ++ flat-records es)) ++ after ≡ (r .3 ++ r .4) ++ (flat-records es ++ after) =
+    ap (λ (m : List ℕ). m ++ after) (sym (append-assoc (r .3) (r .4) (flat-records es))) ∙ append-assoc (r .3 ++ r .4) (flat-records es) after in
     ap (λ (k : ℕ). drop k l) n
     ∙ ap (drop (length (r .3) + length (r .4))) w
-    ∙ drop-at (r .3 ++ r .4) (flat-records rs ++ after) (length (r .3) + length (r .4)) (length-append (r .3) (r .4))
+    ∙ drop-at (r .3 ++ r .4) (flat-records es ++ after) (length (r .3) + length (r .4)) (length-append (r .3) (r .4))
 
-each-reads : (bytes after : List ℕ) (rs : List Rec) (n : ℕ) → Told bytes rs → n < length rs → reads bytes (recordAt n (flat-records rs ++ after)) ≡ true
+each-reads : (bytes after : List ℕ) (es : List Owned) (n : ℕ) → Told bytes (bare es) → n < length es → reads bytes (recordAt n (flat-records es ++ after)) ≡ true
 each-reads bytes after [] n t h = absurd (omega arith)
-each-reads bytes after (r ∷ rs) zero t h = first-reads bytes after r rs (t .0)
-each-reads bytes after (r ∷ rs) (suc n) t h =
-    ap (λ (l : List ℕ). reads bytes (recordAt n l)) (behind-first after r rs (t .0 .placed)) ∙ each-reads bytes after rs n (t .1) (omega arith)
+each-reads bytes after (e ∷ es) zero t h = first-reads bytes after e es (t .0)
+each-reads bytes after (e ∷ es) (suc n) t h =
+    ap (λ (l : List ℕ). reads bytes (recordAt n l)) (behind-first after e es (t .0 .placed)) ∙ each-reads bytes after es n (t .1) (omega arith)
 
 -- THE THEOREM: k records stand in the buffer er that the reader left, and each of them reads, so it is told or there is no room for it
 module _ (L : Limits) (d : Desk) {o c e k f : ℕ} {ev er sc : List ℕ} (p : Promised L d (Answered o c e k f) ev er sc) where
@@ -233,11 +236,14 @@ module _ (L : Limits) (d : Desk) {o c e k f : ℕ} {ev er sc : List ℕ} (p : Pr
   unfolding R
   many = ap (λ (a : After). a .error-count) p ∙ ap (λ (a : Answer). (left-by d a) .error-count) (read-given L d p .1)
 
+  all : List Owned
+  all = owned (R .errors) (R .items)
+
   pub written-reads : (n : ℕ) → n < k → reads (d .bytes) (recordAt n er) ≡ true
-  unfolding R
+  unfolding R all
   written-reads n h =
       ap (λ (l : List ℕ). reads (d .bytes) (recordAt n l)) (read-errors L d p)
-      ∙ each-reads (d .bytes) _ (R .errors) n all-told (omega (arith, many))
+      ∙ each-reads (d .bytes) _ all n (subst (Told (d .bytes)) (sym (bare-owned (R .errors) (R .items))) all-told) (omega (arith, many, bare-length all, ap length (bare-owned (R .errors) (R .items))))
 
   pub never-11 : (n : ℕ) (room : List ℕ) → n < k → messaging (d .bytes) (recordAt n er) room ≡ written (message (d .bytes) (recordAt n er)) room
   never-11 n room h =

@@ -6,12 +6,13 @@ use mathlib.Core.List.{List}
 use native.Mathlib.Omega.{arith}
 use lib.ListN.{length, take}
 use Rattle.shapes.specs.Shapes as W
+use Rattle.shapes.specs.Shapes.{EVENT}
 use Rattle.definition.specs.Answer.{Desk}
 use Rattle.definition.specs.Merge.{finished}
 use Rattle.definition.specs.Run.{base}
 use Rattle.desk.specs.declared.read.Reading.the-variants.{Answered}
 use Rattle.desk.proofs.Demands.{Promised, read-given, read-list}
-use Rattle.outline.specs.Shape.{width, events}
+use Rattle.outline.specs.Shape.{events}
 use Rattle.outline.specs.Rules.{rules, flat, fitting, returned, ruling}
 use Rattle.outline.specs.Outline.{asked, outlined, outlining}
 use Rattle.outline.proofs.Reader.{read-never-15, merged-never-15, read-outlines, merged-outlines}
@@ -26,7 +27,7 @@ Outlines l = (at depth : ℕ) (room : List ℕ) → outlining l at depth room �
 -- d is what was lent to the reader, e the count of events in its answer, ev what the buffer of events holds then
 module _ (d : Desk) {o c e k f : ℕ} {ev er sc : List ℕ} (p : Promised base d (Answered o c e k f) ev er sc) where
   abbrev l : List ℕ
-  l = take (width * e) ev
+  l = take (EVENT * e) ev
 
   pub read-lists : Lists l
   read-lists = subst Lists (sym (read-list base d p)) (λ room. ap (returned room) (read-never-15 base (omega arith) d (read-given base d p .0) (read-given base d p .1) (length room)))

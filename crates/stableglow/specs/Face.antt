@@ -1,8 +1,9 @@
 -- What the exports return and leave behind, in numbers.
-use Prim.Native.Nat.{ℕ, _%_, _^_}
+use Prim.Native.Nat.{ℕ, zero, suc, _%_, _^_}
 use mathlib.Core.Path.{_≡_}
 use mathlib.Core.List.{List, [], _∷_}
 use Rattle.definition.specs.Answer.{After}
+use Rattle.reading.specs.Reading.{Outcome}
 use Rattle.definition.specs.Merge.{Returned}
 use Rattle.outline.specs.Rules as o
 use Rattle.outline.specs.Returning.{returning}
@@ -42,11 +43,17 @@ pub record ReadFace : Type 0 where
   pub errors : List ℕ
   pub scratch : List ℕ
 
-abbrev pub readFace : After → ReadFace
-readFace a =
+-- the answer's first cell: the line that 19 is given with, or else the outcome
+abbrev pub firstCell : ℕ → ℕ → ℕ
+firstCell zero outcome = outcome
+firstCell (suc n) outcome = suc n
+
+abbrev pub readFace : Outcome → ReadFace
+readFace o =
+    let a = o .after in
     record {
       number = a .number;
-      answer = a .outcome ∷ (a .covered % 2 ^ 32) ∷ (a .event-count % 2 ^ 32) ∷ a .error-count ∷ a .left ∷ [];
+      answer = firstCell (o .line) (a .outcome) ∷ (a .covered % 2 ^ 32) ∷ (a .event-count % 2 ^ 32) ∷ a .error-count ∷ a .left ∷ [];
       events = a .events;
       errors = a .errors;
       scratch = a .scratch;

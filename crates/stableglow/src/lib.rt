@@ -1,14 +1,16 @@
 // The public face: what C and Rust link.
 use cutter::Cut;
 use desk::read::Reading;
-use desk::read::base;
 use merger::Merged;
 use messages::Written;
 use outline::Listed;
+use reading::Named;
 use shapes::refusal;
 ghost use mathlib.Core.Path.{_≡_};
-ghost use Rattle.definition.specs.Run.{base};
-ghost use Rattle.definition.specs.Answer.{after};
+ghost use Prim.Native.Nat.{ℕ};
+ghost use mathlib.Core.List.{List};
+ghost use Rattle.desk.specs.Framing.{afterOf};
+ghost use Rattle.reading.specs.Reading.{reading};
 ghost use Rattle.definition.specs.Merge.{merging};
 ghost use Rattle.outline.specs.Rules.{ruling};
 ghost use Rattle.outline.specs.Outline.{outlining};
@@ -43,38 +45,11 @@ pub extern "C" fn stableglow_cut(
     }
 }
 
-// Reads rows into events and error records. Returns the refusal's number, 0 for an answer; `answer` holds outcome, rows covered, counts of events and of
-// error records, fuel left.
-#[no_mangle]
-pub extern "C" fn stableglow_read(
-    source: &[u8],
-    ids: &[u32],
-    starts: &[u32],
-    ends: &[u32],
-    fuel: u32,
-    scratch: &mut [u64],
-    events: &mut [u32],
-    errors: &mut [u32],
-    answer: &mut [u32; 5],
-) -> u32
+// A reading by its number, 0 for an answer, whose numbers stand in `answer`.
+fn tell(reading: Reading, answer: &mut [u32; 5]) -> u32
     ensures { λ r. ⌜
-        readFaced r (now (answer .exit)) (now (events .exit)) (now (errors .exit)) (now (scratch .exit))
-        ≡ readFace (after base
-        (desk (now (source .entry)) (now (ids .entry)) (now (starts .entry)) (now (ends .entry)) fuel (now (scratch .entry))
-        (now (events .entry)) (now (errors .entry)))) ⌝ }
+        ((ev er sc : List ℕ) → readFaced r (now (answer .exit)) ev er sc ≡ readFace (record { line = 0; after = afterOf reading ev er sc })) ⌝ }
 {
-    let limits = base();
-    let reading = desk::read::read(
-        source,
-        ids,
-        starts,
-        ends,
-        fuel,
-        limits,
-        scratch,
-        events,
-        errors,
-    );
     match reading {
         Reading::Refused(number) => {
             *answer = [0, 0, 0, 0, 0];
@@ -92,6 +67,50 @@ pub extern "C" fn stableglow_read(
             *answer = [outcome, rows, count, records, left];
             0
         }
+    }
+}
+
+// Reads rows into events and error records by the named edition of the settings text, which for edition 1 may be empty; the fuel is edition 1's. Returns
+// the refusal's number, 0 for an answer; `answer` holds outcome, rows covered, counts of events and of error records, fuel left, and on refusal 19 the
+// settings line.
+#[no_mangle]
+pub extern "C" fn stableglow_read(
+    source: &[u8],
+    ids: &[u32],
+    starts: &[u32],
+    ends: &[u32],
+    settings: &[u8],
+    edition: u32,
+    fuel: u32,
+    scratch: &mut [u64],
+    events: &mut [u32],
+    errors: &mut [u32],
+    answer: &mut [u32; 5],
+) -> u32
+    ensures { λ r. ⌜
+        readFaced r (now (answer .exit)) (now (events .exit)) (now (errors .exit)) (now (scratch .exit))
+        ≡ readFace (reading (now (settings .entry)) edition
+        (desk (now (source .entry)) (now (ids .entry)) (now (starts .entry)) (now (ends .entry)) fuel (now (scratch .entry))
+        (now (events .entry)) (now (errors .entry)))) ⌝ }
+{
+    let named = reading::read(
+        settings,
+        edition,
+        source,
+        ids,
+        starts,
+        ends,
+        fuel,
+        scratch,
+        events,
+        errors,
+    );
+    match named {
+        Named::BadLine(line) => {
+            *answer = [line, 0, 0, 0, 0];
+            refusal::SETTINGS
+        }
+        Named::Read(reading) => tell(reading, answer),
     }
 }
 

@@ -9,7 +9,7 @@ use lib.ListN.{length, getD, take, drop}
 use lib.Seq.{take-take}
 use Rattle.kinds.specs.Sets.{setOf, pick}
 use Rattle.shapes.specs.Sort as Sort
-use Rattle.shapes.specs.Shapes.{event}
+use Rattle.definition.specs.Buffer.{placed}
 use Rattle.definition.specs.Run as P
 use Rattle.definition.specs.Run.{Mode, ok, failed, stopped, Next, end, other, hit}
 use Rattle.definition.specs.Render.{Source}
@@ -55,9 +55,9 @@ module _ (S N : List ℕ) {x : Source} {s : Whole} (good : s .mode ≡ 0) where
 
   -- such a row
   pub eat-takes : (k at st : ℕ) {s₁ r : Whole} {ev ev₁ ev₂ : List ℕ} → Lines (x .ids) (x .ends) → Ok (length (x .ids)) s → Peeked (x .ids) (s .pos) at → at < length (x .ids) → P.next S (drop (s .pos) (x .ids)) ≡ hit k (drop (suc at) (x .ids)) → st ≡ getD (0 ∷ x .ends) at 0
-      → Events P.trivia x s s₁ ev ev₁ → Put (event Sort.TOKEN k st (getD (x .ends) at 0)) s₁ r ev₁ ev₂ → Events (P.eats S N) x s (withPos (at + 1) r) ev ev₂
+      → Events P.trivia x s s₁ ev ev₁ → Put (placed Sort.TOKEN k st (getD (x .ends) at 0) ev₁ (s₁ .ev)) s₁ r ev₁ ev₂ → Events (P.eats S N) x s (withPos (at + 1) r) ev ev₂
   eat-takes k at st {s₁} {r} {ev} {ev₁} {ev₂} l w pk h q e t v =
-      let u = subst (λ (j : ℕ). Put (event Sort.TOKEN k j (getD (x .ends) at 0)) s₁ r ev₁ ev₂) e v in
+      let u = subst (λ (j : ℕ). Put (placed Sort.TOKEN k j (getD (x .ends) at 0) ev₁ (s₁ .ev)) s₁ r ev₁ ev₂) e v in
       let caps = caps-put u in
       let g : s₁ .first ≤ at = omega (arith, t .first, w .0 .since, pk .ahead) in
       record {
@@ -81,9 +81,6 @@ module _ (S N : List ℕ) {x : Source} {s : Whole} (good : s .mode ≡ 0) where
 -- a step that touches no list fails after it
 pub fails-after : (f : P.Reader) {x : Source} {s r : Whole} → Plain f x s r → Plain (λ a. P.turn failed (f a)) x s (withMode 1 r)
 fails-after f y = record { did = λ b w. turned 1 failed refl (y .did b w); ok = y .ok; evcap = y .evcap; ercap = y .ercap; first = y .first; place = y .place; still = y .still }
-
-pub thenE : {f g : P.Reader} {x : Source} {s r q : Whole} {ev ev₁ ev₂ : List ℕ} → Events f x s r ev ev₁ → Events g x r q ev₁ ev₂ → Events (λ a. g (f a)) x s q ev ev₂
-thenE t u = record { did = λ er sc w. let T = t .did er sc w in then T (u .did er sc (T .wf)); ok = u .ok; fits = u .fits; first = u .first ∙ t .first; grows = omega (arith, t .grows, u .grows) }
 
 -- `not`, by what `sees` answers
 refuses-there : (N : List ℕ) (z : Next) → hits z ≡ true → (a : P.State) → P.refuse-row z a ≡ P.turn failed (P.unexpected (P.back a (P.eat-row N z a)))

@@ -11,7 +11,7 @@ use lib.Dec.{eqb}
 use lib.ListN.{length, take, drop, replicate, length-replicate}
 use Rattle.kinds.specs.Kinds as k
 use Rattle.kinds.specs.Sets.{idsOf}
-use Rattle.shapes.specs.Shapes.{EVENT, Rec, flat-records}
+use Rattle.shapes.specs.Shapes.{EVENT}
 use Rattle.definition.specs.Run as P
 use Rattle.definition.specs.Run.{Mode, ok, failed, stopped, Stop, spent, deep, Next, end, other, hit, Choice}
 use Rattle.definition.specs.Open.{Adds, Open}
@@ -22,7 +22,7 @@ use Rattle.notes.specs.Bits.{ifb}
 use Rattle.notes.specs.Change.{withMode}
 use Rattle.notes.specs.Means.{Bufs, bufs, Past, Means, Stands, modeOf, overOf}
 use Rattle.notes.specs.Did.{Ok, Wf, Did, Events, Errors, Plain, Began, Both, Shuts, shutA}
-use Rattle.notes.proofs.Rooms.{er-count, said-is}
+use Rattle.notes.proofs.Rooms.{er-count, said-is, lengths, flat-lengths}
 use Rattle.notes.proofs.Core.{Like, like-same, like-at, Sticky, alike, idle, then}
 use Rattle.notes.proofs.Sticky.{Sticks, sticky, sticky-trans, sticky-shut, sticky-finish, sticky-choose, sticky-skip, sticky-expected, sticky-names, sticky-turn, sticky-since, sticky-swallowed}
 use Rattle.steps.specs.Steps.{tells}
@@ -159,7 +159,7 @@ swallows d o S {x} {s} {s₁} {er = er} sc w y z e =
 
 -- no error of the item is pending where no number of one stands written
 pub none-pending : {p : Past} {x : Source} {s : Whole} {b : Bufs} {a : P.State} → Wf x b s → Means p x s b a → s .er ≡ s .item → a .chosen ≡ []
-none-pending {p} {x} {s} {b} {a} w m e = none (a .chosen) (omega (arith, er-count w m, e, m .chosen .since, said-is (p .limits) x (a .out) [], ap (λ (l : List Rec). length (flat-records l)) (m .written .past)))
+none-pending {p} {x} {s} {b} {a} w m e = none (a .chosen) (omega (arith, er-count w m, e, m .chosen .since, said-is (p .limits) x (a .out) [], ap lengths (m .written .past), flat-lengths (p .records)))
   where
     none : (c : List (ℕ × Choice)) → held (p .limits) x c ≡ 0 → c ≡ []
     none [] h = refl
@@ -169,7 +169,7 @@ pub some-pending : {p : Past} {x : Source} {s : Whole} {b : Bufs} {a : P.State} 
 some-pending {p} {x} {s} {b} {a} w m n S = go (a .chosen) refl
   where
     none : a .chosen ≡ [] → s .er ≡ s .item
-    none q = omega (arith, er-count w m, m .chosen .since, said-is (p .limits) x (a .out) [], ap (λ (l : List Rec). length (flat-records l)) (m .written .past), ap (held (p .limits) x) q)
+    none q = omega (arith, er-count w m, m .chosen .since, said-is (p .limits) x (a .out) [], ap lengths (m .written .past), flat-lengths (p .records), ap (held (p .limits) x) q)
 
     go : (c : List (ℕ × Choice)) → a .chosen ≡ c → P.first-names c S a ≡ a
     go [] q = absurd (n (none q))

@@ -12,19 +12,20 @@ use lib.Dec.{eqb}
 use lib.ListN.{length, getD, take, drop, set, length-set, length-drop}
 use lib.Seq.{take-take, take-set-lt, take-set-le}
 use Rattle.shapes.specs.Sort as Sort
-use Rattle.shapes.specs.Shapes.{EVENT, KIND, END, event}
+use Rattle.shapes.specs.Shapes.{EVENT, KIND, END, DEPTH, event}
 use Rattle.definition.specs.Run as P
 use Rattle.definition.specs.Run.{Event, opened, leaf, closed, bad, Mode, ok, failed, stopped, Stop, spent, deep}
 use Rattle.definition.specs.Render.{Source, starts-at, ends-at, span-end}
-use Rattle.definition.specs.Buffer.{patch, buffer}
+use Rattle.definition.specs.Buffer.{height, cell, placed, patch, buffer}
 use Rattle.definition.specs.Open.{Open}
-use Rattle.definition.proofs.Buffer.{buffer-opened, buffer-shut}
+use Rattle.definition.proofs.Buffer.{buffer-opened, buffer-shut, begin-depth}
+use Rattle.notes.proofs.Rooms.{ev-count}
 use Rattle.notes.specs.Whole.{Whole}
 use Rattle.notes.specs.Change.{withMode, withFuel}
 use Rattle.notes.specs.Means.{Bufs, bufs, Past, Means, Stands, Lines, modeOf, overOf}
 use Rattle.notes.specs.Did.{Ok, Wf, Did, Events, Plain, Put, Began, Shuts, shutA}
 use Rattle.notes.proofs.Lists.{getD-any, getD-cons}
-use Rattle.notes.proofs.Core.{sticky-mark, bare, Like, does-like, then, writes, emitted, over-drafts, ok-put, wf-put, caps-put}
+use Rattle.notes.proofs.Core.{sticky-mark, bare, Like, does-like, then, depth-is, writes, emitted, over-drafts, ok-put, wf-put, caps-put}
 use Rattle.steps.proofs.Taken.{row, start-is}
 
 -- fuel
@@ -112,11 +113,11 @@ module _ (d : ℕ) (x : Source) (s : Whole) (w : Ok (length (x .ids)) s) where
   charges-some h z = charged (s .fuel - 1) (s .mode) (λ m. m) refl (λ a e. charge-some d a (s .fuel) e h z)
 
 -- a node begins
-opened-buffer : {p : Past} {x : Source} {s : Whole} {b : Bufs} (st : ℕ) (a : P.State) → Lines (x .ids) (x .ends) → st ≡ getD (0 ∷ x .ends) (s .pos) 0 → s .pos ≤ length (x .ids) → Means p x s b a → buffer x (opened (length (a .rest)) ∷ a .out) ≡ buffer x (a .out) ++ event Sort.BEGIN 0 st st
-opened-buffer {p} {x} {s} st a l q h m =
+opened-buffer : {p : Past} {x : Source} {s : Whole} {b : Bufs} (st : ℕ) (a : P.State) → Lines (x .ids) (x .ends) → st ≡ getD (0 ∷ x .ends) (s .pos) 0 → s .pos ≤ length (x .ids) → Wf x b s → Means p x s b a → buffer x (opened (length (a .rest)) ∷ a .out) ≡ buffer x (a .out) ++ placed Sort.BEGIN 0 st st (b .events) (s .ev)
+opened-buffer {p} {x} {s} st a l q h w m =
     let e : length (x .ids) - length (a .rest) ≡ s .pos = ap (λ (r : List ℕ). length (x .ids) - length r) (m .rest) ∙ row (s .pos) (x .ids) h in
     let z : starts-at x (length (a .rest)) ≡ st = start-is x (length (a .rest)) (s .pos) e (omega (arith, l .level)) ∙ sym q in
-    buffer-opened x (length (a .rest)) (a .out) ∙ ap (λ (i : ℕ). buffer x (a .out) ++ event Sort.BEGIN 0 i i) z
+    buffer-opened x (length (a .rest)) (a .out) ∙ ap₂ (λ (i d : ℕ). buffer x (a .out) ++ event Sort.BEGIN 0 i i d) z (sym (depth-is w m))
 
 begin-like : (d : ℕ) (p : Past) (x : Source) (a : P.State) → let c : P.State = P.charge d ((P.trivia a) .fuel) (P.trivia a) in Like p x (P.emit (opened (length (c .rest))) c) (P.begin d a)
 unfolding overOf
@@ -129,7 +130,7 @@ begin-like d p x a =
       over = ap (λ (l : List ℕ). overOf p x (P.emit (opened (length l)) c)) e;
     }
 
-pub begins : (d st : ℕ) {x : Source} {s s₁ s₂ r : Whole} {ev ev₁ ev₂ : List ℕ} → Lines (x .ids) (x .ends) → Events P.trivia x s s₁ ev ev₁ → Plain (λ a. P.charge d (a .fuel) a) x s₁ s₂ → st ≡ getD (0 ∷ x .ends) (s₂ .pos) 0 → Put (event Sort.BEGIN 0 st st) s₂ r ev₁ ev₂ → Began d x s r ev ev₂
+pub begins : (d st : ℕ) {x : Source} {s s₁ s₂ r : Whole} {ev ev₁ ev₂ : List ℕ} → Lines (x .ids) (x .ends) → Events P.trivia x s s₁ ev ev₁ → Plain (λ a. P.charge d (a .fuel) a) x s₁ s₂ → st ≡ getD (0 ∷ x .ends) (s₂ .pos) 0 → Put (placed Sort.BEGIN 0 st st ev₁ (s₂ .ev)) s₂ r ev₁ ev₂ → Began d x s r ev ev₂
 begins d st {x} {s} {s₁} {s₂} {r} {ev} {ev₁} {ev₂} l t c q u =
     let g : s .ev ≤ s₂ .ev = omega (arith, t .grows, c .still) in
     record {
@@ -139,7 +140,7 @@ begins d st {x} {s} {s₁} {s₂} {r} {ev} {ev₁} {ev₂} l t c q u =
                 let T = t .did er sc w in
                 let C = c .did (bufs ev₁ er sc) (T .wf) in
                 does-like (P.begin d) (λ p a. begin-like d p x a)
-                (then (then T C) (writes u (λ a. opened (length (a .rest))) (λ a. tt) (C .wf) (λ p a m. opened-buffer st a l q (c .ok .0 .here) m)));
+                (then (then T C) (writes u (λ a. opened (length (a .rest))) (λ a. tt) (C .wf) (λ p a m. opened-buffer st a l q (c .ok .0 .here) (C .wf) m)));
             ok = ok-put u (c .ok);
             fits = omega (arith, t .fits, c .evcap, caps-put u .0, u .long);
             first = ap (λ (y : Whole). y .first) (u .is) ∙ c .first ∙ t .first;
@@ -174,22 +175,25 @@ keep-patch : (k p a e : ℕ) (l : List ℕ) → k + EVENT ≤ p → take k (patc
 keep-patch k p a e l h = take-set-le k (set l (p - EVENT + KIND) a) (p - EVENT + END) e (omega arith) ∙ take-set-le k l (p - EVENT + KIND) a (omega arith)
 
 -- a node is closed
-module _ (kind from at st en : ℕ) {x : Source} {s r : Whole} {ev ev′ : List ℕ} (l : Lines (x .ids) (x .ends)) (q : st ≡ getD (0 ∷ x .ends) from 0) (t : en ≡ getD (0 ∷ x .ends) (s .pos) 0)
-    (h : from ≤ s .pos) (z : s .full ≡ 0) (low : EVENT ≤ at) (high : at ≤ s .ev) (u : Put (event Sort.END kind st en) s r (patch at kind en ev) ev′) where
-  shut-buffer : {p : Past} {er sc : List ℕ} (a : P.State) → s .pos ≤ length (x .ids) → Open at (a .out) → Means p x s (bufs ev er sc) a → take (s .ev) (patch at kind en ev) ++ event Sort.END kind st en ≡ buffer x (closed kind (length (x .ids) - from) (length (a .rest)) ∷ a .out)
-  shut-buffer a k w m =
+module _ (kind from at st en d : ℕ) {x : Source} {s r : Whole} {ev ev′ : List ℕ} (l : Lines (x .ids) (x .ends)) (q : st ≡ getD (0 ∷ x .ends) from 0) (t : en ≡ getD (0 ∷ x .ends) (s .pos) 0)
+    (h : from ≤ s .pos) (z : s .full ≡ 0) (low : EVENT ≤ at) (high : at ≤ s .ev) (v : d ≡ getD ev (at - EVENT + DEPTH) 0) (u : Put (event Sort.END kind st en d) s r (patch at kind en ev) ev′) where
+  shut-buffer : {p : Past} {er sc : List ℕ} (a : P.State) → Wf x (bufs ev er sc) s → Open at (a .out) → Means p x s (bufs ev er sc) a → take (s .ev) (patch at kind en ev) ++ event Sort.END kind st en d ≡ buffer x (closed kind (length (x .ids) - from) (length (a .rest)) ∷ a .out)
+  shut-buffer a f w m =
+      let k : s .pos ≤ length (x .ids) = f .0 .0 .here in
+      let n : s .ev ≡ EVENT * length (a .out) = omega (arith, ev-count f m) in
+      let e₃ : d ≡ cell (height (a .out) - 1) = v ∙ begin-depth x ev at (a .out) w (ap (λ (i : ℕ). take i ev) (sym n) ∙ m .written .is) in
       let rest : length (a .rest) ≡ length (x .ids) - s .pos = ap length (m .rest) ∙ length-drop (s .pos) (x .ids) in
       let back : length (x .ids) - (length (x .ids) - from) ≡ from = omega arith in
       let e₁ : en ≡ span-end x (length (x .ids) - from) (length (a .rest)) = t ∙ span x from (s .pos) l h k ∙ ap (span-end x (length (x .ids) - from)) (sym rest) in
       let e₂ : st ≡ starts-at x (length (x .ids) - from) = q ∙ sym (start-is x (length (x .ids) - from) from back (omega (arith, l .level))) in
-      ap (λ (b : List ℕ). b ++ event Sort.END kind st en) (take-patch (s .ev) at kind en ev low high)
-      ∙ (λ i. patch at kind (e₁ i) (m .written .is i) ++ event Sort.END kind (e₂ i) (e₁ i))
+      ap (λ (b : List ℕ). b ++ event Sort.END kind st en d) (take-patch (s .ev) at kind en ev low high)
+      ∙ (λ i. patch at kind (e₁ i) (m .written .is i) ++ event Sort.END kind (e₂ i) (e₁ i) (e₃ i))
       ∙ sym (buffer-shut x kind (length (x .ids) - from) (length (a .rest)) at (a .out) w)
 
   pub shuts : (er sc : List ℕ) → Wf x (bufs ev er sc) s → Shuts (shutA kind (length (x .ids) - from)) at x s r (bufs ev er sc) (bufs ev′ er sc)
   shuts er sc w =
       record {
-        does = λ p a o m. emitted u w m (closed kind (length (x .ids) - from) (length (a .rest))) tt (λ y. shut-buffer a (w .0 .0 .here) (o z) (m .means z));
+        does = λ p a o m. emitted u w m (closed kind (length (x .ids) - from) (length (a .rest))) tt (λ y. shut-buffer a w (o z) (m .means z));
         wf = wf-put u x er sc (w .0, record { events = simp length-set (w .1 .events); errors = w .1 .errors; scratch = w .1 .scratch });
         room = u .room;
         first = ap (λ (y : Whole). y .first) (u .is);

@@ -60,7 +60,7 @@ pub gone-ok : {n : ℕ} (s r : Whole) → Ok n s → r .first ≡ s .first → s
 gone-ok s r w first grows W = (
   record { here = w .0 .here; since = omega (arith, first, w .0 .since); far-in = W .0 .far-in; want-in = W .0 .want-in; want-since = W .0 .want-since; unwant-in = W .0 .unwant-in; unwant-since = W .0 .unwant-since },
   W .1,
-  record { events = le-trans grows (W .2 .events); since = W .2 .since; errors = W .2 .errors },
+  record { events = le-trans grows (W .2 .events); since = W .2 .since; errors = W .2 .errors; numbered = W .2 .numbered },
 )
 
 -- back to where s was, from r, which f reached; a mode may be set
@@ -91,10 +91,6 @@ module _ {f : P.Reader} {x : Source} {s r : Whole} {b b′ : Bufs} (w : Wf x b s
 
   pub went : (n : ℕ) (m : Mode) → m ≡ modeOf n → Did (λ a. P.turn m (P.back a (f a))) x s (withMode n (gone (markOf s) r)) b b′
   went n m e = turned n m e returned
-
-  -- the same after `mark` and `rewind`
-  pub rewound : {m : ℕ × ℕ} {q : Whole} (n : ℕ) (k : Mode) → k ≡ modeOf n → m ≡ markOf s → q ≡ gone m r → Did (λ a. P.turn k (P.back a (f a))) x s (withMode n q) b b′
-  rewound {m} {q} n k e i j = subst (λ (u : Whole). Did (λ a. P.turn k (P.back a (f a))) x s (withMode n u) b b′) (sym (j ∙ ap (λ (u : ℕ × ℕ). gone u r) i)) (went n k e)
 
 -- alternatives
 or-else-ok : (g : P.Reader) (a t : P.State) (n : ℕ) → t .mode ≡ modeOf n → (n ≡ 1 → ⊥) → P.or-else g a t ≡ t

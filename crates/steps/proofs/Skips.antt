@@ -8,7 +8,7 @@ use native.Mathlib.Omega.{arith}
 use lib.ListN.{length, getD, drop, drop-of-length-le}
 use lib.Seq.{drop-cons}
 use Rattle.shapes.specs.Sort as Sort
-use Rattle.shapes.specs.Shapes.{event}
+use Rattle.definition.specs.Buffer.{placed}
 use Rattle.definition.specs.Run as P
 use Rattle.definition.specs.Run.{Event, leaf, Next, end, other, hit}
 use Rattle.definition.specs.Render.{Source, used}
@@ -68,7 +68,7 @@ skip-none S {p} {x} {s} {a = a} w t e =
     record { all = λ y. sym (ap bare q); over = sym (ap (overOf p x) q ∙ still w t) })
 
 module _ {S : List ℕ} {x : Source} {s₀ s : Whole} {ev₀ ev : List ℕ} (k : Taking (P.skip-to S) x s₀ s ev₀ ev) where
-  pub skip-on : (st : ℕ) {r : Whole} {ev′ : List ℕ} → s .pos < length (x .ids) → P.next S (drop (s .pos) (x .ids)) ≡ other → st ≡ getD (0 ∷ x .ends) (s .pos) 0 → Put (event Sort.TOKEN (getD (x .ids) (s .pos) 0) st (getD (x .ends) (s .pos) 0)) s r ev ev′ → Taking (P.skip-to S) x s₀ (withPos (s .pos + 1) r) ev₀ ev′
+  pub skip-on : (st : ℕ) {r : Whole} {ev′ : List ℕ} → s .pos < length (x .ids) → P.next S (drop (s .pos) (x .ids)) ≡ other → st ≡ getD (0 ∷ x .ends) (s .pos) 0 → Put (placed Sort.TOKEN (getD (x .ids) (s .pos) 0) st (getD (x .ends) (s .pos) 0) ev (s .ev)) s r ev ev′ → Taking (P.skip-to S) x s₀ (withPos (s .pos + 1) r) ev₀ ev′
   skip-on st h y q u =
       takes k (getD (x .ids) (s .pos) 0) st h q u
       (λ er sc p a w t. skip-step S (getD (x .ids) (s .pos) 0) (drop (suc (s .pos)) (x .ids)) w t (λ z. t .means z .rest ∙ drop-cons (x .ids) (s .pos) 0 h) (ap P.past (ap (P.next S) (sym (drop-cons (x .ids) (s .pos) 0 h)) ∙ y)))

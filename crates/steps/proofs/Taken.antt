@@ -1,21 +1,22 @@
 -- Rows taken, trivia skipped, nodes begun and closed: from what the code wrote to what it means. Assumes nothing.
-use Prim.Native.Nat.{ℕ, zero, suc, _+_, _-_, _*_, _≤_, _<_}
+use Prim.Native.Nat.{ℕ, zero, suc, _+_, _-_, _*_, _%_, _≤_, _<_}
 use mathlib.Core.Path.{_≡_, refl, sym, ap, ap₂, subst, _∙_}
 use mathlib.Core.List.{List, [], _∷_, _++_}
 use mathlib.Core.Bool.{Bool, true, false}
 use native.Mathlib.Nat.{le-refl, le-trans, le-of-eq}
 use native.Mathlib.Omega.{arith}
 use native.Mathlib.Numerals.{add-one, sub-one}
+use borrow.Author.Tests.{lt-ltb, le-ltb, eq-eqb, ne-eqb}
 use lib.Dec.{eqb}
 use lib.ListN.{length, getD, take, drop, set, length-set, length-append, length-drop, drop-of-length-le, replicate}
 use lib.Seq.{take-take, drop-cons, length-take-le}
 use Rattle.kinds.specs.Sets.{trivial}
 use Rattle.shapes.specs.Sort as Sort
-use Rattle.shapes.specs.Shapes.{event}
+use Rattle.shapes.specs.Shapes.{EVENT, DEPTH, event}
 use Rattle.definition.specs.Run as P
 use Rattle.definition.specs.Run.{Event, opened, leaf, closed, bad, Mode, ok, failed, stopped, Stop, spent, deep}
 use Rattle.definition.specs.Render.{Source, starts-at, ends-at, span-end, said, held, used}
-use Rattle.definition.specs.Buffer.{buffer}
+use Rattle.definition.specs.Buffer.{height, cell, next-depth, placed, buffer}
 use Rattle.definition.proofs.Buffer.{buffer-leaf, buffer-opened}
 use Rattle.definition.proofs.Gap.{gap, gap-out}
 use Rattle.notes.specs.Whole.{Whole}
@@ -26,7 +27,7 @@ use Rattle.notes.proofs.Lists.{getD-any}
 use Rattle.notes.proofs.Peeks.{skip-yes, skip-no}
 use Rattle.notes.proofs.Rooms.{fits, marked, still, thin, first-of, spill}
 use Rattle.notes.proofs.Sticky.{sticky-trans, sticky-trivia, sticky-take}
-use Rattle.notes.proofs.Core.{bare, Like, like-same, like-trans, like-at, alike, idle, then, emitted, moved, ok-put, wf-put, caps-put}
+use Rattle.notes.proofs.Core.{bare, Like, like-same, like-trans, like-at, alike, idle, then, depth-is, emitted, moved, ok-put, wf-put, caps-put}
 use Rattle.notes.proofs.Naming.{none-named}
 use Rattle.steps.specs.declared.state.State.{State}
 use Rattle.steps.specs.Steps.{whole, onTo, Fits}
@@ -45,19 +46,36 @@ start-is x n i e h = ap (λ (k : ℕ). getD (0 ∷ x .ends) k (length (x .bytes)
 pub end-is : (x : Source) (n i : ℕ) → length (x .ids) - n ≡ i → i < length (x .ends) → ends-at x n ≡ getD (x .ends) i 0
 end-is x n i e h = ap (λ (k : ℕ). getD (x .ends) k (length (x .bytes))) e ∙ getD-any (x .ends) i (length (x .bytes)) 0 h
 
+-- the depth as `around` finds it
+module _ (l : List ℕ) (at : ℕ) where
+  pub around-first : at < EVENT → 1 ≡ next-depth l at
+  around-first h = sym (ap (λ (c : Bool). elim c as (λ _. ℕ) [ true ↦ 1 | false ↦ elim (eqb (getD l (at - EVENT) 0) Sort.BEGIN) as (λ _. ℕ) [ true ↦ cell (getD l (at - EVENT + DEPTH) 0 + 1) | false ↦ getD l (at - EVENT + DEPTH) 0 ] ]) (lt-ltb at EVENT h))
+
+  behind : (c : Bool) → EVENT ≤ at → eqb (getD l (at - EVENT) 0) Sort.BEGIN ≡ c → next-depth l at ≡ elim c as (λ _. ℕ) [ true ↦ cell (getD l (at - EVENT + DEPTH) 0 + 1) | false ↦ getD l (at - EVENT + DEPTH) 0 ]
+  behind c h e = ap₂ (λ (b d : Bool). elim b as (λ _. ℕ) [ true ↦ 1 | false ↦ elim d as (λ _. ℕ) [ true ↦ cell (getD l (at - EVENT + DEPTH) 0 + 1) | false ↦ getD l (at - EVENT + DEPTH) 0 ] ]) (le-ltb at EVENT h) e
+
+  pub around-begin : EVENT ≤ at → getD l (at - EVENT) 0 ≡ Sort.BEGIN → cell (getD l (at - EVENT + DEPTH) 0 + 1) ≡ next-depth l at
+  around-begin h e = sym (behind true h (eq-eqb (getD l (at - EVENT) 0) Sort.BEGIN e))
+
+  pub around-other : EVENT ≤ at → (getD l (at - EVENT) 0 ≡ Sort.BEGIN → ⊥) → getD l (at - EVENT + DEPTH) 0 ≡ next-depth l at
+  around-other h n = sym (behind false h (ne-eqb (getD l (at - EVENT) 0) Sort.BEGIN n))
+
+pub put-at : (d at : ℕ) {a b c e : ℕ} {s r : Whole} {ev ev′ : List ℕ} → d ≡ next-depth ev at → Put (event a b c e d) s r ev ev′ → Put (placed a b c e ev at) s r ev ev′
+put-at d at {a} {b} {c} {e} {s} {r} {ev} {ev′} q u = subst (λ (i : ℕ). Put (event a b c e i) s r ev ev′) q u
+
 -- a row is written
-pub leaf-buffer : (x : Source) (p i : ℕ) (o : List Event) → Lines (x .ids) (x .ends) → p < length (x .ids) → buffer x (leaf i (suc (length (drop (suc p) (x .ids)))) ∷ o) ≡ buffer x o ++ event Sort.TOKEN i (getD (0 ∷ x .ends) p 0) (getD (x .ends) p 0)
+pub leaf-buffer : (x : Source) (p i : ℕ) (o : List Event) → Lines (x .ids) (x .ends) → p < length (x .ids) → buffer x (leaf i (suc (length (drop (suc p) (x .ids)))) ∷ o) ≡ buffer x o ++ event Sort.TOKEN i (getD (0 ∷ x .ends) p 0) (getD (x .ends) p 0) (cell (height o))
 leaf-buffer x p i o w h =
     let n : ℕ = suc (length (drop (suc p) (x .ids))) in
     let e : length (x .ids) - n ≡ p = row-next p (x .ids) h in
     buffer-leaf x i n o
-    ∙ ap₂ (λ (a z : ℕ). buffer x o ++ event Sort.TOKEN i a z) (start-is x n p e (omega (arith, w .level))) (end-is x n p e (omega (arith, w .level)))
+    ∙ ap₂ (λ (a z : ℕ). buffer x o ++ event Sort.TOKEN i a z (cell (height o))) (start-is x n p e (omega (arith, w .level))) (end-is x n p e (omega (arith, w .level)))
 
 -- a row is taken up
-pub took : (i at : ℕ) {p : Past} {x : Source} {s r : Whole} {ev ev′ er sc : List ℕ} {a : P.State} → Lines (x .ids) (x .ends) → at < length (x .ids) → Wf x (bufs ev er sc) s → Put (event Sort.TOKEN i (getD (0 ∷ x .ends) at 0) (getD (x .ends) at 0)) s r ev ev′ → Stands p x s (bufs ev er sc) a → Stands p x (withPos (at + 1) r) (bufs ev′ er sc) (P.take i (drop (suc at) (x .ids)) a)
+pub took : (i at : ℕ) {p : Past} {x : Source} {s r : Whole} {ev ev′ er sc : List ℕ} {a : P.State} → Lines (x .ids) (x .ends) → at < length (x .ids) → Wf x (bufs ev er sc) s → Put (placed Sort.TOKEN i (getD (0 ∷ x .ends) at 0) (getD (x .ends) at 0) ev (s .ev)) s r ev ev′ → Stands p x s (bufs ev er sc) a → Stands p x (withPos (at + 1) r) (bufs ev′ er sc) (P.take i (drop (suc at) (x .ids)) a)
 took i at {p} {x} {s} {r} {ev} {ev′} {er} {sc} {a} l h w u t =
     subst (λ (k : ℕ). Stands p x (withPos (at + 1) r) (bufs ev′ er sc) (P.take i (drop k (x .ids)) a)) (add-one at)
-    (moved (at + 1) (emitted u w t (leaf i (suc (length (drop (at + 1) (x .ids))))) tt (λ z. ap (λ (b : List ℕ). b ++ event Sort.TOKEN i (getD (0 ∷ x .ends) at 0) (getD (x .ends) at 0)) (t .means z .written .is) ∙ sym (ap (λ (k : ℕ). buffer x (leaf i (suc (length (drop k (x .ids)))) ∷ a .out)) (add-one at) ∙ leaf-buffer x at i (a .out) l h))))
+    (moved (at + 1) (emitted u w t (leaf i (suc (length (drop (at + 1) (x .ids))))) tt (λ z. ap₂ (λ (b : List ℕ) (d : ℕ). b ++ event Sort.TOKEN i (getD (0 ∷ x .ends) at 0) (getD (x .ends) at 0) d) (t .means z .written .is) (depth-is w (t .means z)) ∙ sym (ap (λ (k : ℕ). buffer x (leaf i (suc (length (drop k (x .ids)))) ∷ a .out)) (add-one at) ∙ leaf-buffer x at i (a .out) l h))))
 
 pub ok-took : {q : List ℕ} {s r : Whole} {ev ev′ : List ℕ} (n at : ℕ) → Put q s r ev ev′ → s .first ≤ at → at < n → Ok n s → Ok n (withPos (at + 1) r)
 ok-took n at u h k w =
@@ -153,11 +171,11 @@ taking g l w h =
 
 module _ {g : P.Reader} {x : Source} {s₀ s : Whole} {ev₀ ev : List ℕ} (k : Taking g x s₀ s ev₀ ev) where
   -- a row is taken up as kind i, and g goes on behind it
-  pub takes : (i st : ℕ) {r : Whole} {ev′ : List ℕ} → s .pos < length (x .ids) → st ≡ getD (0 ∷ x .ends) (s .pos) 0 → Put (event Sort.TOKEN i st (getD (x .ends) (s .pos) 0)) s r ev ev′
+  pub takes : (i st : ℕ) {r : Whole} {ev′ : List ℕ} → s .pos < length (x .ids) → st ≡ getD (0 ∷ x .ends) (s .pos) 0 → Put (placed Sort.TOKEN i st (getD (x .ends) (s .pos) 0) ev (s .ev)) s r ev ev′
       → ((er sc : List ℕ) (p : Past) (a : P.State) → Wf x (bufs ev er sc) s → Stands p x s (bufs ev er sc) a → Like p x (g (P.take i (drop (suc (s .pos)) (x .ids)) a)) (g a))
       → Taking g x s₀ (withPos (s .pos + 1) r) ev₀ ev′
   takes i st {r} {ev′} h q v step =
-      let u = subst (λ (j : ℕ). Put (event Sort.TOKEN i j (getD (x .ends) (s .pos) 0)) s r ev ev′) q v in
+      let u = subst (λ (j : ℕ). Put (placed Sort.TOKEN i j (getD (x .ends) (s .pos) 0) ev (s .ev)) s r ev ev′) q v in
       let caps = caps-put u in
       record {
         does = λ er sc w p a t.
@@ -200,7 +218,7 @@ module _ {g : P.Reader} {x : Source} {s₀ s : Whole} {ev₀ ev : List ℕ} (k :
 
 -- trivia in a row: one is taken up, none is left, or none are skipped
 module _ {x : Source} {s₀ s : Whole} {ev₀ ev : List ℕ} (k : Taking P.trivia x s₀ s ev₀ ev) (good : s₀ .mode ≡ 0) where
-  pub trivia-on : (st : ℕ) {r : Whole} {ev′ : List ℕ} → s .pos < length (x .ids) → trivial (getD (x .ids) (s .pos) 0) ≡ true → st ≡ getD (0 ∷ x .ends) (s .pos) 0 → Put (event Sort.TOKEN (getD (x .ids) (s .pos) 0) st (getD (x .ends) (s .pos) 0)) s r ev ev′ → Taking P.trivia x s₀ (withPos (s .pos + 1) r) ev₀ ev′
+  pub trivia-on : (st : ℕ) {r : Whole} {ev′ : List ℕ} → s .pos < length (x .ids) → trivial (getD (x .ids) (s .pos) 0) ≡ true → st ≡ getD (0 ∷ x .ends) (s .pos) 0 → Put (placed Sort.TOKEN (getD (x .ids) (s .pos) 0) st (getD (x .ends) (s .pos) 0) ev (s .ev)) s r ev ev′ → Taking P.trivia x s₀ (withPos (s .pos + 1) r) ev₀ ev′
   trivia-on st h y q u =
       takes k (getD (x .ids) (s .pos) 0) st h q u
       (λ er sc p a w t. trivia-step (getD (x .ids) (s .pos) 0) (drop (suc (s .pos)) (x .ids)) w t (λ z. (t .means z .mode ∙ ap modeOf (k .mode ∙ good), t .means z .rest ∙ drop-cons (x .ids) (s .pos) 0 h)) y)
@@ -235,11 +253,11 @@ skips {s = s} r p k u f = record { of = λ bytes l w. f bytes l (k .of bytes l w
 
 -- notes for any state: what holds whatever is noted is known of these, where the code has none at hand
 abbrev pub none-noted : List ℕ
-none-noted = replicate 68 0
+none-noted = replicate 69 0
 
 pub ok-none : (n : ℕ) (s : State) → s .pos ≤ n → s .ev ≤ s .evcap → Ok n (whole s none-noted)
 ok-none n s h k = (
   record { here = h; since = omega arith; far-in = omega arith; want-in = omega arith; want-since = λ z. absurd (z refl); unwant-in = omega arith; unwant-since = λ z. absurd (z refl) },
   none-named (replicate 58 0) refl,
-  record { events = k; since = le-refl _; errors = le-refl _ },
+  record { events = k; since = le-refl _; errors = le-refl _; numbered = omega arith },
 )

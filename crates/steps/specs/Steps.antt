@@ -31,7 +31,8 @@ whole s l =
       first = getD l 7 0;
       far = getD l 8 0;
       quote = getD l 9 0;
-      codes = drop 10 l;
+      number = getD l 10 0;
+      codes = drop 11 l;
     }
 
 -- the state at another row

@@ -23,7 +23,7 @@ ghost use Rattle.steps.specs.Steps.{whole, Tabled, Fits, Ready, Writes, 
 
 impl State {
     // No row of the set stands at hand: names are entered, and the state fails.
-    fn miss(mut self, code: usize, at: usize, notes: &mut [usize; 68]) -> Self
+    fn miss(mut self, code: usize, at: usize, notes: &mut [usize; 69]) -> Self
         requires { ⌜ Coded (now notes) × (code < 58) × (at ≤ 65536) ⌝ }
         ensures { λ r. ⌜
             ((x : Source) → Ok (length (x .ids)) (whole self (now (notes .entry))) → Peeked (x .ids) (self .pos) at
@@ -42,8 +42,8 @@ impl State {
         ids: &[u32],
         ends: &[u32],
         events: &mut [u32],
-        notes: &mut [usize; 68],
-        sets: &[[u64; 2]; 55],
+        notes: &mut [usize; 69],
+        sets: &[[u64; 2]; 56],
     ) -> Self
         requires { ⌜ Ready (now ids) (now ends) self (now notes) (now events) × (code < 58) × Tabled (now sets) ⌝ }
         ensures { λ r. ⌜
@@ -80,7 +80,7 @@ impl State {
     }
 
     // Whether the state is in good order and a row of the set stands next past trivia.
-    pub fn sees(self, set: usize, ids: &[u32], sets: &[[u64; 2]; 55]) -> bool
+    pub fn sees(self, set: usize, ids: &[u32], sets: &[[u64; 2]; 56]) -> bool
         requires { ⌜ (self .pos ≤ length (now ids)) × Tabled (now sets) ⌝ }
         ensures { λ r. ⌜ r ≡ ahead (setOf set) (now (ids .entry)) (whole self []) ⌝ }
     {
@@ -96,7 +96,7 @@ impl State {
     }
 
     // Goes on without a part that begins with a row of the set, which does not stand there: its names are entered.
-    pub fn pass(self, set: usize, ids: &[u32], notes: &mut [usize; 68])
+    pub fn pass(self, set: usize, ids: &[u32], notes: &mut [usize; 69])
         requires { ⌜ (length (now ids) ≤ 65536) × (self .pos ≤ length (now ids)) × Coded (now notes) × (set < 55) ⌝ }
         ensures { λ _. ⌜
             ((bytes ends : List ℕ) → Ok (length (now (ids .entry))) (whole self (now (notes .entry)))
@@ -121,8 +121,8 @@ impl State {
         ids: &[u32],
         ends: &[u32],
         events: &mut [u32],
-        notes: &mut [usize; 68],
-        sets: &[[u64; 2]; 55],
+        notes: &mut [usize; 69],
+        sets: &[[u64; 2]; 56],
     ) -> Self
         requires { ⌜ Ready (now ids) (now ends) self (now notes) (now events) × Tabled (now sets) ⌝ }
         ensures { λ r. ⌜
@@ -152,7 +152,7 @@ impl State {
         ids: &[u32],
         ends: &[u32],
         events: &mut [u32],
-        sets: &[[u64; 2]; 55],
+        sets: &[[u64; 2]; 56],
     ) -> Self
         requires { ⌜ Lines (now ids) (now ends) × Fits self (now events) × (self .pos ≤ length (now ids)) × Tabled (now sets) ⌝ }
         ensures { λ r. ⌜ Writes (P.skip-to (setOf set)) (now (ids .entry)) (now (ends .entry)) self r (now (events .entry)) (now (events .exit)) ⌝ }

@@ -37,7 +37,7 @@ impl State {
         ends: &[u32],
         events: &mut [u32],
         errors: &mut [u32],
-        notes: &mut [usize; 68],
+        notes: &mut [usize; 69],
     ) -> Self
         requires { ⌜
             Whence (now src) (now ids) (now ends) self (now notes) (now events) (now errors)
@@ -63,7 +63,7 @@ impl State {
         ids: &[u32],
         ends: &[u32],
         errors: &mut [u32],
-        notes: &mut [usize; 68],
+        notes: &mut [usize; 69],
     ) -> Self
         requires { ⌜
             Rows (source (now src) (now ids) (now ends))
@@ -95,8 +95,8 @@ impl State {
         ends: &[u32],
         events: &mut [u32],
         errors: &mut [u32],
-        notes: &mut [usize; 68],
-        sets: &[[u64; 2]; 55],
+        notes: &mut [usize; 69],
+        sets: &[[u64; 2]; 56],
     ) -> Self
         requires { ⌜ Whence (now src) (now ids) (now ends) self (now notes) (now events) (now errors) × Tabled (now sets) ⌝ }
         ensures { λ r. ⌜
@@ -133,8 +133,8 @@ impl State {
         ends: &[u32],
         events: &mut [u32],
         errors: &mut [u32],
-        notes: &mut [usize; 68],
-        sets: &[[u64; 2]; 55],
+        notes: &mut [usize; 69],
+        sets: &[[u64; 2]; 56],
     ) -> Self
         requires { ⌜ Whence (now src) (now ids) (now ends) self (now notes) (now events) (now errors) × (set < 55) × Tabled (now sets) ⌝ }
         ensures { λ r. ⌜
@@ -187,7 +187,7 @@ fn shown(kind: u32, mode: u8) -> u32
 }
 
 // Where no error of the item is pending, the set's names are entered first.
-fn first_names(set: usize, at: usize, notes: &mut [usize; 68])
+fn first_names(set: usize, at: usize, notes: &mut [usize; 69])
     requires { ⌜ Coded (now notes) × (set < 55) × (at ≤ 65536) ⌝ }
     ensures { λ _. ⌜
         ((x : Source) (s : Whole) → Ok (length (x .ids)) (beside (now (notes .entry)) s) → Peeked (x .ids) (s .pos) at

@@ -1,6 +1,7 @@
 // The state, and the steps that write events.
 use kinds::is_trivia;
 use notes::rows::start_of;
+use shapes::event::DEPTH;
 use shapes::event::END;
 use shapes::event::EVENT;
 use shapes::event::KIND;
@@ -10,10 +11,11 @@ use shapes::mode;
 use shapes::sort;
 ghost use mathlib.Core.Path.{_≡_};
 ghost use mathlib.Core.List.{List};
-ghost use Prim.Native.Nat.{ℕ, _-_, _≤_};
+ghost use Prim.Native.Nat.{ℕ, _+_, _-_, _≤_};
 ghost use lib.Dec.{eqb};
 ghost use lib.ListN.{length};
 ghost use Rattle.shapes.specs.Shapes.{EVENT, event};
+ghost use Rattle.definition.specs.Buffer.{cell, next-depth, placed};
 ghost use Rattle.definition.specs.Render.{Source};
 ghost use Rattle.definition.specs.Run as P;
 ghost use Rattle.notes.specs.Change.{markOf, gone, undoneTo};
@@ -41,11 +43,53 @@ pub struct Mark {
     pub ev: usize,
 }
 
+// One more, as a cell counts it.
+fn deeper(depth: u32) -> u32
+    ensures { λ r. ⌜ r ≡ cell (depth + 1) ⌝ }
+{
+    ((depth as u64 + 1) % 0x1_0000_0000) as u32
+}
+
+// How many nodes are open where the next event stands: the last event's depth, one more where it begins a node.
+pub fn around(at: usize, events: &[u32]) -> u32
+    requires { ⌜ at ≤ length (now events) ⌝ }
+    ensures { λ r. ⌜ r ≡ next-depth (now (events .entry)) at ⌝ }
+{
+    if at < EVENT {
+        return 1;
+    }
+    let last = at - EVENT;
+    let depth = events[last + DEPTH];
+    if events[last] == sort::BEGIN {
+        return deeper(depth);
+    }
+    depth
+}
+
 impl State {
-    // Writes an event; where there is no room, says so.
-    pub fn put(mut self, sort: u32, kind: u32, start: u32, end: u32, events: &mut [u32]) -> Self
+    // Writes an event that ends no node.
+    pub fn put(self, sort: u32, kind: u32, start: u32, end: u32, events: &mut [u32]) -> Self
         requires { ⌜ Fits self (now events) ⌝ }
-        ensures { λ r. ⌜ ((l : List ℕ) → Put (event sort kind start end) (whole self l) (whole r l) (now (events .entry)) (now (events .exit))) ⌝ }
+        ensures { λ r. ⌜
+            ((l : List ℕ) → Put (placed sort kind start end (now (events .entry)) (self .ev)) (whole self l) (whole r l) (now (events .entry))
+            (now (events .exit))) ⌝ }
+    {
+        let depth = around(self.ev, events);
+        self.write(sort, kind, start, end, depth, events)
+    }
+
+    // Writes an event of a known depth; where there is no room, says so.
+    pub fn write(
+        mut self,
+        sort: u32,
+        kind: u32,
+        start: u32,
+        end: u32,
+        depth: u32,
+        events: &mut [u32],
+    ) -> Self
+        requires { ⌜ Fits self (now events) ⌝ }
+        ensures { λ r. ⌜ ((l : List ℕ) → Put (event sort kind start end depth) (whole self l) (whole r l) (now (events .entry)) (now (events .exit))) ⌝ }
     {
         if self.full != 0 {
             return self;
@@ -59,6 +103,7 @@ impl State {
         events[at + KIND] = kind;
         events[at + START] = start;
         events[at + END] = end;
+        events[at + DEPTH] = depth;
         self.ev = at + EVENT;
         self
     }
@@ -136,9 +181,10 @@ impl State {
         let start = start_of(from, ends);
         let end = start_of(self.pos, ends);
         let begin = at - EVENT;
+        let depth = events[begin + DEPTH];
         events[begin + KIND] = kind;
         events[begin + END] = end;
-        self.put(sort::END, kind, start, end, events)
+        self.write(sort::END, kind, start, end, depth, events)
     }
 
     pub fn mark(self) -> Mark

@@ -8,7 +8,7 @@ use lib.ListN.{length}
 use native.Mathlib.Omega.{arith}
 use Rattle.shapes.specs.Shapes.{Rec}
 use Rattle.definition.specs.Run.{State, Limits, Event, opened, leaf, closed, bad, Mode, ok, failed, stopped, spent, deep, read}
-use Rattle.definition.specs.Render.{Source, Reading, bads, records, record-of, outcome-of, rendered, moments, exceeds, over}
+use Rattle.definition.specs.Render.{Source, Reading, bads, records, record-of, outcome-of, item-numbers, rendered, moments, exceeds, over}
 use Rattle.definition.specs.Answer.{Desk, Answer, refused, given, grounds, first-of, refusal, exceeded, answer, answer-of, source-of, After, refusing, blank, as-lent, left-by, after}
 use Rattle.definition.specs.Remaining.{Running}
 use Rattle.definition.proofs.Every.{and-left, and-right, never}
@@ -16,6 +16,10 @@ use Rattle.definition.proofs.Every.{and-left, and-right, never}
 -- the reading of a desk
 abbrev pub reading : Limits → Desk → State
 reading L d = read L (d .ids) (d .fuel)
+
+-- the numbers of its records' items
+abbrev pub items-of : Limits → Desk → List ℕ
+items-of L d = item-numbers L (d .ids) (d .fuel)
 
 pub records-count : (L : Limits) (x : Source) (o : List Event) (l : List Rec) → length (records L x o l) ≡ bads o + length l
 records-count L x [] l = omega arith
@@ -30,11 +34,6 @@ done failed e = tt
 done (stopped spent) e = omega (arith, e)
 done (stopped deep) e = omega (arith, e)
 
-pub outcome-done : (m : Mode) → Running m → outcome-of m ≡ 0
-outcome-done ok r = refl
-outcome-done failed r = refl
-outcome-done (stopped w) r = absurd r
-
 not-given : {A : Type 0} (n : ℕ) (R : Reading) → refused n ≡ given R → A
 not-given n R e = never cc
 
@@ -42,12 +41,12 @@ not-given n R e = never cc
 pub record Given (L : Limits) (d : Desk) (R : Reading) : Type 0 where
   pub unrefused : refusal d ≡ 0
   pub roomy : exceeded L d (reading L d) ≡ 0
-  pub whole : R ≡ rendered L (source-of d) (reading L d)
+  pub whole : R ≡ rendered L (source-of d) (items-of L d) (reading L d)
 
 pub given-is : (L : Limits) (d : Desk) (R : Reading) → answer L d ≡ given R → Given L d R
 given-is L d R = go (refusal d) refl
   where
-    at : refusal d ≡ 0 → (n : ℕ) → exceeded L d (reading L d) ≡ n → _≡_ {A = Answer} (elim n as (λ _. Answer) [ zero ↦ given (rendered L (source-of d) (reading L d)) | suc n ↦ refused (suc n) ]) (given R) → Given L d R
+    at : refusal d ≡ 0 → (n : ℕ) → exceeded L d (reading L d) ≡ n → _≡_ {A = Answer} (elim n as (λ _. Answer) [ zero ↦ given (rendered L (source-of d) (items-of L d) (reading L d)) | suc n ↦ refused (suc n) ]) (given R) → Given L d R
     at z zero w e = record { unrefused = z; roomy = w; whole = cc }
     at z (suc n) w e = not-given (suc n) R e
 
@@ -56,10 +55,10 @@ given-is L d R = go (refusal d) refl
     go (suc n) z e = not-given (suc n) R e
 
 -- and so back
-pub is-given : (L : Limits) (d : Desk) → refusal d ≡ 0 → exceeded L d (reading L d) ≡ 0 → answer L d ≡ given (rendered L (source-of d) (reading L d))
+pub is-given : (L : Limits) (d : Desk) → refusal d ≡ 0 → exceeded L d (reading L d) ≡ 0 → answer L d ≡ given (rendered L (source-of d) (items-of L d) (reading L d))
 is-given L d z w =
     ap (λ (n : ℕ). elim n as (λ _. Answer) [ zero ↦ answer-of L d (reading L d) | suc n ↦ refused (suc n) ]) z
-    ∙ ap (λ (n : ℕ). elim n as (λ _. Answer) [ zero ↦ given (rendered L (source-of d) (reading L d)) | suc n ↦ refused (suc n) ]) w
+    ∙ ap (λ (n : ℕ). elim n as (λ _. Answer) [ zero ↦ given (rendered L (source-of d) (items-of L d) (reading L d)) | suc n ↦ refused (suc n) ]) w
 
 -- the number that is returned: the first row of the list that applies
 abbrev pub number-of : Limits → Desk → ℕ
@@ -75,7 +74,7 @@ lent-or-blank d n = go (as-lent n)
 pub number-is : (L : Limits) (d : Desk) → (after L d) .number ≡ number-of L d
 number-is L d = go (refusal d)
   where
-    at : (n : ℕ) → (left-by d (elim n as (λ _. Answer) [ zero ↦ given (rendered L (source-of d) (reading L d)) | suc n ↦ refused (suc n) ])) .number ≡ n
+    at : (n : ℕ) → (left-by d (elim n as (λ _. Answer) [ zero ↦ given (rendered L (source-of d) (items-of L d) (reading L d)) | suc n ↦ refused (suc n) ])) .number ≡ n
     at zero = refl
     at (suc n) = lent-or-blank d (suc n)
 
@@ -118,7 +117,7 @@ pub answered : (L : Limits) (d : Desk) → (after L d) .number ≡ 0 → (R : Re
 answered L d e = go (refusal d) refl (sym (number-is L d) ∙ e)
   where
     go : (n : ℕ) → refusal d ≡ n → _≡_ {A = ℕ} (elim n as (λ _. ℕ) [ zero ↦ exceeded L d (reading L d) | suc n ↦ suc n ]) 0 → (R : Reading) × (answer L d ≡ given R)
-    go zero z w = (rendered L (source-of d) (reading L d), is-given L d z w)
+    go zero z w = (rendered L (source-of d) (items-of L d) (reading L d), is-given L d z w)
     go (suc n) z w = absurd (omega (arith, w))
 
 -- 1 to 6 leave all as lent
@@ -161,5 +160,5 @@ over-late e r (m ∷ ms) n z = go (over e r ms) refl z (over-late e r ms n)
 pub refused-blank : (L : Limits) (d : Desk) (n : ℕ) → refusal d ≡ 0 → exceeded L d (reading L d) ≡ suc n → after L d ≡ refusing (suc n) (blank (d .events)) (blank (d .errors)) (blank (d .scratch))
 refused-blank L d n z w =
     ap (λ (m : ℕ). left-by d (elim m as (λ _. Answer) [ zero ↦ answer-of L d (reading L d) | suc n ↦ refused (suc n) ])) z
-    ∙ ap (λ (m : ℕ). left-by d (elim m as (λ _. Answer) [ zero ↦ given (rendered L (source-of d) (reading L d)) | suc n ↦ refused (suc n) ])) w
+    ∙ ap (λ (m : ℕ). left-by d (elim m as (λ _. Answer) [ zero ↦ given (rendered L (source-of d) (items-of L d) (reading L d)) | suc n ↦ refused (suc n) ])) w
     ∙ ap (λ (b : Bool). elim b as (λ _. After) [ true ↦ refusing (suc n) (d .events) (d .errors) (d .scratch) | false ↦ refusing (suc n) (blank (d .events)) (blank (d .errors)) (blank (d .scratch)) ]) (over-late (length (d .events)) (length (d .errors)) (moments L (source-of d) (reading L d)) n w)

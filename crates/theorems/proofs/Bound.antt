@@ -56,10 +56,10 @@ module _ (f : Reader) (F : (s : State) → (f s) .mode ≡ ok → size (f s) < s
   bounds (suc n) (suc m) s a b = go-on-same (loop f n) (loop f m) s (f (trivia s)) (λ e. let z = F (trivia s) e in let g = ap length (strip-gap (s .mode) (s .rest)) in bounds n m (f (trivia s)) (omega (arith, a, z, g)) (omega (arith, b, z, g)))
 
 -- THE THEOREM: a repetition of the grammar does the same under every bound over the rows that are left
-pub bound-never-ends : (d : ℕ) (a : Production) (p : Prog) → Within (many p) (grammar a) → (s : State) (n : ℕ) → length (s .rest) < n → let f : Reader = exec d (run d) p true in loop f n s ≡ loop f (suc (length (s .rest))) s
-bound-never-ends d a p w s n l =
-    let f : Reader = exec d (run d) p true in
-    let F : (s : State) → (f s) .mode ≡ ok → size (f s) < size s = shrinks d (run d) (grows d) (λ o b s e. run-ok d o b s e .0) (λ o b s e. run-ok d o b s e .1) p (repeated p (grammar a) w (sound-productions a)) true in
+pub bound-never-ends : (E : Bool) (d : ℕ) (a : Production) (p : Prog) → Within (many p) (grammar E a) → (s : State) (n : ℕ) → length (s .rest) < n → let f : Reader = exec d (run E d) p true in loop f n s ≡ loop f (suc (length (s .rest))) s
+bound-never-ends E d a p w s n l =
+    let f : Reader = exec d (run E d) p true in
+    let F : (s : State) → (f s) .mode ≡ ok → size (f s) < size s = shrinks d (run E d) (grows E d) (λ o b s e. run-ok E d o b s e .0) (λ o b s e. run-ok E d o b s e .1) p (repeated p (grammar E a) w (sound-productions E a)) true in
     bounds f F n (suc (length (s .rest))) s (omega (arith, l, strip-le (s .rest))) (omega (arith, strip-le (s .rest)))
 
 -- a program that does nothing where the reader is stopped: no node is entered unguarded
@@ -77,9 +77,9 @@ idle (recover S) = true
 idle (node a) = false
 idle (memo a) = true
 
-pub idle-productions : (a : Production) → T (idle (grammar a))
+pub idle-productions : (E : Bool) (a : Production) → T (idle (grammar E a))
 unfolding productions grammar
-idle-productions = each (λ a. idle (grammar a)) tt
+idle-productions E = each (λ a. idle (grammar E a)) tt
 
 if-ok-stopped : (r : State) (w : Stop) (s : State) → s .mode ≡ stopped w → if-ok (λ _. r) s ≡ s
 if-ok-stopped r w s = go (s .mode) s
@@ -124,17 +124,17 @@ charged zero t = halted-stops spent (t .mode)
 charged (suc f) t = halted-stops deep (t .mode)
 
 -- THE THEOREM: the body of a node that is too deep does nothing, whatever the productions that it calls would do
-pub too-deep-idles : (d : ℕ) (call : Bool → Production → Reader) (o : Bool) (a : Production) (s : State) → run zero o a s ≡ nodes zero o (kind a) (exec d call (grammar a) o) s
-too-deep-idles d call o a s =
+pub too-deep-idles : (E : Bool) (d : ℕ) (call : Bool → Production → Reader) (o : Bool) (a : Production) (s : State) → run E zero o a s ≡ nodes zero o (kind a) (exec d call (grammar E a) o) s
+too-deep-idles E d call o a s =
     let t : State = begin zero s in
     let w = charged (s .fuel) (trivia s) in
-    ap (finish o (kind a) (length (t .rest))) (sym (idles d call (w .0) (grammar a) (idle-productions a) o t (w .1)))
+    ap (finish o (kind a) (length (t .rest))) (sym (idles d call (w .0) (grammar E a) (idle-productions E a) o t (w .1)))
 
 abbrev pub less : ℕ → ℕ
 less zero = zero
 less (suc d) = d
 
 -- at every depth a production is its node around its program
-pub whatever-depth : (d : ℕ) (o : Bool) (a : Production) (s : State) → run d o a s ≡ nodes d o (kind a) (exec (less d) (run (less d)) (grammar a) o) s
-whatever-depth zero o a s = too-deep-idles zero (run zero) o a s
-whatever-depth (suc d) o a s = refl
+pub whatever-depth : (E : Bool) (d : ℕ) (o : Bool) (a : Production) (s : State) → run E d o a s ≡ nodes d o (kind a) (exec (less d) (run E (less d)) (grammar E a) o) s
+whatever-depth E zero o a s = too-deep-idles E zero (run E zero) o a s
+whatever-depth E (suc d) o a s = refl

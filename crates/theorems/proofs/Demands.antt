@@ -1,13 +1,14 @@
 -- The mission's demands, of the public definition: each sentence with its theorem. The words are those of specs/Answer, specs/Ford and
 -- specs/Remaining; L holds the limits, `base` for document 01's.
 use Prim.Native.Nat.{ℕ, suc, _+_, _-_, _≤_, _<_, zero}
-use mathlib.Core.Path.{_≡_, ap, sym, _∙_}
+use mathlib.Core.Path.{_≡_, ap, ap₂, sym, _∙_, subst}
 use mathlib.Core.Logic.{_↔_}
 use mathlib.Core.List.{List, [], _∷_, _++_}
 use mathlib.Core.Bool.{Bool, true, false, not}
 use lib.Dec.{T, ltb, ltb→lt, nltb→le}
-use lib.ListN.{length}
+use lib.ListN.{length, getD}
 use native.Mathlib.Omega.{arith}
+use native.Mathlib.Nat.{add-zero}
 use Rattle.shapes.specs.Shapes.{Entry}
 use Rattle.definition.specs.Prog.{RULE-DECL, Production, Prog, many}
 use Rattle.definition.specs.Run.{State, Limits, hit, next, past, rule-keywords, item-keywords, skip, Reader, nodes, loop, exec, run, begin-steps}
@@ -16,13 +17,15 @@ use Rattle.definition.specs.Answer.{Desk, given, words, refusal, exceeded, answ
 use Rattle.definition.specs.Remaining.{Running, standing, rows-before, written, recorded, remaining, Continued, Keyless, Astray, Solid, Junk}
 use Rattle.definition.specs.Ford.{Res, Exp, Ford, nt, star, rules, ford, strip, any-statement, any-item, Accepts}
 use Rattle.definition.specs.Grammar.{grammar, kind}
-use Rattle.theorems.proofs.Answered.{reading, number-of, number-is, five-not-given, refused-lent, refused-blank, records-count, done, given-is, is-given, answered}
+use Rattle.theorems.proofs.Answered.{reading, items-of, number-of, number-is, five-not-given, refused-lent, refused-blank, records-count, done, given-is, is-given, answered}
 use Rattle.definition.proofs.File.{no-error-iff-accepted}
 use Rattle.definition.proofs.Peg.{Peg}
 use Rattle.definition.proofs.Published.{accepts-is-ford, peg-is-ford, det}
 use Rattle.theorems.proofs.Remaining.{continues, rule-behind, statement-behind, junk-behind, takes-a-row}
 use Rattle.theorems.proofs.Fuel.{fuel-left, fuel-exact}
-use Rattle.theorems.proofs.Least.{too-little, same-reading}
+use Rattle.theorems.proofs.Least.{too-little, same-reading, same-numbers}
+use Rattle.definition.proofs.Numbers.{item-numbers-length}
+use Rattle.theorems.proofs.Owners.{numbers-rise, numbers-from, numbers-counted}
 use Rattle.theorems.proofs.Bound.{Within, bound-never-ends, too-deep-idles}
 
 -- DEMAND 1
@@ -53,7 +56,7 @@ demand-1-blank = refused-blank
 pub demand-1-answer : (L : Limits) (d : Desk)
     → refusal d ≡ 0
     → exceeded L d (reading L d) ≡ 0
-    → after L d ≡ left-by d (given (rendered L (source-of d) (reading L d)))
+    → after L d ≡ left-by d (given (rendered L (source-of d) (items-of L d) (reading L d)))
 demand-1-answer L d z w = ap (left-by d) (is-given L d z w)
 
 -- "For every public function, refusals too, the promise leaves one result and one content of each lent buffer": the promise is an equation
@@ -62,7 +65,7 @@ one-outcome L d a b e f = e ∙ sym f
 
 -- DEMAND 2
 
-no-record-iff-accepted : (L : Limits) (d : Desk) (R : Reading) → answer L d ≡ given R → R .outcome ≡ 0 → (length (R .errors) ≡ 0) ↔ Accepts (d .ids)
+no-record-iff-accepted : (L : Limits) (d : Desk) (R : Reading) → answer L d ≡ given R → R .outcome ≡ 0 → (length (R .errors) ≡ 0) ↔ Accepts (L .entrypoint) (d .ids)
 no-record-iff-accepted L d R e z =
     let t : State = reading L d in
     let g = given-is L d R e .whole in
@@ -75,7 +78,7 @@ no-record-iff-accepted L d R e z =
 pub demand-2 : (L : Limits) (d : Desk)
     → let a : After = after L d in a .number ≡ 0
     → a .outcome ≡ 0
-    → (a .error-count ≡ 0) ↔ Accepts (d .ids)
+    → (a .error-count ≡ 0) ↔ Accepts (L .entrypoint) (d .ids)
 demand-2 L d n z =
     let g = answered L d n in
     let w : after L d ≡ left-by d (given (g .0)) = ap (left-by d) (g .1) in
@@ -87,24 +90,24 @@ demand-2 L d n z =
 pub demand-2-ford : (L : Limits) (d : Desk)
     → let a : After = after L d in a .number ≡ 0
     → a .outcome ≡ 0
-    → (a .error-count ≡ 0) ↔ ((n : ℕ) × Ford rules (star any-item) (strip (d .ids)) n (Res.yes []))
+    → (a .error-count ≡ 0) ↔ ((n : ℕ) × Ford (rules (L .entrypoint)) (star any-item) (strip (d .ids)) n (Res.yes []))
 demand-2-ford L d n z =
     let i = demand-2 L d n z in
-    let f = accepts-is-ford (strip (d .ids)) in
+    let f = accepts-is-ford (L .entrypoint) (strip (d .ids)) in
     ((λ e. f .0 (i .0 e)), λ a. i .1 (f .1 a))
 
 -- DEMAND 3: "Damage stays where it is."
 
 -- "Whenever the reader, not stopped, stands between two items with fuel f left, what it writes up to the closing SOURCE_FILE event is what demand 2
 -- gives inside SOURCE_FILE for the remaining rows as a file of their own with fuel f, places and record numbers shifted." The rooms of the whole
--- are enough for the remaining rows.
+-- are enough for the remaining rows. REQUEST (x): "Demand 3 then shifts item numbers too."
 pub demand-3 : (L : Limits) (d : Desk) (n : ℕ) (scratch events errors : List ℕ) (R : Reading)
     → let s : State = standing L d n in let d′ : Desk = remaining d s scratch events errors in answer L d ≡ given R
     → Running (s .mode)
     → words (length (d′ .ids)) ≤ length scratch
     → length (d .events) ≤ length events
     → length (d .errors) ≤ length errors
-    → (R′ : Reading) × (answer L d′ ≡ given R′) × Continued L d s R R′
+    → (R′ : Reading) × (answer L d′ ≡ given R′) × Continued L d n s R R′
 demand-3 = continues
 
 -- "Unless stopped, it stands so after any rule accepted at item position whose next row past trivia is rule, global, private or none": right behind
@@ -114,7 +117,7 @@ pub demand-3-rule : (L : Limits) (d : Desk) (n : ℕ) (x r : List ℕ) (m : ℕ)
     → let s : State = standing L d n in let v : State = standing L d (n + 1) in Running (s .mode)
     → s .rest ≡ x ++ r
     → Solid x
-    → Ford rules (nt RULE-DECL) (strip (s .rest)) m (Res.yes (strip r))
+    → Ford (rules (L .entrypoint)) (nt RULE-DECL) (strip (s .rest)) m (Res.yes (strip r))
     → T (past (next item-keywords r))
     → Running (v .mode)
     → (v .rest ≡ r) × (recorded L d v ≡ recorded L d s) × ((w : List Entry) × (written d v ≡ written d s ++ w))
@@ -125,7 +128,7 @@ pub demand-3-statement : (L : Limits) (d : Desk) (n : ℕ) (x r : List ℕ) (m :
     → let s : State = standing L d n in let v : State = standing L d (n + 1) in Running (s .mode)
     → s .rest ≡ x ++ r
     → Solid x
-    → Ford rules any-statement (strip (s .rest)) m (Res.yes (strip r))
+    → Ford (rules (L .entrypoint)) any-statement (strip (s .rest)) m (Res.yes (strip r))
     → Running (v .mode)
     → (v .rest ≡ r) × (recorded L d v ≡ recorded L d s) × ((w : List Entry) × (written d v ≡ written d s ++ w))
 demand-3-statement = statement-behind
@@ -140,7 +143,7 @@ pub demand-3-junk : (L : Limits) (d : Desk) (n : ℕ) (j r : List ℕ) (a : ℕ)
     → Solid j
     → Astray j
     → next rule-keywords r ≡ hit a is
-    → Junk L d s v j r
+    → Junk L d n s v j r
 demand-3-junk = junk-behind
 
 -- "Every item that does not stop the reader takes at least one row."
@@ -150,6 +153,37 @@ pub demand-3-takes : (L : Limits) (d : Desk) (n i : ℕ) (is : List ℕ)
     → Running (v .mode)
     → rows-before d s < rows-before d v
 demand-3-takes = takes-a-row
+
+-- REQUEST (x): "Every error record gets the number of its item, from 1"
+module _ (L : Limits) (d : Desk) (R : Reading) (e : answer L d ≡ given R) where
+  own : R .items ≡ items-of L d
+  own = ap (λ (r : Reading). r .items) (given-is L d R e .whole)
+
+  -- each record has one
+  pub each-record-has-its-item : length (R .items) ≡ length (R .errors)
+  each-record-has-its-item =
+      ap length own
+      ∙ item-numbers-length L (d .ids) (d .fuel)
+      ∙ sym (add-zero (bads ((reading L d) .out)))
+      ∙ sym (records-count L (source-of d) ((reading L d) .out) [])
+      ∙ sym (ap (λ (r : Reading). length (r .errors)) (given-is L d R e .whole))
+
+  -- it is that of the item as items are counted: a record that the item behind n others brings has n + 1
+  pub items-as-counted : (n k : ℕ) → length (recorded L d (standing L d n)) ≤ k → k < length (recorded L d (standing L d (n + 1))) → getD (R .items) k 0 ≡ n + 1
+  items-as-counted n k h g =
+      ap (λ (l : List ℕ). getD l k 0) own
+      ∙ numbers-counted L (d .ids) (d .fuel) n k (omega (arith, h, records-count L (source-of d) ((standing L d n) .out) [])) (omega (arith, g, records-count L (source-of d) ((standing L d (n + 1)) .out) []))
+
+  pub items-from-one : (k : ℕ) → k < length (R .items) → 1 ≤ getD (R .items) k 0
+  items-from-one k = subst (λ (l : List ℕ). k < length l → 1 ≤ getD l k 0) (sym own) (numbers-from L (length (d .ids)) 1 _ k)
+
+  -- "item numbers never fall"
+  pub items-never-fall : (j k : ℕ) → j ≤ k → k < length (R .items) → getD (R .items) j 0 ≤ getD (R .items) k 0
+  items-never-fall j k h = subst (λ (l : List ℕ). k < length l → getD l j 0 ≤ getD l k 0) (sym own) (numbers-rise L (length (d .ids)) 1 _ j k h)
+
+  -- "Records of one item stand together": between two records of an item every record is its own
+  pub items-together : (i j k : ℕ) → i ≤ j → j ≤ k → k < length (R .items) → getD (R .items) i 0 ≡ getD (R .items) k 0 → getD (R .items) j 0 ≡ getD (R .items) i 0
+  items-together i j k a b c q = omega (arith, items-never-fall i j a (omega arith), items-never-fall j k b c)
 
 -- FUEL
 
@@ -165,7 +199,7 @@ abbrev pub fuelled : Desk → ℕ → Desk
 fuelled d g = relent d g (d .scratch) (d .events) (d .errors)
 
 abbrev pub leaving : Reading → ℕ → Reading
-leaving R f = record { outcome = R .outcome; covered = R .covered; left = f; events = R .events; errors = R .errors }
+leaving R f = record { outcome = R .outcome; covered = R .covered; left = f; events = R .events; errors = R .errors; items = R .items }
 
 module _ (L : Limits) (d : Desk) (R : Reading) (e : answer L d ≡ given R) (z : R .outcome ≡ 0) where
   abbrev steps : ℕ
@@ -185,14 +219,14 @@ module _ (L : Limits) (d : Desk) (R : Reading) (e : answer L d ≡ given R) (z :
       let G = given-is L d R e in
       let q = same-reading L (d .ids) (d .fuel) g finished l in
       is-given L (fuelled d g) (G .unrefused) (ap (exceeded L d) q ∙ G .roomy)
-      ∙ ap (λ (t : State). given (rendered L (source-of d) t)) q
+      ∙ ap₂ (λ (is : List ℕ) (t : State). given (rendered L (source-of d) is t)) (same-numbers L (d .ids) (d .fuel) g finished l) q
       ∙ ap (λ (r : Reading). given (leaving r (g - steps))) (sym (G .whole))
 
   -- and in other rooms, wherever it is answered ("with room enough that none of the readings compared is refused")
   pub more-fuel-lists : (g : ℕ) (sc ev er : List ℕ) → steps ≤ g → (R′ : Reading) → answer L (relent d g sc ev er) ≡ given R′ → R′ ≡ leaving R (g - steps)
   more-fuel-lists g sc ev er l R′ e′ =
       given-is L (relent d g sc ev er) R′ e′ .whole
-      ∙ ap (rendered L (source-of d)) (same-reading L (d .ids) (d .fuel) g finished l)
+      ∙ ap₂ (rendered L (source-of d)) (same-numbers L (d .ids) (d .fuel) g finished l) (same-reading L (d .ids) (d .fuel) g finished l)
       ∙ ap (λ (r : Reading). leaving r (g - steps)) (sym (given-is L d R e .whole))
 
   -- "at a fixed depth limit, fuel too small by any amount ends with outcome 1 and never 0"
@@ -211,22 +245,22 @@ module _ (L : Limits) (d : Desk) (R : Reading) (e : answer L d ≡ given R) (z :
 -- WHAT THE DEFINITION IS
 
 -- "PEG means Ford, "Parsing Expression Grammars" (POPL 2004).": acceptance is his relation on the translated grammar, which has at most one result
-pub acceptance-is-one : (e : Exp) (r : List ℕ) (n m : ℕ) (x y : Res) → Ford rules e r n x → Ford rules e r m y → x ≡ y
-acceptance-is-one e r n m x y a b = det a m y b
+pub acceptance-is-one : (E : Bool) (e : Exp) (r : List ℕ) (n m : ℕ) (x y : Res) → Ford (rules E) e r n x → Ford (rules E) e r m y → x ≡ y
+acceptance-is-one E e r n m x y a b = det E a m y b
 
 -- and the translation is document 01's reading of the combinators: "`begin`, `end` and `recover` are left out, `cached` is its part, and `if_next` is
 -- its part where its token is next and nothing elsewhere"
-pub acceptance-is-ford : (p : Prog) (r : List ℕ) (x : Res) → Peg p r x ↔ ((n : ℕ) × Ford rules (ford p) r n x)
+pub acceptance-is-ford : {E : Bool} (p : Prog) (r : List ℕ) (x : Res) → Peg E p r x ↔ ((n : ℕ) × Ford (rules E) (ford p) r n x)
 acceptance-is-ford = peg-is-ford
 
 -- a repetition's bound is never what ends it: every larger one does the same
-pub repetition-unbounded : (d : ℕ) (a : Production) (p : Prog)
-    → Within (many p) (grammar a)
+pub repetition-unbounded : (E : Bool) (d : ℕ) (a : Production) (p : Prog)
+    → Within (many p) (grammar E a)
     → (s : State) (n : ℕ)
     → length (s .rest) < n
-    → let f : Reader = exec d (run d) p true in loop f n s ≡ loop f (suc (length (s .rest))) s
-repetition-unbounded = bound-never-ends
+    → let f : Reader = exec d (run E d) p true in loop f n s ≡ loop f (suc (length (s .rest))) s
+repetition-unbounded E = bound-never-ends E
 
 -- a node that is too deep has a body that does nothing, whatever its productions would do
-pub deep-node-idle : (d : ℕ) (call : Bool → Production → Reader) (o : Bool) (a : Production) (s : State) → run zero o a s ≡ nodes zero o (kind a) (exec d call (grammar a) o) s
-deep-node-idle = too-deep-idles
+pub deep-node-idle : (E : Bool) (d : ℕ) (call : Bool → Production → Reader) (o : Bool) (a : Production) (s : State) → run E zero o a s ≡ nodes zero o (kind a) (exec d call (grammar E a) o) s
+deep-node-idle E = too-deep-idles E

@@ -97,7 +97,7 @@ module _ (N : ℕ) where
   -- items
   reads-sure : (L : Limits) (p : Prog) (s : State) → Sure s (read-item L p s)
   unfolding read-item
-  reads-sure L p s = exec-kept (stepped Sure sure) (L .depth) (run (L .depth)) (run-kept (stepped Sure sure) (L .depth)) p false s
+  reads-sure L p s = exec-kept (stepped Sure sure) (L .depth) (run (L .entrypoint) (L .depth)) (run-kept (stepped Sure sure) (L .entrypoint) (L .depth)) p false s
 
   stray-sure : (s : State) → Sure s (stray-item s)
   stray-sure s =

@@ -8,13 +8,14 @@ use native.Mathlib.Omega.{arith}
 use Rattle.definition.specs.Prog.{Prog}
 use Rattle.definition.specs.Grammar.{item-of}
 use Rattle.definition.specs.Run.{State, Limits, Draft, Event, Mode, ok, failed, stopped, spent, Next, end, other, hit, sought, trivia, turn, put, pay, charge, begin, finish, nodes, run, item-keywords, read-item, stray-item, item-at, flush, again, item, items, start, read, begin-steps}
-use Rattle.definition.specs.Render.{Source, Reading, rendered, moments}
+use Rattle.definition.specs.Render.{Source, Reading, item-numbers, rendered, moments}
 use Rattle.definition.proofs.Induct.{exec-kept, run-kept}
 use Rattle.definition.proofs.Order.{Running, Steps, stepped, halted-not}
 use Rattle.definition.proofs.Grows.{Grown, grown, running-before}
 use Rattle.definition.proofs.File.{items-stopped, again-running}
 use Rattle.definition.proofs.Frame.{h, behind, running-live}
 use Rattle.definition.proofs.Whole.{items-h}
+use Rattle.definition.proofs.Numbers.{numbers-fuel}
 
 abbrev steps-of : State → ℕ
 steps-of s = length (s .begun)
@@ -100,7 +101,7 @@ paid-trans s t u z p q = record { more = omega (arith, p .more, q .more); less =
 
 reads-paid : (L : Limits) (p : Prog) (s : State) → Paid s (read-item L p s)
 unfolding read-item
-reads-paid L p s = let q = exec-kept (stepped Spent spending) (L .depth) (run (L .depth)) (run-kept (stepped Spent spending) (L .depth)) p false s in record { more = q .more; less = q .less; exact = q .exact }
+reads-paid L p s = let q = exec-kept (stepped Spent spending) (L .depth) (run (L .entrypoint) (L .depth)) (run-kept (stepped Spent spending) (L .entrypoint) (L .depth)) p false s in record { more = q .more; less = q .less; exact = q .exact }
 
 pub again-free : (u : State) → ((again (flush u)) .fuel ≡ u .fuel) × ((again (flush u)) .begun ≡ u .begun)
 again-free u = go (u .mode) u
@@ -162,8 +163,9 @@ less-fuel L r f g z l y =
     omega (arith, fuel-exact L r g y, b)
 
 -- the first part in document 01's numbers; the rooms taken are the same too
-pub more-fuel-shown : (L : Limits) (x : Source) (f k : ℕ) → Running ((read L (x .ids) f) .mode) → let s : State = read L (x .ids) f in let t : State = read L (x .ids) (f + k) in let a : Reading = rendered L x s in let b : Reading = rendered L x t in
-    (b .outcome ≡ a .outcome) × (b .covered ≡ a .covered) × (b .left ≡ a .left + k) × (b .events ≡ a .events) × (b .errors ≡ a .errors) × (moments L x t ≡ moments L x s)
+pub more-fuel-shown : (L : Limits) (x : Source) (f k : ℕ) → Running ((read L (x .ids) f) .mode) → let s : State = read L (x .ids) f in let t : State = read L (x .ids) (f + k) in let a : Reading = rendered L x (item-numbers L (x .ids) f) s in let b : Reading = rendered L x (item-numbers L (x .ids) (f + k)) t in
+    (b .outcome ≡ a .outcome) × (b .covered ≡ a .covered) × (b .left ≡ a .left + k) × (b .events ≡ a .events) × (b .errors ≡ a .errors) × (b .items ≡ a .items) × (moments L x t ≡ moments L x s)
 more-fuel-shown L x f k z =
     let m = more-fuel L (x .ids) f k z in
-    (ap (λ (u : State). (rendered L x u) .outcome) m, ap (λ (u : State). (rendered L x u) .covered) m, ap (λ (u : State). u .fuel) m, ap (λ (u : State). (rendered L x u) .events) m, ap (λ (u : State). (rendered L x u) .errors) m, ap (λ (u : State). moments L x u) m)
+    let r : State → Reading = rendered L x [] in
+    (ap (λ (u : State). (r u) .outcome) m, ap (λ (u : State). (r u) .covered) m, ap (λ (u : State). u .fuel) m, ap (λ (u : State). (r u) .events) m, ap (λ (u : State). (r u) .errors) m, numbers-fuel L (x .ids) f k z, ap (λ (u : State). moments L x u) m)

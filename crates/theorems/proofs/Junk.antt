@@ -17,7 +17,7 @@ use Rattle.theorems.proofs.Stands.{leaves}
 
 module _ (x : Source) where
   -- rows are written as their tokens
-  render-leaves : (j r : List ℕ) (o : List Event) (st : List (ℕ × ℕ)) (l : List Entry) → render x st (leaves j r o) l ≡ render x st o (tokens x j r ++ l)
+  render-leaves : (j r : List ℕ) (o : List Event) (st : List (ℕ × ℕ)) (l : List Entry) → render x st (leaves j r o) l ≡ render x st o (tokens x (suc (length st)) j r ++ l)
   render-leaves [] r o st l = refl
   render-leaves (i ∷ j) r o st l = render-leaves j r (leaf (kindOf i) (suc (length (j ++ r))) ∷ o) st l
 
@@ -31,15 +31,15 @@ module _ (x : Source) where
 
   -- behind the events o: trivia g, the junk run j, and r the rows behind it
   pub junk-written : (g j r : List ℕ) (o : List Event) → let n : ℕ = length (j ++ r) in
-      inside x (closed kinds.ERROR n (length r) ∷ leaves j r (opened n ∷ bad n stray ∷ leaves g (j ++ r) o)) ≡ inside x o ++ (tokens x g (j ++ r) ++ junk-events x (bads o) j r)
+      inside x (closed kinds.ERROR n (length r) ∷ leaves j r (opened n ∷ bad n stray ∷ leaves g (j ++ r) o)) ≡ inside x o ++ (tokens x 1 g (j ++ r) ++ junk-events x (bads o) j r)
   junk-written g j r o =
       let n : ℕ = length (j ++ r) in
       let a : ℕ = starts-at x n in
       let z : ℕ = span-end x n (length r) in
-      render-leaves j r (opened n ∷ bad n stray ∷ leaves g (j ++ r) o) ((kinds.ERROR, z) ∷ []) ((Sort.END, kinds.ERROR, a, z) ∷ [])
+      render-leaves j r (opened n ∷ bad n stray ∷ leaves g (j ++ r) o) ((kinds.ERROR, z) ∷ []) ((Sort.END, kinds.ERROR, a, z, 1) ∷ [])
       ∙ ap (λ (i : ℕ). render x [] (leaves g (j ++ r) o) (junk-events x i j r)) (bads-leaves g (j ++ r) o)
       ∙ render-leaves g (j ++ r) o [] (junk-events x (bads o) j r)
-      ∙ render-keeps x [] o [] (tokens x g (j ++ r) ++ junk-events x (bads o) j r)
+      ∙ render-keeps x [] o [] (tokens x 1 g (j ++ r) ++ junk-events x (bads o) j r)
 
   pub junk-recorded : (L : Limits) (g j r : List ℕ) (o : List Event) → let n : ℕ = length (j ++ r) in
       records L x (closed kinds.ERROR n (length r) ∷ leaves j r (opened n ∷ bad n stray ∷ leaves g (j ++ r) o)) [] ≡ records L x o [] ++ (junk-error x j r ∷ [])
@@ -47,6 +47,9 @@ module _ (x : Source) where
       let n : ℕ = length (j ++ r) in
       let q : List Rec = junk-error x j r ∷ [] in
       records-leaves L j r (opened n ∷ bad n stray ∷ leaves g (j ++ r) o) [] ∙ records-leaves L g (j ++ r) o q ∙ records-keep x L o [] q
+
+  pub junk-bads : (g j r : List ℕ) (o : List Event) → let n : ℕ = length (j ++ r) in bads (closed kinds.ERROR n (length r) ∷ leaves j r (opened n ∷ bad n stray ∷ leaves g (j ++ r) o)) ≡ suc (bads o)
+  junk-bads g j r o = let n : ℕ = length (j ++ r) in bads-leaves j r (opened n ∷ bad n stray ∷ leaves g (j ++ r) o) ∙ ap suc (bads-leaves g (j ++ r) o)
 
   -- what has no error adds no record
   pub unrecorded : (L : Limits) (w o : List Event) (l : List Rec) → bads (w ++ o) ≡ bads o → records L x (w ++ o) l ≡ records L x o l

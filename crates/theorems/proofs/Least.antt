@@ -18,6 +18,8 @@ use Rattle.definition.proofs.Order.{Running, Order, ordered, steps, loop-up, fi
 use Rattle.definition.proofs.Frame.{h, Framed, frames, trivia-h, skip-to-h, begin-h, first-names-h, running-live}
 use Rattle.definition.proofs.Whole.{item-h, item-at-h}
 use Rattle.theorems.proofs.Fuel.{fuel-left, fuel-exact, more-fuel, less-fuel}
+use Rattle.definition.specs.Render.{item-numbers}
+use Rattle.definition.proofs.Numbers.{numbers-fuel}
 
 -- a stop stands, and fuel does not grow
 pub record Ebb (s t : State) : Type 0 where
@@ -256,7 +258,7 @@ module _ (j : ℕ) (q : List Event) (b : List ℕ) (dr : List Draft) where
 
   reads-all : (L : Limits) (p : Prog) → All (read-item L p)
   unfolding read-item
-  reads-all L p = exec-kept halting (L .depth) (run (L .depth)) (run-kept halting (L .depth)) p false
+  reads-all L p = exec-kept halting (L .depth) (run (L .entrypoint) (L .depth)) (run-kept halting (L .entrypoint) (L .depth)) p false
 
   -- items
   end-ebb : (u : State) → Ebb u (again (flush u))
@@ -364,3 +366,11 @@ same-reading L r f g z l = paid (by (ltb g f) (ltb→lt g f) (nltb→le g f))
 
     paid : ((a : ℕ) × (read L r g ≡ pay a (read L r f))) → read L r g ≡ pay (g - begin-steps L r f) (read L r f)
     paid q = q .1 ∙ ap (λ (a : ℕ). pay a (read L r f)) (sym (ap (λ (s : State). s .fuel) (q .1)) ∙ fuel-left L r g ∙ ap (λ (s : State). g - length (s .begun)) (q .1))
+
+-- and so are the numbers of the items
+pub same-numbers : (L : Limits) (r : List ℕ) (f g : ℕ) → Running ((read L r f) .mode) → begin-steps L r f ≤ g → item-numbers L r g ≡ item-numbers L r f
+same-numbers L r f g z l = by (ltb g f) (ltb→lt g f) (nltb→le g f)
+  where
+    by : (b : Bool) → (T b → g < f) → (T (not b) → f ≤ g) → item-numbers L r g ≡ item-numbers L r f
+    by true m n = let e : g + (f - g) ≡ f = omega (arith, m tt) in sym (ap (item-numbers L r) (sym e) ∙ numbers-fuel L r g (f - g) (enough-fuel L r f g z l (m tt)))
+    by false m n = let e : f + (g - f) ≡ g = omega (arith, n tt) in ap (item-numbers L r) (sym e) ∙ numbers-fuel L r f (g - f) z

@@ -6,9 +6,11 @@ pub mod Drafts
 pub mod Stands
 pub mod Junk
 pub mod Joined
+pub mod Depth
 pub mod Matched
 pub mod Least
 pub mod Bound
 pub mod Stops
 pub mod Remaining
+pub mod Owners
 pub mod Demands

@@ -84,9 +84,9 @@ nameable [] = false
 nameable (n ∷ ns) = below (n ∷ ns)
 
 -- each production's names are so, by one computed test
-grammar-names : (a : Production) → T (enters nameable (grammar a))
+grammar-names : (E : Bool) (a : Production) → T (enters nameable (grammar E a))
 unfolding below nameable grammar productions idOf
-grammar-names a = each (λ a. enters nameable (grammar a)) tt a
+grammar-names E a = each (λ a. enters nameable (grammar E a)) tt a
 
 item-names : (a : ℕ) → T (enters nameable (item-of a))
 unfolding below nameable idOf
@@ -234,7 +234,7 @@ keeping = record {
 reads-keeps : (L : Limits) (a : ℕ) (s : State) → Keeps s (read-item L (item-of a) s)
 unfolding read-item
 reads-keeps L a s =
-    exec-kept-if (stepped-if Keeps keeping) (L .depth) (run (L .depth)) (run-kept-if (stepped-if Keeps keeping) grammar-names (L .depth)) (item-of a) (item-names a) false s
+    exec-kept-if (stepped-if Keeps keeping) (L .depth) (run (L .entrypoint) (L .depth)) (run-kept-if (stepped-if Keeps keeping) (L .entrypoint) (grammar-names (L .entrypoint)) (L .depth)) (item-of a) (item-names a) false s
 
 stray-keeps : (s : State) → Keeps s (stray-item s)
 stray-keeps s = alike s (stray-item s) refl refl refl (λ h. seek-writes rule-keywords (s .rest) (opened (length (s .rest)) ∷ bad (length (s .rest)) stray ∷ s .out) (tt, h))

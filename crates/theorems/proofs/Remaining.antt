@@ -1,34 +1,36 @@
 -- Where the reader stands between two items: the remaining rows as a file of their own, and where it stands after the next item. Of the public
 -- answer; proofs/Demands has the statements with the mission's sentences.
-use Prim.Native.Nat.{ℕ, _+_, _-_, _≤_, _<_}
+use Prim.Native.Nat.{ℕ, suc, _+_, _-_, _≤_, _<_}
 use mathlib.Core.Path.{_≡_, refl, ap, sym, _∙_, subst}
 use mathlib.Core.List.{List, [], _∷_, _++_}
 use lib.Dec.{T}
-use lib.ListN.{length, drop, take, length-drop, length-append}
+use lib.ListN.{length, drop, take, replicate, length-drop, length-append}
 use native.Mathlib.Omega.{arith}
 use Rattle.kinds.specs.Kinds as k
 use Rattle.shapes.specs.Shapes.{Entry, flat, Rec}
 use Rattle.definition.specs.Prog.{RULE-DECL, IMPORT-STMT, INCLUDE-STMT, _/_, last, node}
 use Rattle.definition.specs.Run.{State, Limits, Event, opened, closed, bad, stray, Next, end, other, hit, next, past, sought, rule-keywords, item-keywords, skip, item, items, start, read}
-use Rattle.definition.specs.Render.{Source, Reading, bads, inside, records, outcome-of, rendered, moments}
+use Rattle.definition.specs.Render.{Source, Reading, bads, inside, records, numbers, item-numbers, outcome-of, rendered, moments}
 use Rattle.definition.specs.Buffer.{buffer}
 use Rattle.definition.specs.Answer.{Desk, given, words, refusal, answer, source-of}
-use Rattle.definition.specs.Remaining.{Running, standing, rows-before, place, written, recorded, remaining, shifts, shift-records, in-file, Continued, Keyless, Astray, Solid, tokens, junk-events, Junk}
+use Rattle.definition.specs.Remaining.{Running, standing, rows-before, place, written, recorded, remaining, shifts, shift-records, items-before, shift-items, in-file, Continued, Keyless, Astray, Solid, tokens, junk-events, Junk}
 use Rattle.definition.specs.Ford.{strip, Res, Ford, nt, rules, any-statement}
 use Rattle.definition.proofs.Grows.{End}
 use Rattle.definition.proofs.Agree.{next-end, next-hit}
 use Rattle.definition.proofs.Doom.{Off}
 use Rattle.definition.proofs.Accept.{Fresh}
 use Rattle.definition.proofs.Buffer.{item-adds, buffer-finished}
+use Rattle.definition.proofs.Height.{standing-low}
 use Rattle.definition.proofs.Tidy.{items-tidied}
 use Rattle.definition.proofs.Shown.{damage-shown, inside-append}
 use Rattle.definition.proofs.Suffix.{items-rows, damage-stays, next-item}
+use Rattle.definition.proofs.Numbers.{numbers-chain, numbers-step, numbers-later}
 use Rattle.definition.proofs.Published.{from-ford}
 use Rattle.theorems.proofs.Stands.{leaves, junk-run, rule-stands, statement-stands}
-use Rattle.theorems.proofs.Junk.{lead, junk-written, junk-recorded, unrecorded}
+use Rattle.theorems.proofs.Junk.{lead, junk-written, junk-recorded, junk-bads, unrecorded}
 use Rattle.definition.proofs.Takes.{end-length, item-takes}
 use Rattle.definition.proofs.Cut.{Rows, rows-of, no-refusal, front, front-length, cut-before, cut-whole, rest-bytes, rest-rows}
-use Rattle.theorems.proofs.Answered.{reading, records-count, given-is, is-given}
+use Rattle.theorems.proofs.Answered.{reading, items-of, records-count, given-is, is-given}
 use Rattle.definition.proofs.Frame.{h}
 use Rattle.theorems.proofs.Rooms.{Fits, over-fits, fits-over, fits-more}
 use Rattle.theorems.proofs.Drafts.{fits-alone}
@@ -55,8 +57,8 @@ module _ (L : Limits) (d : Desk) (n : ℕ) where
   rest-ids = drop-end (s .rest) (d .ids) (items-rows L n (start (d .ids) (d .fuel)))
 
   -- what the event buffer holds behind the SOURCE_FILE begin event where the reader stands
-  pub standing-buffer : buffer (source-of d) (s .out) ≡ flat (written d s)
-  standing-buffer = buffer-finished (source-of d) (s .out) (items-tidied L (d .ids) (d .fuel) n .1)
+  pub standing-buffer : L .depth + 2 < 4294967296 → buffer (source-of d) (s .out) ≡ flat (written d s)
+  standing-buffer h = buffer-finished (source-of d) (L .depth + 2) h (s .out) (items-tidied L (d .ids) (d .fuel) n .1) (standing-low L (d .ids) (d .fuel) n)
 
   module _ (sc ev er : List ℕ) where
     abbrev rest : Desk
@@ -75,7 +77,7 @@ module _ (L : Limits) (d : Desk) (n : ℕ) where
     remaining-unrefused z w = no-refusal rest (rest-rows d s sc ev er (rows-of d z .0)) w
 
     -- the remaining rows in any rooms in which they are answered
-    pub continued : (R R′ : Reading) → answer L d ≡ given R → Running (s .mode) → answer L rest ≡ given R′ → Continued L d s R R′
+    pub continued : (R R′ : Reading) → answer L d ≡ given R → Running (s .mode) → answer L rest ≡ given R′ → Continued L d n s R R′
     continued R R′ e r e′ =
         let G = given-is L d R e in
         let g = G .whole in
@@ -94,29 +96,33 @@ module _ (L : Limits) (d : Desk) (n : ℕ) where
           alone = ap (λ (r : Reading). r .events) g′ ∙ ap (λ (i : ℕ). in-file i (inside (source-of rest) (v .out))) (rest-bytes d s sc ev er rows);
           events = ap (λ (r : Reading). r .events) g ∙ ap (in-file z) (h .3 ∙ ap (λ (i : ℕ). written d s ++ shifts (place d s) i (inside (source-of rest) (v .out))) (omega (arith, c)));
           errors = ap (λ (r : Reading). r .errors) g ∙ h .4 ∙ ap (λ (l : List Rec). recorded L d s ++ shift-records (place d s) l) (sym (ap (λ (r : Reading). r .errors) g′));
+          items =
+              ap (λ (r : Reading). r .items) g
+              ∙ numbers-later L (d .ids) (d .fuel) n r
+              ∙ ap (λ (l : List ℕ). items-before L d n ++ shift-items n l) (ap (λ (l : List ℕ). item-numbers L l (s .fuel)) (sym rest-ids) ∙ sym (ap (λ (r : Reading). r .items) g′));
         }
       where
         count : (N a t v b : ℕ) → t ≡ v → b ≡ N - a → v ≤ b → a ≤ N → N - t ≡ a + (b - v)
         count N a t v b x y l m = omega (arith, x, y, l, m)
 
     -- the rooms of the whole are enough for them
-    pub remaining-answered : (R : Reading) → answer L d ≡ given R → Running (s .mode) → words (length (rest .ids)) ≤ length sc → length (d .events) ≤ length ev → length (d .errors) ≤ length er → answer L rest ≡ given (rendered L (source-of rest) (reading L rest))
+    pub remaining-answered : (R : Reading) → answer L d ≡ given R → Running (s .mode) → words (length (rest .ids)) ≤ length sc → length (d .events) ≤ length ev → length (d .errors) ≤ length er → answer L rest ≡ given (rendered L (source-of rest) (items-of L rest) (reading L rest))
     remaining-answered R e m w v u =
         let G = given-is L d R e in
         let rows = rows-of d (G .unrefused) .0 in
         let D = damage-stays L (d .ids) (d .fuel) n m in
-        let E : ℕ = length (d .events) in
+        let Z : ℕ = length (d .events) in
         let F : ℕ = length (d .errors) in
         let whole : reading L d ≡ h 0 (s .out) (s .begun) (D .0 .before) (reading L rest) = D .1 ∙ ap (λ (l : List ℕ). h 0 (s .out) (s .begun) (D .0 .before) (read L l (s .fuel))) (sym rest-ids) in
-        let f = over-fits E F (moments L (source-of d) (reading L d)) (G .roomy) in
-        let g = subst (λ (t : State). Fits E F (moments L (source-of d) t)) whole f in
-        let g′ = subst (λ (x : Source). Fits E F (moments L x (h 0 (s .out) (s .begun) (D .0 .before) (reading L rest)))) (cut-whole d s sc ev er rows) g in
-        let a = fits-alone (front d s sc ev er rows) (take (rows-before d s) (d .ids)) (take (rows-before d s) (d .ends)) (cut-before d s sc ev er rows) (source-of rest) L E F (s .fuel) (s .out) (s .begun) (D .0 .before) g′ in
+        let f = over-fits Z F (moments L (source-of d) (reading L d)) (G .roomy) in
+        let g = subst (λ (t : State). Fits Z F (moments L (source-of d) t)) whole f in
+        let g′ = subst (λ (x : Source). Fits Z F (moments L x (h 0 (s .out) (s .begun) (D .0 .before) (reading L rest)))) (cut-whole d s sc ev er rows) g in
+        let a = fits-alone (front d s sc ev er rows) (take (rows-before d s) (d .ids)) (take (rows-before d s) (d .ends)) (cut-before d s sc ev er rows) (source-of rest) L Z F (s .fuel) (s .out) (s .begun) (D .0 .before) g′ in
         let ms = moments L (source-of rest) (reading L rest) in
-        is-given L rest (remaining-unrefused (G .unrefused) w) (fits-over (length ev) (length er) ms (fits-more E (length ev) F (length er) ms v u a))
+        is-given L rest (remaining-unrefused (G .unrefused) w) (fits-over (length ev) (length er) ms (fits-more Z (length ev) F (length er) ms v u a))
 
-    pub continues : (R : Reading) → answer L d ≡ given R → Running (s .mode) → words (length (rest .ids)) ≤ length sc → length (d .events) ≤ length ev → length (d .errors) ≤ length er → (R′ : Reading) × (answer L rest ≡ given R′) × Continued L d s R R′
-    continues R e m w v u = let a = remaining-answered R e m w v u in (rendered L (source-of rest) (reading L rest), a, continued R (rendered L (source-of rest) (reading L rest)) e m a)
+    pub continues : (R : Reading) → answer L d ≡ given R → Running (s .mode) → words (length (rest .ids)) ≤ length sc → length (d .events) ≤ length ev → length (d .errors) ≤ length er → (R′ : Reading) × (answer L rest ≡ given R′) × Continued L d n s R R′
+    continues R e m w v u = let a = remaining-answered R e m w v u in (rendered L (source-of rest) (items-of L rest) (reading L rest), a, continued R (rendered L (source-of rest) (items-of L rest) (reading L rest)) e m a)
 
   fresh : Running (s .mode) → Fresh s
   fresh r = damage-stays L (d .ids) (d .fuel) n r .0 .fresh
@@ -143,7 +149,7 @@ module _ (L : Limits) (d : Desk) (n : ℕ) where
       at f k = let z = one-item m (f .0) (f .1) (e ∙ f .2) in subst (Stood r) (sym z) (stood (subst (λ (u : State). Running (u .mode)) z k))
 
   -- right behind an accepted rule
-  pub rule-behind : (x r : List ℕ) (m : ℕ) → Running (s .mode) → s .rest ≡ x ++ r → Solid x → Ford rules (nt RULE-DECL) (strip (s .rest)) m (Res.yes (strip r)) → T (past (next item-keywords r)) → let v : State = standing L d (n + 1) in Running (v .mode) → Stood r v
+  pub rule-behind : (x r : List ℕ) (m : ℕ) → Running (s .mode) → s .rest ≡ x ++ r → Solid x → Ford (rules (L .entrypoint)) (nt RULE-DECL) (strip (s .rest)) m (Res.yes (strip r)) → T (past (next item-keywords r)) → let v : State = standing L d (n + 1) in Running (v .mode) → Stood r v
   rule-behind x r _ m e q g p = behind x r m e q (rule-stands L s x r (fresh m) e q (from-ford (node RULE-DECL) g) (followed (next item-keywords r) refl p))
     where
       followed : (y : Next) → next item-keywords r ≡ y → T (past y) → Off (sought item-keywords (strip r)) → ⊥
@@ -152,18 +158,21 @@ module _ (L : Limits) (d : Desk) (n : ℕ) where
       followed (hit a is) z t o = subst Off (next-hit item-keywords r a is z) o
 
   -- right behind an accepted import or include
-  pub statement-behind : (x r : List ℕ) (m : ℕ) → Running (s .mode) → s .rest ≡ x ++ r → Solid x → Ford rules any-statement (strip (s .rest)) m (Res.yes (strip r)) → let v : State = standing L d (n + 1) in Running (v .mode) → Stood r v
+  pub statement-behind : (x r : List ℕ) (m : ℕ) → Running (s .mode) → s .rest ≡ x ++ r → Solid x → Ford (rules (L .entrypoint)) any-statement (strip (s .rest)) m (Res.yes (strip r)) → let v : State = standing L d (n + 1) in Running (v .mode) → Stood r v
   statement-behind x r _ m e q g = behind x r m e q (statement-stands L s x r (fresh m) e q (from-ford (node IMPORT-STMT / last (node INCLUDE-STMT)) g))
 
   -- right behind a junk run
-  pub junk-behind : (j r : List ℕ) (a : ℕ) (is : List ℕ) → Running (s .mode) → skip (s .rest) ≡ j ++ r → Keyless j → Solid j → Astray j → next rule-keywords r ≡ hit a is → Junk L d s (standing L d (n + 1)) j r
+  pub junk-behind : (j r : List ℕ) (a : ℕ) (is : List ℕ) → Running (s .mode) → skip (s .rest) ≡ j ++ r → Keyless j → Solid j → Astray j → next rule-keywords r ≡ hit a is → Junk L d n s (standing L d (n + 1)) j r
   junk-behind j r a is m e q f b h = at (s .rest) refl e
     where
+      one : (a b : ℕ) → a ≡ suc b → a - b ≡ 1
+      one a b e = omega (arith, e)
+
       as-many : (a b : ℕ) → b ≡ a + 0 → a ≡ b
       as-many a b e = omega (arith, e)
 
-      cost : Junk L d (standing L d n) (item L (standing L d n)) j r
-      cost =
+      cost : (c : ℕ) (cs : List ℕ) → (standing L d n) .rest ≡ c ∷ cs → Junk L d n (standing L d n) (item L (standing L d n)) j r
+      cost c cs z =
           let x : Source = source-of d in
           let i : ℕ = length (j ++ r) in
           let h = junk-run L s j r a is (fresh m) e q f b h in
@@ -175,13 +184,17 @@ module _ (L : Limits) (d : Desk) (n : ℕ) where
             fuel = h .2;
             gap = G .0;
             front = G .1 ∙ ap (λ (l : List ℕ). G .0 ++ l) e;
+            items =
+                numbers-chain L n 1 1 (start (d .ids) (d .fuel))
+                ∙ ap (λ (l : List ℕ). items-before L d n ++ l)
+                (numbers-step L 0 (n + 1) s c cs z (fresh m .is-ok) ∙ ap (λ (k : ℕ). replicate k (n + 1) ++ []) (one (bads ((item L s) .out)) (bads (s .out)) (ap bads o ∙ junk-bads x (G .0) j r (s .out))));
             errors = ap (λ (o : List Event). records L x o []) o ∙ junk-recorded x L (G .0) j r (s .out);
-            events = ap (inside x) o ∙ junk-written x (G .0) j r (s .out) ∙ ap (λ (c : ℕ). written d s ++ (tokens x (G .0) (j ++ r) ++ junk-events x c j r)) (as-many (bads (s .out)) (length (recorded L d s)) (records-count L x (s .out) []));
+            events = ap (inside x) o ∙ junk-written x (G .0) j r (s .out) ∙ ap (λ (c : ℕ). written d s ++ (tokens x 1 (G .0) (j ++ r) ++ junk-events x c j r)) (as-many (bads (s .out)) (length (recorded L d s)) (records-count L x (s .out) []));
           }
 
-      at : (l : List ℕ) → (standing L d n) .rest ≡ l → skip l ≡ j ++ r → Junk L d (standing L d n) (standing L d (n + 1)) j r
+      at : (l : List ℕ) → (standing L d n) .rest ≡ l → skip l ≡ j ++ r → Junk L d n (standing L d n) (standing L d (n + 1)) j r
       at [] z y = absurd (omega (arith, ap length (y ∙ solid-front j r f .2)))
-      at (i ∷ l) z y = subst (λ (v : State). Junk L d (standing L d n) v j r) (sym (one-item m i l z)) cost
+      at (i ∷ l) z y = subst (λ (v : State). Junk L d n (standing L d n) v j r) (sym (one-item m i l z)) (cost i l z)
 
   pub takes-a-row : (i : ℕ) (is : List ℕ) → Running (s .mode) → s .rest ≡ i ∷ is → let v : State = standing L d (n + 1) in Running (v .mode) → rows-before d s < rows-before d v
   takes-a-row i is m e = subst (λ (v : State). Running (v .mode) → rows-before d s < rows-before d v) (sym (one-item m i is e)) (λ r. omega (arith, item-takes L s i is (fresh m .is-ok) e r, end-length (s .rest) (d .ids) (items-rows L n (start (d .ids) (d .fuel)))))

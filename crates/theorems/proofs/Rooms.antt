@@ -9,13 +9,14 @@ use lib.ListN.{length, replicate, length-append, length-replicate}
 use native.Mathlib.Omega.{arith}
 use Rattle.kinds.specs.Kinds as k
 use Rattle.shapes.specs.Sort as Sort
-use Rattle.shapes.specs.Shapes.{EVENT, Entry, flat, Rec, flat-records}
+use Rattle.shapes.specs.Shapes.{EVENT, Entry, flat, Rec, owned, flat-records}
 use Rattle.definition.specs.Run.{State, Limits, Draft, Event, opened, leaf, closed, bad}
-use Rattle.definition.specs.Render.{Source, Reading, records, record-of, said, inside, rendered, moments, exceeds, over, used}
+use Rattle.definition.specs.Render.{Source, Reading, starts-at, ends-at, span-end, bads, render, records, record-of, said, inside, rendered, moments, exceeds, over, used}
 use Rattle.definition.specs.Answer.{Desk, Answer, refused, given, refusal, exceeded, answer, answer-of, source-of, After, refusing, blank, as-lent, filled, left-by, after}
 use Rattle.definition.proofs.Tidy.{read-tidy}
-use Rattle.definition.proofs.Buffer.{buffer-length, buffer-finished}
-use Rattle.theorems.proofs.Answered.{reading, is-given}
+use Rattle.shapes.proofs.Laws.{flat-length, lengths, flat-lengths, bare-owned}
+use Rattle.definition.specs.Open.{Nest}
+use Rattle.theorems.proofs.Answered.{reading, items-of, is-given}
 
 abbrev pub Fits : ℕ → ℕ → List (ℕ × ℕ) → Type 0
 Fits e r [] = Unit
@@ -73,7 +74,7 @@ abbrev pub lent : Desk → List ℕ → List ℕ → Desk
 lent d ev er = record { bytes = d .bytes; ids = d .ids; starts = d .starts; ends = d .ends; fuel = d .fuel; scratch = d .scratch; events = ev; errors = er }
 
 -- THE THEOREM: a desk that no refusal of 1 to 6 meets has its answer wherever the rooms are large enough
-pub room-enough : (L : Limits) (d : Desk) → refusal d ≡ 0 → (e : ℕ) × (r : ℕ) × ((ev er : List ℕ) → e ≤ length ev → r ≤ length er → answer L (lent d ev er) ≡ given (rendered L (source-of d) (reading L d)))
+pub room-enough : (L : Limits) (d : Desk) → refusal d ≡ 0 → (e : ℕ) × (r : ℕ) × ((ev er : List ℕ) → e ≤ length ev → r ≤ length er → answer L (lent d ev er) ≡ given (rendered L (source-of d) (items-of L d) (reading L d)))
 room-enough L d z =
     let ms = moments L (source-of d) (reading L d) in
     let h = enough ms in
@@ -104,20 +105,28 @@ flat-append : (a b : List Entry) → length (flat (a ++ b)) ≡ length (flat a) 
 flat-append [] b = omega arith
 flat-append (q ∷ a) b = omega (arith, flat-append a b)
 
-events-size : (L : Limits) (d : Desk) → length (flat ((rendered L (source-of d) (reading L d)) .events)) ≡ EVENT * suc (suc (length ((reading L d) .out)))
+render-length : (x : Source) (st : List (ℕ × ℕ)) (o : List Event) (z : List Entry) → Nest (length st) o 0 → length (render x st o z) ≡ length o + length z
+render-length x st [] z p = omega arith
+render-length x [] (opened n ∷ o) z p = absurd p
+render-length x (t ∷ st) (opened n ∷ o) z p = omega (arith, render-length x st o ((Sort.BEGIN, t .0, starts-at x n, t .1, suc (length st)) ∷ z) p)
+render-length x st (leaf a n ∷ o) z p = omega (arith, render-length x st o ((Sort.TOKEN, a, starts-at x n, ends-at x n, suc (length st)) ∷ z) p)
+render-length x st (closed a n m ∷ o) z p = omega (arith, render-length x ((a, span-end x n m) ∷ st) o ((Sort.END, a, starts-at x n, span-end x n m, suc (length st)) ∷ z) p)
+render-length x st (bad n c ∷ o) z p = omega (arith, render-length x st o ((Sort.ERROR, bads o, starts-at x n, ends-at x n, suc (length st)) ∷ z) p)
+
+events-size : (L : Limits) (d : Desk) → length (flat ((rendered L (source-of d) (items-of L d) (reading L d)) .events)) ≡ EVENT * suc (suc (length ((reading L d) .out)))
 events-size L d =
     let x = source-of d in
     let o = (reading L d) .out in
     let i = inside x o in
     let z = length (d .bytes) in
-    omega (arith, flat-append i ((Sort.END, k.SOURCE-FILE, 0, z) ∷ []), sym (ap length (buffer-finished x o (read-tidy L (d .ids) (d .fuel) .1))) ∙ buffer-length x o)
+    omega (arith, flat-append i ((Sort.END, k.SOURCE-FILE, 0, z, 0) ∷ []), flat-length i, render-length x [] o [] (read-tidy L (d .ids) (d .fuel) .1))
 
-records-size : (L : Limits) (x : Source) (o : List Event) (l : List Rec) → length (flat-records (records L x o l)) ≡ said L x o + length (flat-records l)
+records-size : (L : Limits) (x : Source) (o : List Event) (l : List Rec) → lengths (records L x o l) ≡ said L x o + lengths l
 records-size L x [] l = omega arith
 records-size L x (opened n ∷ o) l = records-size L x o l
 records-size L x (leaf a n ∷ o) l = records-size L x o l
 records-size L x (closed a n m ∷ o) l = records-size L x o l
-records-size L x (bad n c ∷ o) l = let q : Rec = record-of L x n c in omega (arith, records-size L x o (q ∷ l), length-append (q .3) (q .4 ++ flat-records l), length-append (q .4) (flat-records l))
+records-size L x (bad n c ∷ o) l = let q : Rec = record-of L x n c in omega (arith, records-size L x o (q ∷ l))
 
 blank-length : (l : List ℕ) → length (blank l) ≡ length l
 blank-length l = length-replicate (length l) 0
@@ -142,12 +151,12 @@ as-long L d = go (refusal d) refl
         by true = (refl, refl, refl)
         by false = (blank-length (d .events), blank-length (d .errors), blank-length (d .scratch))
 
-    answers : Fits (length (d .events)) (length (d .errors)) (moments L (source-of d) (reading L d)) → Long (left-by d (given (rendered L (source-of d) (reading L d))))
+    answers : Fits (length (d .events)) (length (d .errors)) (moments L (source-of d) (reading L d)) → Long (left-by d (given (rendered L (source-of d) (items-of L d) (reading L d))))
     answers f =
-        let R : Reading = rendered L (source-of d) (reading L d) in
-        (filled-length (flat (R .events)) (d .events) (omega (arith, events-size L d, f .0)), filled-length (flat-records (R .errors)) (d .errors) (omega (arith, records-size L (source-of d) ((reading L d) .out) [], f .1)), blank-length (d .scratch))
+        let R : Reading = rendered L (source-of d) (items-of L d) (reading L d) in
+        (filled-length (flat (R .events)) (d .events) (omega (arith, events-size L d, f .0)), filled-length (flat-records (owned (R .errors) (R .items))) (d .errors) (omega (arith, flat-lengths (owned (R .errors) (R .items)), ap lengths (bare-owned (R .errors) (R .items)), records-size L (source-of d) ((reading L d) .out) [], f .1)), blank-length (d .scratch))
 
-    at : (n : ℕ) → exceeded L d (reading L d) ≡ n → Long (left-by d (elim n as (λ _. Answer) [ zero ↦ given (rendered L (source-of d) (reading L d)) | suc n ↦ refused (suc n) ]))
+    at : (n : ℕ) → exceeded L d (reading L d) ≡ n → Long (left-by d (elim n as (λ _. Answer) [ zero ↦ given (rendered L (source-of d) (items-of L d) (reading L d)) | suc n ↦ refused (suc n) ]))
     at zero w = answers (over-fits (length (d .events)) (length (d .errors)) (moments L (source-of d) (reading L d)) w)
     at (suc n) w = refusals (suc n)
 

@@ -174,8 +174,8 @@ one-place w firm (i ∷ j ∷ x) (k ∷ p) y v d e h = let z : (j ∷ x) ++ y �
 abbrev Reads : Prog → ℕ → ℕ → Type 0
 Reads p b i = (item-of b ≡ p) × (pick item-keywords i ≡ some b)
 
-keyword-first : (K : List ℕ) (q : Production) (p : Prog) → T (dies K (node q)) → Each (Reads p) K → (r r′ : List ℕ) → Peg (node q) (strip r) (Res.yes r′) → (a : ℕ) × (is : List ℕ) × (next item-keywords r ≡ hit a is) × (item-of a ≡ p)
-keyword-first K q p t E r r′ g = go (next K r) refl
+keyword-first : {E : Bool} (K : List ℕ) (q : Production) (p : Prog) → T (dies E K (node q)) → Each (Reads p) K → (r r′ : List ℕ) → Peg E (node q) (strip r) (Res.yes r′) → (a : ℕ) × (is : List ℕ) × (next item-keywords r ≡ hit a is) × (item-of a ≡ p)
+keyword-first K q p t W r r′ g = go (next K r) refl
   where
     none-there : Miss (next K r) → ⊥
     none-there m = yes-no r′ (det g Res.no (dies-no K (strip r) (node q) t (next-miss K r m)))
@@ -183,7 +183,7 @@ keyword-first K q p t E r r′ g = go (next K r) refl
     at : (a : ℕ) (is : List ℕ) → next K r ≡ hit a is → (l : List ℕ) → skip r ≡ l → sought K l ≡ hit a is → (a : ℕ) × (is : List ℕ) × (sought item-keywords l ≡ hit a is) × (item-of a ≡ p)
     at a is e [] z h = never cc
     at a is e (i ∷ l) z h =
-        let x = each-at (Reads p) K E i a (pick-of K i a is l h) in
+        let x = each-at (Reads p) K W i a (pick-of K i a is l h) in
         (a, l, ap (λ (y : Option ℕ). elim y as (λ _. Next) [ none ↦ other | some b ↦ hit b l ]) (x .1), x .0)
 
     go : (x : Next) → next K r ≡ x → (a : ℕ) × (is : List ℕ) × (next item-keywords r ≡ hit a is) × (item-of a ≡ p)
@@ -200,29 +200,29 @@ behind-last L s x r w a is p firm f e d n q h k =
 
 -- THE THEOREM: rows x at item position, the last of them no trivia, that the PEG accepts as a rule, whose next row past trivia begins an item or is none:
 -- unless stopped, the reader stands right behind them, between two items, and no error is written
-pub rule-stands : (L : Limits) (s : State) (x r : List ℕ) → Fresh s → s .rest ≡ x ++ r → Solid x → Peg (node RULE-DECL) (strip (s .rest)) (Res.yes (strip r)) → (Off (sought item-keywords (strip r)) → ⊥) → let v : State = item L s in Running (v .mode) →
+pub rule-stands : (L : Limits) (s : State) (x r : List ℕ) → Fresh s → s .rest ≡ x ++ r → Solid x → Peg (L .entrypoint) (node RULE-DECL) (strip (s .rest)) (Res.yes (strip r)) → (Off (sought item-keywords (strip r)) → ⊥) → let v : State = item L s in Running (v .mode) →
     Fresh v × (v .rest ≡ r) × (bads (v .out) ≡ bads (s .out))
 unfolding grammar idOf
 rule-stands L s x r f e d g n k =
     let h = keyword-first rule-keywords RULE-DECL rule-decl tt ((refl, refl), ((refl, refl), ((refl, refl), tt))) (s .rest) (strip r) g in
     let t = trivia-fresh s f in
-    let G = subst (λ (l : List ℕ). Peg (node RULE-DECL) l (Res.yes (strip r))) (sym (strip-gap (s .mode) (s .rest))) g in
-    behind-last L s x r kinds.R-BRACE (h .0) (h .1) rule-decl (λ v. refl) f e d (h .2) (h .3) (λ u. rule-calm L (trivia s) (strip r) (t .is-ok) (fresh-inv (trivia s) t) u G n) k
+    let G = subst (λ (l : List ℕ). Peg (L .entrypoint) (node RULE-DECL) l (Res.yes (strip r))) (sym (strip-gap (s .mode) (s .rest))) g in
+    behind-last L s x r kinds.R-BRACE (h .0) (h .1) rule-decl (λ v. refl) f e d (h .2) (h .3) (λ u. rule-calm L (trivia s) (strip r) (t .is-ok) (fresh-inv (L .entrypoint) (trivia s) t) u G n) k
 
 -- THE THEOREM: rows x at item position, the last of them no trivia, that the PEG accepts as an import or an include: unless stopped, the reader stands right
 -- behind them, between two items, and no error is written, whatever the next row is
-pub statement-stands : (L : Limits) (s : State) (x r : List ℕ) → Fresh s → s .rest ≡ x ++ r → Solid x → Peg (node IMPORT-STMT / last (node INCLUDE-STMT)) (strip (s .rest)) (Res.yes (strip r)) → let v : State = item L s in Running (v .mode) →
+pub statement-stands : (L : Limits) (s : State) (x r : List ℕ) → Fresh s → s .rest ≡ x ++ r → Solid x → Peg (L .entrypoint) (node IMPORT-STMT / last (node INCLUDE-STMT)) (strip (s .rest)) (Res.yes (strip r)) → let v : State = item L s in Running (v .mode) →
     Fresh v × (v .rest ≡ r) × (bads (v .out) ≡ bads (s .out))
 unfolding grammar idOf
 statement-stands L s x r f e d g k = by g
   where
-    stands : (q : Production) (b : ℕ) → Statement q b → T (dies (b ∷ []) (node q)) → Each (Reads (node q)) (b ∷ []) → Peg (node q) (strip (s .rest)) (Res.yes (strip r)) → let v : State = item L s in Fresh v × (v .rest ≡ r) × (bads (v .out) ≡ bads (s .out))
-    stands q b st t E g =
-        let h = keyword-first (b ∷ []) q (node q) t E (s .rest) (strip r) g in
+    stands : (q : Production) (b : ℕ) → Statement q b → T (dies (L .entrypoint) (b ∷ []) (node q)) → Each (Reads (node q)) (b ∷ []) → Peg (L .entrypoint) (node q) (strip (s .rest)) (Res.yes (strip r)) → let v : State = item L s in Fresh v × (v .rest ≡ r) × (bads (v .out) ≡ bads (s .out))
+    stands q b st t W g =
+        let h = keyword-first (b ∷ []) q (node q) t W (s .rest) (strip r) g in
         let F = trivia-fresh s f in
-        let G = subst (λ (l : List ℕ). Peg (node q) l (Res.yes (strip r))) (sym (strip-gap (s .mode) (s .rest))) g in
-        behind-last L s x r kinds.STRING-LIT (h .0) (h .1) (node q) (λ v. refl) f e d (h .2) (h .3) (λ u. statement-calm L q b st (trivia s) (strip r) (F .is-ok) (fresh-inv (trivia s) F) u G) k
+        let G = subst (λ (l : List ℕ). Peg (L .entrypoint) (node q) l (Res.yes (strip r))) (sym (strip-gap (s .mode) (s .rest))) g in
+        behind-last L s x r kinds.STRING-LIT (h .0) (h .1) (node q) (λ v. refl) f e d (h .2) (h .3) (λ u. statement-calm L q b st (trivia s) (strip r) (F .is-ok) (fresh-inv (L .entrypoint) (trivia s) F) u G) k
 
-    by : Peg (node IMPORT-STMT / last (node INCLUDE-STMT)) (strip (s .rest)) (Res.yes (strip r)) → let v : State = item L s in Fresh v × (v .rest ≡ r) × (bads (v .out) ≡ bads (s .out))
+    by : Peg (L .entrypoint) (node IMPORT-STMT / last (node INCLUDE-STMT)) (strip (s .rest)) (Res.yes (strip r)) → let v : State = item L s in Fresh v × (v .rest ≡ r) × (bads (v .out) ≡ bads (s .out))
     by (alt-yes g) = stands IMPORT-STMT kinds.IMPORT-KW import tt ((refl, refl), tt) g
     by (alt-no n (last-is g)) = stands INCLUDE-STMT kinds.INCLUDE-KW include tt ((refl, refl), tt) g

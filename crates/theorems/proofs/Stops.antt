@@ -53,9 +53,9 @@ any-sort C r m n a = go (eqb a kinds.IMPORT-KW) (eqb a kinds.INCLUDE-KW)
     go false true = n
     go false false = r
 
-pub recover-behind-node : ((a : Production) → T (behind false (grammar a))) × ((a : ℕ) → T (behind false (item-of a)))
+pub recover-behind-node : (E : Bool) → ((a : Production) → T (behind false (grammar E a))) × ((a : ℕ) → T (behind false (item-of a)))
 unfolding productions grammar is-node behind
-recover-behind-node = (each (λ a. behind false (grammar a)) tt, any-sort (λ p. T (behind false p)) tt tt tt)
+recover-behind-node E = (each (λ a. behind false (grammar E a)) tt, any-sort (λ p. T (behind false p)) tt tt tt)
 
 finish-mode : (o : Bool) (a n : ℕ) (s : State) → (finish o a n s) .mode ≡ s .mode
 finish-mode o a n s = go o (s .mode) s
@@ -68,19 +68,19 @@ finish-mode o a n s = go o (s .mode) s
     go false (stopped w) s = refl
 
 -- and where no more node may be opened, that node stops the reader, and `recover` behind it does nothing
-pub recover-never-deep : (o : Bool) (a : Production) (S : List ℕ) (s : State) → exec zero (run zero) (node a ⨟ recover S) o s ≡ run zero o a s
-recover-never-deep o a S s =
+pub recover-never-deep : (E : Bool) (o : Bool) (a : Production) (S : List ℕ) (s : State) → exec zero (run E zero) (node a ⨟ recover S) o s ≡ run E zero o a s
+recover-never-deep E o a S s =
     let t : State = begin zero s in
     let w = charged (s .fuel) (trivia s) in
-    recovery-stopped zero o S (w .0) (run zero o a s) (finish-mode o (kind a) (length (t .rest)) t ∙ w .1)
+    recovery-stopped zero o S (w .0) (run E zero o a s) (finish-mode o (kind a) (length (t .rest)) t ∙ w .1)
 
 -- NO BEGIN AFTER A STOP: productions that are left alone once the reader is stopped
 abbrev pub calm : (Bool → Production → Reader) → Bool → Production → Reader
 calm call o a s = elim (s .mode) [ ok ↦ call o a s | failed ↦ call o a s | stopped w ↦ s ]
 
-abbrev pub calm-run : ℕ → Bool → Production → Reader
-calm-run zero o a s = nodes zero o (kind a) (λ t. t) s
-calm-run (suc d) o a s = nodes (suc d) o (kind a) (λ t. exec d (calm (λ o b u. calm-run d o b u)) (grammar a) o t) s
+abbrev pub calm-run : (E : Bool) → ℕ → Bool → Production → Reader
+calm-run E zero o a s = nodes zero o (kind a) (λ t. t) s
+calm-run E (suc d) o a s = nodes (suc d) o (kind a) (λ t. exec d (calm (λ o b u. calm-run E d o b u)) (grammar E a) o t) s
 
 -- what never stops
 steady : Prog → Bool
@@ -112,9 +112,9 @@ safe (recover S) = true
 safe (node a) = true
 safe (memo a) = true
 
-safe-productions : (a : Production) → T (safe (grammar a))
+safe-productions : (E : Bool) (a : Production) → T (safe (grammar E a))
 unfolding productions grammar safe steady
-safe-productions = each (λ a. safe (grammar a)) tt
+safe-productions E = each (λ a. safe (grammar E a)) tt
 
 eat-runs : (N : List ℕ) (x : Next) (s : State) → s .mode ≡ ok → Running ((eat-row N x s) .mode)
 eat-runs N end s e = tt
@@ -246,16 +246,16 @@ module _ (d : ℕ) (quiet call : Bool → Production → Reader) (H : (o : Bool)
   calm-same (node a) t o s r = call-same quiet o a s r ∙ H o a s r
   calm-same (memo a) t o s r = if-ok-same _ _ (λ s e. memo-same (kind a) (calls o a) (call o a) (λ s r. call-same quiet o a s r ∙ H o a s r) (known (s .cache) (length (s .rest)) (kind a)) s e) s
 
-calm-run-is : (d : ℕ) (o : Bool) (a : Production) (s : State) → calm-run d o a s ≡ run d o a s
-calm-run-is zero o a s = refl
-calm-run-is (suc d) o a s = ap (finish o (kind a) (length ((begin (suc d) s) .rest))) (by ((begin (suc d) s) .mode) (begin (suc d) s) refl (λ o b u r. calm-run-is d o b u))
+calm-run-is : (E : Bool) (d : ℕ) (o : Bool) (a : Production) (s : State) → calm-run E d o a s ≡ run E d o a s
+calm-run-is E zero o a s = refl
+calm-run-is E (suc d) o a s = ap (finish o (kind a) (length ((begin (suc d) s) .rest))) (by ((begin (suc d) s) .mode) (begin (suc d) s) refl (λ o b u r. calm-run-is E d o b u))
   where
-    by : (m : Mode) (t : State) → t .mode ≡ m → ((o : Bool) (b : Production) → Same (calm-run d o b) (run d o b)) → exec d (calm (calm-run d)) (grammar a) o t ≡ exec d (run d) (grammar a) o t
-    by ok t e H = calm-same d (calm-run d) (run d) H (grammar a) (safe-productions a) o t (subst Running (sym e) tt)
-    by failed t e H = calm-same d (calm-run d) (run d) H (grammar a) (safe-productions a) o t (subst Running (sym e) tt)
-    by (stopped w) t e H = idles d (calm (calm-run d)) w (grammar a) (idle-productions a) o t e ∙ sym (idles d (run d) w (grammar a) (idle-productions a) o t e)
+    by : (m : Mode) (t : State) → t .mode ≡ m → ((o : Bool) (b : Production) → Same (calm-run E d o b) (run E d o b)) → exec d (calm (calm-run E d)) (grammar E a) o t ≡ exec d (run E d) (grammar E a) o t
+    by ok t e H = calm-same d (calm-run E d) (run E d) H (grammar E a) (safe-productions E a) o t (subst Running (sym e) tt)
+    by failed t e H = calm-same d (calm-run E d) (run E d) H (grammar E a) (safe-productions E a) o t (subst Running (sym e) tt)
+    by (stopped w) t e H = idles d (calm (calm-run E d)) w (grammar E a) (idle-productions E a) o t e ∙ sym (idles d (run E d) w (grammar E a) (idle-productions E a) o t e)
 
 -- THE THEOREM: an item read by productions that are left alone once the reader is stopped is the item as the definition reads it
-pub no-begin-after-stop : (L : Limits) (a : ℕ) (s : State) → Running (s .mode) → exec (L .depth) (calm (calm-run (L .depth))) (item-of a) false s ≡ read-item L (item-of a) s
+pub no-begin-after-stop : (L : Limits) (a : ℕ) (s : State) → Running (s .mode) → exec (L .depth) (calm (calm-run (L .entrypoint) (L .depth))) (item-of a) false s ≡ read-item L (item-of a) s
 unfolding read-item safe
-no-begin-after-stop L a s r = calm-same (L .depth) (calm-run (L .depth)) (run (L .depth)) (λ o b u r. calm-run-is (L .depth) o b u) (item-of a) (any-sort (λ p. T (safe p)) tt tt tt a) false s r
+no-begin-after-stop L a s r = calm-same (L .depth) (calm-run (L .entrypoint) (L .depth)) (run (L .entrypoint) (L .depth)) (λ o b u r. calm-run-is (L .entrypoint) (L .depth) o b u) (item-of a) (any-sort (λ p. T (safe p)) tt tt tt a) false s r

@@ -132,7 +132,7 @@ going = record {
 
 reads-goes : (L : Limits) (p : Prog) (s : State) → Goes s (read-item L p s)
 unfolding read-item
-reads-goes L p s = exec-kept (stepped Goes going) (L .depth) (run (L .depth)) (run-kept (stepped Goes going) (L .depth)) p false s
+reads-goes L p s = exec-kept (stepped Goes going) (L .depth) (run (L .entrypoint) (L .depth)) (run-kept (stepped Goes going) (L .entrypoint) (L .depth)) p false s
 
 stray-goes : (s : State) → Goes s (stray-item s)
 stray-goes s =

@@ -1,7 +1,8 @@
 // Puts stored questions to the reader and holds it to the Rust's answers (docs/COMPARED.md says how they were made). A line of vectors.txt is a vector:
 // decimal numbers parted by single spaces. Eight come first: fuel; counts of source bytes and of rows; the Rust's outcome, rows covered, fuel left, and
 // counts of events and of error records. Behind them stand the source's bytes, the rows' ids, the bounds of the rows (0, then each row's end), the events
-// and the error records. The program writes the number of each line that differs or does not read, then how many vectors there are and how many agree.
+// and the error records; an event has four numbers there and a record no item, since the Rust tells neither depth nor item. The program writes the number
+// of each line that differs or does not read, then how many vectors there are and how many agree.
 use desk::read::Reading;
 use kinds::kind;
 use libc::STDOUT_FILENO;
@@ -11,6 +12,8 @@ use shapes::event::END;
 use shapes::event::EVENT;
 use shapes::event::KIND;
 use shapes::event::START;
+use shapes::record::ITEM;
+use shapes::record::next_record;
 use shapes::sort;
 ghost use Prim.Native.Nat.{_+_, _≤_, _<_};
 ghost use lib.ListN.{length};
@@ -18,6 +21,9 @@ ghost use Rattle.shapes.specs.Shapes.{EVENT};
 
 // How many numbers a vector begins with.
 const HEAD: usize = 8;
+
+// How many numbers of an event the Rust tells: all but its depth.
+const TOLD: usize = 4;
 
 // The buffer has no place for a line with more numbers.
 const MOST_BYTES: usize = 8192;
@@ -95,7 +101,7 @@ fn layout(size: u32, rows: u32, events: u32) -> Places
         ids,
         bounds,
         events: list,
-        records: list + EVENT * events as usize,
+        records: list + TOLD * events as usize,
     }
 }
 
@@ -131,16 +137,16 @@ fn move_number(list: &mut [u32], from: usize, to: usize)
     list[to] = list[from];
 }
 
-// The event at the first place joins the list that ends at the second, or, where it closes an empty ERROR node, takes that node's begin event out of the
-// list. The answer is where the list ends then.
+// The event at the first place joins, without its depth, the list that ends at the second, or, where it closes an empty ERROR node, takes that node's begin
+// event out of the list. The answer is where the list ends then.
 fn keep(list: &mut [u32], at: usize, to: usize) -> usize
     requires { ⌜ (to ≤ at) × (at + EVENT ≤ length (now list)) ⌝ }
-    ensures { λ r. ⌜ r ≤ to + EVENT ⌝ }
+    ensures { λ r. ⌜ r ≤ to + 4 ⌝ }
 {
-    if EVENT <= to {
+    if TOLD <= to {
         if is_error(list, at, sort::END) {
-            if is_error(list, to - EVENT, sort::BEGIN) {
-                return to - EVENT;
+            if is_error(list, to - TOLD, sort::BEGIN) {
+                return to - TOLD;
             }
         }
     }
@@ -148,22 +154,53 @@ fn keep(list: &mut [u32], at: usize, to: usize) -> usize
     move_number(list, at + KIND, to + KIND);
     move_number(list, at + START, to + START);
     move_number(list, at + END, to + END);
-    to + EVENT
+    to + TOLD
 }
 
-// Takes empty ERROR nodes out, inside out, since the Rust writes none (docs/DIFFERENCES.md, row 1), and answers by how many events the list is shorter.
-// Behind the list stand zeros, as before.
+// How many events are gone where the list, which ended at one place, ends at another: an empty node has two.
+fn gone(to: usize, next: usize) -> usize
+    ensures { λ r. ⌜ r ≤ 2 ⌝ }
+{
+    if next < to {
+        return 2;
+    }
+    0
+}
+
+// Takes the depths out, which the Rust does not tell, and empty ERROR nodes, inside out, since the Rust writes none (docs/DIFFERENCES.md, row 1), and
+// answers how many events are gone. Behind the list stand zeros, as before.
 fn strip(list: &mut [u32]) -> usize
     ensures { λ r. ⌜ r ≤ length (now (list .entry)) ⌝ }
 {
     let mut at = 0;
     let mut to = 0;
+    let mut dropped = 0;
     while EVENT <= list.len() - at {
-        to = keep(list, at, to);
+        let next = keep(list, at, to);
+        dropped += gone(to, next);
+        to = next;
         at += EVENT;
     }
     cells::clear(&mut list[to..]);
-    (at - to) / EVENT
+    dropped
+}
+
+// Takes the items out of error records, which the Rust does not tell. Behind the list stand zeros, as before.
+fn unnumber(list: &mut [u32]) {
+    let mut at = 0;
+    let mut to = 0;
+    let mut item = ITEM;
+    while at < list.len() {
+        if at == item {
+            item = next_record(list, at - ITEM) + ITEM;
+            at += 1;
+            continue;
+        }
+        move_number(list, at, to);
+        to += 1;
+        at += 1;
+    }
+    cells::clear(&mut list[to..]);
 }
 
 // Whether the room holds the stored list, and behind it zeros.
@@ -245,6 +282,7 @@ fn same_answer(
     if !holds(&list, events) {
         return false;
     }
+    unnumber(&mut notes);
     holds(&notes, records)
 }
 

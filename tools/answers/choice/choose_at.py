@@ -36,8 +36,8 @@ ANS = {
     "part-place-of-start": TEXT,
     "part-place-of-end": TEXT,
     "place-of-requires": f"omega (arith, {{end-of}} .ok, {WIDTH}, {FACTS})",
-    "record-bad-requires": "({pre} .1 .2 .errors, {pre} .2, {pre} .1 .1)",
+    "record-bad-requires": "({pre} .1 .2 .errors, {pre} .2, {pre} .1 .1, {pre} .1 .2 .numbered)",
     "returns-2": f"λ s z w. chose-new {BY} (record-placed {BY} {FORM} ({{if2}} .taken) ({{place-of}} .ensures)) ({{pre}} .3) ({{record-bad}} .ensures s z) {LAST}",
-    "record-requires": f"({{pre}} .1 .2 .errors, {{pre}} .2, omega (arith, {FEW}), {{spelled}} .ensures .spelt .long, {{pre}} .1 .1)",
+    "record-requires": f"({{pre}} .1 .2 .errors, {{pre}} .2, omega (arith, {FEW}), {{spelled}} .ensures .spelt .long, {{pre}} .1 .1, {{pre}} .1 .2 .numbered)",
     "returns-3": f"λ s z w. chose-new {BY} {NAMED} ({{pre}} .3) ({{«record»}} .ensures s z) {LAST}",
 }

@@ -11,16 +11,17 @@ use Rattle.desk.proofs.Writing.{Flushing, flushing, flush-open, flush-o
 # What holds whatever is noted is known where nothing is.
 INV = "({loop} .inv [])"
 ANS = {
-    "Inv-loop": "(l : List ℕ) → Flushing records before (whole s₀ l) (whole s l) events₀ events at index",
+    "Inv-loop": "(l : List ℕ) → Flushing depth records before (whole s₀ l) (whole s l) events₀ events at index",
     "μ-loop": "length records - at",
+    "around-requires": "omega (arith, {pre} .0, {pre} .1)",
     "loop-holds": "λ l. flushing ({pre} .0) ({pre} .1) (omega (arith, {fits} .before))",
     "add-loop": f"omega (arith, {INV} .near, {{good}})",
     "same-length": f"{INV} .puts .long",
-    "returns": "λ l. flush-most ({loop} .inv l) ({if1} .taken)",
-    "put-requires": f"flush-open {INV}",
+    "returns": "λ l. flush-most ({loop} .inv l) ({if1} .taken) ({around} .ensures)",
+    "write-requires": f"flush-open {INV}",
     "add-index": f"omega (arith, {{if1}} .left, {INV} .low)",
     "loop-less": "omega (arith, next-past ({args} .records .now) ({loop} .at) ({loop-test} .taken))",
-    "loop-again": f"λ l. flush-on ({{loop}} .inv l) ({{loop-test}} .taken) ({{if1}} .left) ({{put}} .ensures l) ({{next-record}} .ensures)",
+    "loop-again": f"λ l. flush-on ({{loop}} .inv l) ({{loop-test}} .taken) ({{if1}} .left) ({{write}} .ensures l) ({{next-record}} .ensures)",
     "same-length-2": f"{INV} .puts .long",
-    "returns-2": "λ l. flush-out ({loop} .inv l) ({loop-test} .left)",
+    "returns-2": "λ l. flush-out ({loop} .inv l) ({loop-test} .left) ({around} .ensures)",
 }

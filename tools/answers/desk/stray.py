@@ -25,7 +25,7 @@ V = "noted-wf " + noted(X, f"(enough {X})", f"(lent {X} {S} {LISTS} {OK} ({{pre}
 TOLD = "{tell} .last .1 .1 .1 .1 .0"
 ANS = {
     "start-of-requires": f"omega (arith, {{pre}} .0 .0 .level, {OK} .0 .here)",
-    "record-requires": f"({OK} .2 .errors, {{pre}} .1, omega arith, refl, {OK} .1)",
+    "record-requires": f"({OK} .2 .errors, {{pre}} .1, omega arith, refl, {OK} .1, {OK} .2 .numbered)",
     "tell-requires": f"let v = {V} in ((v .0 .2 .events, v .1 .events), v .0 .2 .since, omega (arith, v .0 .2 .errors, v .1 .errors))",
     "junk-requires": f"let t = {{tell}} .ensures {X} (enough {X}) ({V}) in ({{pre}} .0 .0, (t .wf .0 .2 .events, t .wf .1 .events), t .wf .0 .0 .here, {{pre}} .4)",
     "returns": "λ bytes sc w. let X = source bytes ({args} .ids .now) ({args} .ends .now) in let v = noted-wf " + noted("X", "sc", "w")

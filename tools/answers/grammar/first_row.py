@@ -5,7 +5,7 @@ use mathlib.Core.Path.{sym, _∙_}
 use Rattle.kinds.proofs.Words.{lent-right}
 use Rattle.grammar.proofs.Lines.{unforetold, foretold, missing-end, missing-other}
 """
-UNKNOWN = "unforetold _ _ _ _"
+UNKNOWN = "unforetold _ _ _ _ _"
 MISSED = "({if1} .left) (sym ({set} .given .1) ∙ {part-at} .ensures) ({peek} .ensures)"
 ANS = {
     "returns": UNKNOWN,

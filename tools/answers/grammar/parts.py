@@ -12,17 +12,18 @@ use Rattle.notes.proofs.Lists.{not-yes, not-no}
 use Rattle.notes.proofs.Sticky.{sticky-exec}
 use Rattle.steps.specs.Steps.{whole}
 use Rattle.steps.proofs.Eating.{eat-missed, fails-after}
-use Rattle.grammar.specs.Table.{prog, production, reads}
+use Rattle.grammar.specs.Table.{allowed, prog, production, reads}
 use Rattle.grammar.proofs.Cycle.{from, plus, plusE, plusB, plusP, asksE, asksS, stops, Turns, turns, turns-more, turns-undone, turns-over, begun, closing, made, none-made}
 use Rattle.grammar.proofs.Known.{bit-in, bit-in-still, found-bit, known-idle, known-hit, known-through, known-failed}
 use Rattle.grammar.proofs.Lines.{is-line, node-line, memo-line, row-sound, Going, going, ends-at, ends, goes-on, eat-idle, eat-goes, step-goes, node-goes, memo-goes, many-goes, seq-goes, then-idle, then-goes, when-passes, when-good, when-goes, try-stops, try-on, try-fails, failed-wf, first-missed}
 '''
-S, D, O = "({args} .src .now)", "({args} .d)", "({args} .optional)"
+S, E, O = "({args} .src .now)", "(allowed ({args} .table .now))", "({args} .optional)"
+D = f"{E} ({{args}} .d)"
 ROWS, WF, LENT = "({pre} .1 .0)", "({pre} .1 .1)", "{pre} .1 .3"
 X = "(source ({args} .src .now) ({args} .ids .now) ({args} .ends .now))"
 START = "(whole ({args} .s) ({args} .notes .now))"
 FROM = f"(from {X} {START} ({{args}} .events .now) ({{args}} .errors .now) ({{args}} .scratch .now) {WF})"
-PART = "(prog ({args} .p))"
+PART = f"(prog {E} ({{args}} .p))"
 # where a callee has the events among its parameters; errors and scratch follow, where it has them
 EVENTS = {"trivia": 3, "expect": 5, "step": 8, "begin": 4, "end": 8, "exec": 7, "node": 8, "cached": 8, "many": 6}
 LISTS = {"trivia": 1, "expect": 1, "step": 2, "begin": 1, "end": 2}
@@ -31,9 +32,9 @@ DEPTH = {"exec": 2, "many": 2, "node": 3, "cached": 3}
 LEVEL = {"exec": "8 * a .0 + 2", "many": "8 * a .0 + 4", "node": "0", "cached": "1"}
 MEASURES = {f"μ-{f}": f"4096 * a{' .1' * DEPTH[f]} .0 + {LEVEL[f]}" for f in DEPTH}
 LOOPS = {
-    "exec-Inv-loop": "Going d optional (source src ids ends) i₀ (whole s₀ notes₀) events₀ errors₀ scratch₀ i (whole s notes) events errors scratch",
+    "exec-Inv-loop": "Going (allowed table) d optional (source src ids ends) i₀ (whole s₀ notes₀) events₀ errors₀ scratch₀ i (whole s notes) events errors scratch",
     "exec-μ-loop": "i",
-    "many-Inv-loop": "Turns (reads d true (prog p)) (source src ids ends) (whole s₀ notes₀) (whole s notes) n₀ n events₀ errors₀ scratch₀ events errors scratch",
+    "many-Inv-loop": "Turns (reads (allowed table) d true (prog (allowed table) p)) (source src ids ends) (whole s₀ notes₀) (whole s notes) n₀ n events₀ errors₀ scratch₀ events errors scratch",
     "many-μ-loop": "n",
 }
 
@@ -78,7 +79,7 @@ MANY = {
 }
 
 OPENS = f"(production ({{args}} .kind)) ({{args}} .kind) ({{pre}} .1 .2 .known) {O} {D} ({{args}} .events .now) ({{args}} .errors .now) ({{args}} .scratch .now) {WF} ({{begin}} .ensures {S} ({{args}} .notes .now) ({WF} .0))"
-LINE = f"(is-line ({D} - 1) {O} ({{pre}} .1 .2) ({{exec}} .ensures))"
+LINE = f"(is-line {E} (({{args}} .d) - 1) {O} ({{pre}} .1 .2) ({{exec}} .ensures))"
 NODE = {
     "begin-requires": f"({ROWS} .lines, ({WF} .0 .2 .events, {WF} .1 .events), {WF} .0 .0 .here)",
     "end-requires": f"closing {OPENS} (begun {OPENS}) {ROWS}",
@@ -122,7 +123,7 @@ def row(place):
 
 
 def sound(place):
-    return f"row-sound {I} {REAL} {row(place)}"
+    return f"row-sound {E} {I} {REAL} {row(place)}"
 
 
 def below(more, *facts):
@@ -159,7 +160,7 @@ AHEAD = f"(plusE {HERE} {TRIES})"
 FIRST_IN = f"omega (arith, {sound('how')} .0 .1, {IN})"
 FIRST_ROW = f"({sound('how')} .0 .0, {FIRST_IN})"
 MISSING = "({first-row} .ensures .missed _ _ ({code} .given .1))"
-CODE = f"(row-sound _ {FIRST_ROW} ({MISSING} .row) .0)"
+CODE = f"(row-sound {E} _ {FIRST_ROW} ({MISSING} .row) .0)"
 ENTERED = "({expected} .last .1 .1 .0)"
 PAST = "(whole ({trivia3} .result)"
 GOOD = "({trivia3} .ensures .1 ∙ {if4} .left)"
@@ -189,10 +190,10 @@ EXEC = {
     **again(1, f"(plusE {HERE} {EATEN})", f"{sound('set')} .1", f"eat-goes {AT} {row('set')} {EATEN}", ["expect"]),
     **again(2, HERE, f"{sound('set')} .1", f"eat-idle {AT} {row('set')} ({{if1}} .left)", []),
     "step-requires": f"(asksS {HERE} {ROWS}, {sound('which')} .0, {LENT} .1)",
-    **again(3, f"(plusB {HERE} ({{step}} .ensures))", f"{sound('which')} .1", f"step-goes {AT} {row('which')} (plusB {HERE} ({{step}} .ensures))", ["step"]),
-    "node-requires": below(f"{INV} .wf, node-line {I} {REAL} {row('kind')}"),
+    **again(3, f"(plusB {HERE} ({{step}} .ensures {E}))", f"{sound('which')} .1", f"step-goes {AT} {row('which')} (plusB {HERE} ({{step}} .ensures {E}))", ["step"]),
+    "node-requires": below(f"{INV} .wf, node-line {E} {I} {REAL} {row('kind')}"),
     **again(4, "{node} .ensures", f"{sound('kind')} .2", f"node-goes {AT} {row('kind')} ({{node}} .ensures)", ["node"]),
-    "cached-requires": below(f"{INV} .wf, memo-line {I} {REAL} {row('kind2')}, {sound('kind2')} .0"),
+    "cached-requires": below(f"{INV} .wf, memo-line {E} {I} {REAL} {row('kind2')}, {sound('kind2')} .0"),
     **again(5, "{cached} .ensures", f"{sound('kind2')} .3", f"memo-goes {AT} {row('kind2')} ({{cached}} .ensures)", ["cached"]),
     "many-requires": below(f"{INV} .wf, ({sound('p')} .0 .0, omega (arith, {sound('p')} .0 .1, {IN}))", f"{sound('p')} .0 .1"),
     **again(6, "{many} .ensures", f"{sound('p')} .1", f"many-goes {AT} {row('p')} ({{many}} .ensures)", ["many"]),

@@ -23,7 +23,7 @@ def none(i):
 
 ALL = ", ".join(some(i) for i in range(4))
 READ = [f"{{{name}}} .given .0 .0" for name in NAMES]
-LINE = f"({READ[0]}) (record {{ fuel = {READ[1]}; depth = {READ[2]}; quote = {READ[3]} }})"
+LINE = f"({READ[0]}) (record {{ fuel = {READ[1]}; depth = {READ[2]}; quote = {READ[3]}; entrypoint = {{args}} .entrypoint }})"
 ANS = {f"returns{'-' + str(i + 1) if i else ''}": "rw (" + ", ".join([some(j) for j in range(i)] + [none(i)]) + ")" for i in range(4)}
 ANS["returns-5"] = f"rw ({ALL}) (out-of-range {LINE} (sym ({{allowed}} .ensures) ∙ not-true _ ({{if1}} .taken)))"
 ANS["returns-6"] = f"rw ({ALL}) (in-range {LINE} (sym ({{allowed}} .ensures) ∙ not-false _ ({{if1}} .left)))"

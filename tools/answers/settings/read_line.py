@@ -1,8 +1,10 @@
 WHERE = "lines/read_line"
 USES = """-- `settings::lines::read_line` meets its contract, by the places where the fields end.
 use mathlib.Core.Path.{_∙_}
+use mathlib.Core.Option.{none, some}
 use native.Mathlib.Omega.{arith}
-use Rattle.settings.proofs.Fields.{passed, pass, finish, too-many}
+use Rattle.listing.proofs.Fields.{told}
+use Rattle.settings.proofs.Fields.{passed, pass, finish, too-many, fourth-is, fourth-none}
 """
 
 
@@ -16,5 +18,8 @@ def gone(n):
 
 
 ANS = {f"returns{'-' + str(n + 1) if n else ''}": f"finish {gone(n)} {end(n + 1)} (omega arith)" for n in range(3)}
-ANS["returns-4"] = f"too-many {gone(4)}"
-ANS["returns-5"] = f"{{fields}} .ensures ∙ finish {gone(3)} {end(4)} (omega arith)"
+LAST = "told _ ({read-number} .ensures)"
+ANS["returns-4"] = f"{{fields}} .ensures ∙ finish {gone(3)} {end(4)} (omega arith)"
+ANS["returns-5"] = f"too-many {gone(5)}"
+ANS["returns-6"] = f"fourth-none _ _ _ _ _ ({LAST} none ({{enum-told}} .given .1)) ∙ finish {gone(4)} {end(5)} (omega arith)"
+ANS["returns-7"] = f"{{fields2}} .ensures ∙ fourth-is _ _ _ _ _ ({LAST} (some _) ({{entrypoint}} .given .1)) ∙ finish {gone(4)} {end(5)} (omega arith)"

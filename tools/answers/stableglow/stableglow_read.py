@@ -1,19 +1,19 @@
 WHERE = "stableglow_read"
-USES = """-- The C face of the reader: each case of the enum in numbers.
+USES = """-- The C face of the reader by editions: the line of 19, or the reading's numbers.
 use mathlib.Core.Path.{sym, ap, _∙_}
-use Rattle.definition.specs.Run.{Limits}
-use Rattle.definition.specs.Answer.{after}
-use Rattle.refusals.specs.Judge.{desk}
-use Rattle.desk.specs.declared.read.Reading.{Reading}
-use Rattle.desk.specs.Framing.{afterOf}
-use Rattle.stableglow.specs.Face.{readFace}
+use Rattle.reading.specs.declared.Named.{Named}
+use Rattle.reading.specs.Reading.{outcomeOf}
+use Rattle.stableglow.specs.Face.{readFace, readFaced}
+use Rattle.stableglow.proofs.Lines.{line-told}
 """
-
-DESK = "(desk ({args} .source .now) ({args} .ids .now) ({args} .starts .now) ({args} .ends .now) ({args} .fuel) ({args} .scratch .now) ({args} .events .now) ({args} .errors .now))"
+LEFT = "({read} .last .1 .1 .1 .1 .1 .1 .1 .1 .0) ({read} .last .1 .1 .1 .1 .1 .1 .1 .1 .1 .0) ({read} .last .1 .1 .1 .1 .1 .1 .1 .0)"
 
 
 def told(place):
-    return f"ap (λ (m : Reading). readFace (afterOf m ({{read}} .last .1 .1 .1 .1 .1 .1 .1 .0) ({{read}} .last .1 .1 .1 .1 .1 .1 .1 .1 .0) ({{read}} .last .1 .1 .1 .1 .1 .1 .0))) (sym ({{{place}}} .given .1)) ∙ ap readFace ({{read}} .ensures ∙ ap (λ (L : Limits). after L {DESK}) ({{base}} .ensures))"
+    return f"ap (λ (m : Named). readFace (outcomeOf m {LEFT})) (sym ({{{place}}} .given .1)) ∙ ap readFace ({{read}} .ensures)"
 
 
-ANS = {"returns": told("reading"), "returns-2": told("reading2")}
+ANS = {
+    "returns": f"line-told ({{named}} .given .0 .0) {LEFT} ∙ " + told("named"),
+    "returns-2": f"{{tell}} .ensures {LEFT} ∙ " + told("named2"),
+}

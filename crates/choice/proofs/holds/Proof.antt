@@ -4,8 +4,6 @@ use borrow.Author.Needs.{needs}
 use Rattle.choice.proofs.Spelling.{Looked, looked, looked-here, looked-on, looked-none}
 use Rattle.choice.proofs.holds.Statement.{statement}
 use Rattle.choice.proofs.holds.Tie as tie
-use Rattle.choice.proofs.holds.Reads as reads
-use Rattle.choice.proofs.holds.Lts as lts
 
 abbrev Inv-loop : tie.InvT-loop
 Inv-loop names n name i₀ i = Looked names n name i

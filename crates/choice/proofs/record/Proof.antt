@@ -1,7 +1,7 @@
--- Written from tools/answers/choice/record.py, digest d9770d4ebf9d.
+-- Written from tools/answers/choice/record.py, digest 667fd6273015.
 use mathlib.Core.Path.{_∙_}
 use native.Mathlib.Omega.{arith}
-use lib.ListN.{length-set}
+use lib.ListN.{getD, length-set}
 use Rattle.notes.specs.Whole.{beside}
 use Rattle.choice.proofs.Choosing.{record-full, record-noted}
 use borrow.Author.Needs.{needs}
@@ -24,7 +24,7 @@ add-if1 : tie.Need-add-if1
 add-if1 c = search needs
 
 returns : tie.Need-returns
-returns c = λ s z. record-full (beside (c .before .before .before .before .args .notes .now) s) (c .before .before .before .before .args .start) (c .before .before .before .before .args .end) (c .before .before .before .before .args .form) (c .before .before .before .before .args .count) (c .before .before .before .before .args .names) (c .before .before .before .before .args .errors .now) (omega arith) (c .before .before .before .before .pre .0) (c .if1 .taken)
+returns c = λ s z. record-full (beside (c .before .before .before .before .args .notes .now) s) (c .before .before .before .before .args .start) (c .before .before .before .before .args .end) (c .before .before .before .before .args .form) (getD (c .before .before .before .before .args .notes .now) 10 0) (c .before .before .before .before .args .count) (c .before .before .before .before .args .names) (c .before .before .before .before .args .errors .now) (omega arith) (c .before .before .before .before .pre .0) (c .if1 .taken)
 
 mul-errors : tie.Need-mul-errors
 mul-errors c = search needs
@@ -50,6 +50,9 @@ mul-errors-3 c = search needs
 slice-write-errors-3 : tie.Need-slice-write-errors-3
 slice-write-errors-3 c = simp length-set (omega arith)
 
+element-copy-out-errors : tie.Need-element-copy-out-errors
+element-copy-out-errors c = search needs
+
 cast-errors : tie.Need-cast-errors
 cast-errors c = search needs
 
@@ -61,6 +64,18 @@ mul-errors-4 c = search needs
 
 slice-write-errors-4 : tie.Need-slice-write-errors-4
 slice-write-errors-4 c = simp length-set (omega arith)
+
+cast-errors-2 : tie.Need-cast-errors-2
+cast-errors-2 c = search needs
+
+add-errors-4 : tie.Need-add-errors-4
+add-errors-4 c = search needs
+
+mul-errors-5 : tie.Need-mul-errors-5
+mul-errors-5 c = search needs
+
+slice-write-errors-5 : tie.Need-slice-write-errors-5
+slice-write-errors-5 c = simp length-set (omega arith)
 
 add-spell : tie.Need-add-spell
 add-spell c = search needs
@@ -81,7 +96,7 @@ same-length : tie.Need-same-length
 same-length c = c .before .before .spell .kept .1 .1 .1 .0 ∙ simp length-set
 
 returns-2 : tie.Need-returns-2
-returns-2 c = λ s z. record-noted (c .before .before .before .before .before .before .before .before .args .notes .now) s (c .before .before .before .before .before .before .before .before .pre .4) (c .before .before .before .before .before .before .before .before .args .start) (c .before .before .before .before .before .before .before .before .args .end) (c .before .before .before .before .before .before .before .before .args .form) (c .before .before .before .before .before .before .before .before .args .count) (c .before .before .before .before .before .before .before .before .args .names) (c .before .before .before .before .before .before .before .before .args .errors .now) (omega arith) (c .before .before .before .before .before .before .before .before .pre .0) (c .before .before .before .before .if1 .left) (c .before .before .before .before .before .before .before .before .pre .1) _ (c .before .before .spell .ensures)
+returns-2 c = λ s z. record-noted (c .before .before .before .before .before .before .before .before .before .args .notes .now) s (c .before .before .before .before .before .before .before .before .before .pre .4) (c .before .before .before .before .before .before .before .before .before .args .start) (c .before .before .before .before .before .before .before .before .before .args .end) (c .before .before .before .before .before .before .before .before .before .args .form) (getD (c .before .before .before .before .before .before .before .before .before .args .notes .now) 10 0) (c .before .before .before .before .before .before .before .before .before .args .count) (c .before .before .before .before .before .before .before .before .before .args .names) (c .before .before .before .before .before .before .before .before .before .args .errors .now) (omega arith) (c .before .before .before .before .before .before .before .before .before .pre .0) (c .before .before .before .before .before .if1 .left) (c .before .before .before .before .before .before .before .before .before .pre .1) _ (c .before .before .spell .ensures)
 
 pub record-spec : {M : Type 1} → statement M
 record-spec =
@@ -100,10 +115,15 @@ record-spec =
     add-errors-2
     mul-errors-3
     slice-write-errors-3
+    element-copy-out-errors
     cast-errors
     add-errors-3
     mul-errors-4
     slice-write-errors-4
+    cast-errors-2
+    add-errors-4
+    mul-errors-5
+    slice-write-errors-5
     add-spell
     spell-requires
     add-notes

@@ -1,15 +1,14 @@
 -- `kinds_page::members` is safe and ends: no more is found than was looked at.
 use Prim.Native.Nat.{_≤_, _-_}
-use native.Mathlib.Omega.{arith}
 use borrow.Author.Needs.{needs}
 use Rattle.kinds_page.proofs.members.Statement.{statement}
 use Rattle.kinds_page.proofs.members.Tie as tie
 
 abbrev Inv-loop : tie.InvT-loop
-Inv-loop other sets found₀ n₀ found n = (found ≤ n) × (n ≤ 7168)
+Inv-loop other sets found₀ n₀ found n = (found ≤ n) × (n ≤ 7296)
 
 abbrev μ-loop : tie.MeasureT-loop
-μ-loop other sets found₀ n₀ found n = 7168 - n
+μ-loop other sets found₀ n₀ found n = 7296 - n
 
 loop-holds : tie.Need-loop-holds Inv-loop μ-loop
 loop-holds c = search needs

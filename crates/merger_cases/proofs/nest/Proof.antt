@@ -1,3 +1,4 @@
+-- Written from tools/answers/merger_cases/nest.py, digest c85cd3ab70aa.
 -- `nest` is safe and ends.
 use Prim.Native.Nat.{_≤_, _-_}
 use mathlib.Core.Path.{_≡_, refl, _∙_}
@@ -6,6 +7,9 @@ use native.Mathlib.Omega.{arith}
 use borrow.Author.Needs.{needs}
 use Rattle.merger_cases.proofs.nest.Statement.{statement}
 use Rattle.merger_cases.proofs.nest.Tie as tie
+use Rattle.merger_cases.proofs.nest.Reads as reads
+use Rattle.merger_cases.proofs.nest.Lts as lts
+use Rattle.merger_cases.proofs.put.Reads as put-reads
 
 abbrev Inv-loop : tie.InvT-loop
 Inv-loop events₀ n₀ events n = (n ≤ 500) × (length events ≡ length events₀)
@@ -25,11 +29,17 @@ cast-put-2 c = search needs
 sub-put : tie.Need-sub-put Inv-loop μ-loop
 sub-put c = search needs
 
+cast-put-3 : tie.Need-cast-put-3 Inv-loop μ-loop
+cast-put-3 c = search needs
+
 put-requires : tie.Need-put-requires Inv-loop μ-loop
 put-requires c κs = search needs
 
 sub-put-2 : tie.Need-sub-put-2 Inv-loop μ-loop
 sub-put-2 c = search needs
+
+cast-put-4 : tie.Need-cast-put-4 Inv-loop μ-loop
+cast-put-4 c = search needs
 
 put-requires-2 : tie.Need-put-requires-2 Inv-loop μ-loop
 put-requires-2 c κs = search needs
@@ -59,8 +69,10 @@ nest-spec =
     cast-put
     cast-put-2
     sub-put
+    cast-put-3
     put-requires
     sub-put-2
+    cast-put-4
     put-requires-2
     add-n
     loop-less

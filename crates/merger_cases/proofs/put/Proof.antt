@@ -1,9 +1,12 @@
+-- Written from tools/answers/merger_cases/put.py, digest 3c15a03f1bdd.
 -- `put` is safe.
 use lib.ListN.{length-set}
 use native.Mathlib.Omega.{arith}
 use borrow.Author.Needs.{needs}
 use Rattle.merger_cases.proofs.put.Statement.{statement}
 use Rattle.merger_cases.proofs.put.Tie as tie
+use Rattle.merger_cases.proofs.put.Reads as reads
+use Rattle.merger_cases.proofs.put.Lts as lts
 
 mul-events : tie.Need-mul-events
 mul-events c = search needs
@@ -50,6 +53,18 @@ mul-events-8 c = search needs
 slice-write-events-4 : tie.Need-slice-write-events-4
 slice-write-events-4 c = simp length-set (omega arith)
 
+mul-events-9 : tie.Need-mul-events-9
+mul-events-9 c = search needs
+
+add-events-4 : tie.Need-add-events-4
+add-events-4 c = search needs
+
+mul-events-10 : tie.Need-mul-events-10
+mul-events-10 c = search needs
+
+slice-write-events-5 : tie.Need-slice-write-events-5
+slice-write-events-5 c = simp length-set (omega arith)
+
 same-length : tie.Need-same-length
 same-length c = search needs
 
@@ -78,6 +93,10 @@ put-spec =
     add-events-3
     mul-events-8
     slice-write-events-4
+    mul-events-9
+    add-events-4
+    mul-events-10
+    slice-write-events-5
     same-length
     returns
     returns-2)

@@ -1,7 +1,6 @@
 -- `judge::judged` meets its contract: each return gives the first ground that applies.
-use Prim.Native.Nat.{ℕ, _≤_, _<_}
-use mathlib.Core.Path.{_≡_, sym, _∙_, ap}
-use mathlib.Core.Bool.{Bool, true, false, not}
+use mathlib.Core.Path.{sym, _∙_, ap}
+use mathlib.Core.Bool.{Bool, not}
 use native.Mathlib.Omega.{arith}
 use lib.ListN.{length}
 use borrow.Author.Tests.{lt-ltb, le-ltb}
@@ -11,10 +10,6 @@ use Rattle.refusals.proofs.Judging.{first-is, large-source, large-list,
 use borrow.Author.Needs.{needs}
 use Rattle.refusals.proofs.judged.Statement.{statement}
 use Rattle.refusals.proofs.judged.Tie as tie
-use Rattle.refusals.proofs.judged.Reads as reads
-use Rattle.refusals.proofs.judged.Lts as lts
-use Rattle.refusals.proofs.tiles.Reads as tiles-reads
-use Rattle.refusals.proofs.unknown.Reads as unknown-reads
 
 returns : tie.Need-returns
 returns c = λ fuel sc ev er e. first-is 0 (grounds (desk (c .before .before .before .before .before .args .src .now) (c .before .before .before .before .before .args .ids .now) (c .before .before .before .before .before .args .starts .now) (c .before .before .before .before .before .args .ends .now) fuel sc ev er)) (large-source (length (c .before .before .before .before .before .args .src .now)) (length (c .before .before .before .before .before .args .ids .now)) (length (c .before .before .before .before .before .args .starts .now)) (length (c .before .before .before .before .before .args .ends .now)) (c .if1 .taken))

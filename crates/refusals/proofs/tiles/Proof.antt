@@ -7,8 +7,6 @@ use Rattle.refusals.proofs.Judging.{Tiling, tiling-apart, tiling-flat, 
 use borrow.Author.Needs.{needs}
 use Rattle.refusals.proofs.tiles.Statement.{statement}
 use Rattle.refusals.proofs.tiles.Tie as tie
-use Rattle.refusals.proofs.tiles.Reads as reads
-use Rattle.refusals.proofs.tiles.Lts as lts
 
 abbrev Inv-loop : tie.InvT-loop
 Inv-loop size starts ends reached₀ at₀ reached at = (at ≤ length ends) × (reached < 2 ^ 32) × Tiling size starts ends reached at

@@ -8,9 +8,6 @@ use Rattle.refusals.proofs.Judging.{Sought, sought-here, sought-on, sou
 use borrow.Author.Needs.{needs}
 use Rattle.refusals.proofs.unknown.Statement.{statement}
 use Rattle.refusals.proofs.unknown.Tie as tie
-use Rattle.refusals.proofs.unknown.Reads as reads
-use Rattle.refusals.proofs.unknown.Lts as lts
-use Rattle.kinds.proofs.is_id.Reads as is-id-reads
 
 abbrev Inv-loop : tie.InvT-loop
 Inv-loop ids at₀ at = (at ≤ length ids) × Sought no-id ids at

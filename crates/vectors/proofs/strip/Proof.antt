@@ -7,10 +7,10 @@ use Rattle.vectors.proofs.strip.Statement.{statement}
 use Rattle.vectors.proofs.strip.Tie as tie
 
 abbrev Inv-loop : tie.InvT-loop
-Inv-loop list₀ at₀ to₀ list at to = (to ≤ at) × (at ≤ length list) × (length list ≡ length list₀)
+Inv-loop list₀ at₀ to₀ dropped₀ list at to dropped = (to ≤ at) × (at ≤ length list) × (dropped ≤ at) × (length list ≡ length list₀)
 
 abbrev μ-loop : tie.MeasureT-loop
-μ-loop list₀ at₀ to₀ list at to = length list₀ - at
+μ-loop list₀ at₀ to₀ dropped₀ list at to dropped = length list₀ - at
 
 loop-holds : tie.Need-loop-holds Inv-loop μ-loop
 loop-holds c = search needs
@@ -20,6 +20,12 @@ sub-loop c = search needs
 
 keep-requires : tie.Need-keep-requires Inv-loop μ-loop
 keep-requires c κs = search needs
+
+gone-requires : tie.Need-gone-requires Inv-loop μ-loop
+gone-requires c κs = search needs
+
+add-dropped : tie.Need-add-dropped Inv-loop μ-loop
+add-dropped c = search needs
 
 add-at : tie.Need-add-at Inv-loop μ-loop
 add-at c = search needs
@@ -45,9 +51,6 @@ part-clear-end c = search needs
 clear-requires : tie.Need-clear-requires Inv-loop μ-loop
 clear-requires c κs = search needs
 
-sub-result : tie.Need-sub-result Inv-loop μ-loop
-sub-result c = search needs
-
 same-length : tie.Need-same-length Inv-loop μ-loop
 same-length c = search needs
 
@@ -63,6 +66,8 @@ strip-spec =
     loop-holds
     sub-loop
     keep-requires
+    gone-requires
+    add-dropped
     add-at
     loop-less
     loop-again
@@ -71,6 +76,5 @@ strip-spec =
     part-clear-start
     part-clear-end
     clear-requires
-    sub-result
     same-length
     returns)

@@ -1,7 +1,6 @@
 -- `decode` meets its contract: the first byte tells how many follow.
-use mathlib.Core.Path.{_≡_, refl, sym, ap, ap₂, _∙_}
 use borrow.Author.Tests.{lt-ltb, le-ltb}
-use Rattle.cutter.specs.Glyph.{decoded}
+use Rattle.cutter.specs.Decoded.{decoded}
 use borrow.Author.Needs.{needs}
 use Rattle.cutter.proofs.characters.decode.Statement.{statement}
 use Rattle.cutter.proofs.characters.decode.Tie as tie

@@ -1,10 +1,11 @@
 -- `decode_four` meets its contract.
-use Prim.Native.Nat.{ℕ, _+_, _-_, _*_, _%_, _≤_, _<_}
-use mathlib.Core.Path.{_≡_, refl, sym, ap, ap₂, _∙_}
+use Prim.Native.Nat.{ℕ, _-_, _≤_}
+use mathlib.Core.Path.{_≡_, sym, _∙_}
 use mathlib.Core.Bool.{true, false, cond, _&&_}
 use native.Mathlib.Omega.{arith}
 use borrow.Author.Tests.{not-true, not-false}
-use Rattle.cutter.specs.Glyph.{follower, two, three, four, plain, high, stray}
+use Rattle.cutter.specs.Glyph.{four}
+use Rattle.cutter.specs.Decoded.{follower, high, stray}
 use Rattle.cutter.proofs.Chars.{follower-low, follower-high, high-low, high-past, high-in, four-on, four-off, first, second, third, fourth, less}
 use borrow.Author.Needs.{needs}
 use Rattle.cutter.proofs.characters.decode_four.Statement.{statement}

@@ -1,10 +1,11 @@
 -- `decode_three` meets its contract.
-use Prim.Native.Nat.{ℕ, _+_, _-_, _*_, _%_, _≤_, _<_}
-use mathlib.Core.Path.{_≡_, refl, sym, ap, ap₂, _∙_}
+use Prim.Native.Nat.{ℕ, _-_, _≤_}
+use mathlib.Core.Path.{_≡_, sym, _∙_}
 use mathlib.Core.Bool.{true, false, cond, _&&_}
 use native.Mathlib.Omega.{arith}
 use borrow.Author.Tests.{not-true, not-false}
-use Rattle.cutter.specs.Glyph.{follower, two, three, four, plain, high, stray}
+use Rattle.cutter.specs.Glyph.{three}
+use Rattle.cutter.specs.Decoded.{follower, plain, stray}
 use Rattle.cutter.proofs.Chars.{follower-low, follower-high, plain-low, plain-mid, plain-surrogate, plain-high, three-on, three-off, first, second, third}
 use borrow.Author.Needs.{needs}
 use Rattle.cutter.proofs.characters.decode_three.Statement.{statement}

@@ -1,10 +1,10 @@
 -- `decode_two` meets its contract.
-use Prim.Native.Nat.{ℕ, _+_, _-_, _*_, _%_, _≤_, _<_}
-use mathlib.Core.Path.{_≡_, refl, sym, ap, ap₂, _∙_}
-use mathlib.Core.Bool.{true, false, cond, _&&_}
+use Prim.Native.Nat.{_-_, _≤_}
+use mathlib.Core.Path.{_≡_, sym, _∙_}
+use mathlib.Core.Bool.{true}
 use native.Mathlib.Omega.{arith}
 use borrow.Author.Tests.{not-true, not-false}
-use Rattle.cutter.specs.Glyph.{follower, two, three, four, plain, high, stray}
+use Rattle.cutter.specs.Decoded.{follower}
 use Rattle.cutter.proofs.Chars.{follower-low, follower-high, one-on, one-off}
 use borrow.Author.Needs.{needs}
 use Rattle.cutter.proofs.characters.decode_two.Statement.{statement}

@@ -1,18 +1,15 @@
 -- `glyph_at` meets its contract.
-use Prim.Native.Nat.{ℕ, _+_, _-_, _*_, _%_, _≤_, _<_}
-use mathlib.Core.Path.{_≡_, refl, sym, ap, ap₂, _∙_}
-use mathlib.Core.Bool.{true, false, cond, _&&_}
+use Prim.Native.Nat.{ℕ, _+_, _-_, _*_, _≤_, _<_}
+use mathlib.Core.Path.{_≡_, sym, ap, _∙_}
 use native.Mathlib.Omega.{arith}
 use borrow.Author.Needs.{needs}
-use mathlib.Core.List.{List, []}
-use lib.ListN.{length, getD, drop}
-use Rattle.cutter.specs.Classes.{wides, wideClass}
-use Rattle.cutter.specs.Glyph.{decoded, spread, glyph}
+use lib.ListN.{length, getD}
+use Rattle.cutter.specs.Glyph.{glyph}
+use Rattle.cutter.specs.Decoded.{spread}
 use Rattle.cutter.specs.Lent.{numberOf, glyphOf}
 use Rattle.cutter.specs.Table.{classTable}
 use Rattle.cutter.specs.declared.glyph.Glyph.{Glyph}
 use Rattle.cutter.proofs.Tests.{class-at, class-count, lead-at}
-use Rattle.cutter.proofs.Ranges.{wide-small}
 use Rattle.cutter.proofs.Glyphs.{glyph-some, glyph-within, glyph-class, is-lead, no-lead, spread-stray, spread-wide, same-bytes}
 use Rattle.cutter.proofs.glyph.glyph_at.Statement.{statement}
 use Rattle.cutter.proofs.glyph.glyph_at.Tie as tie

@@ -1,5 +1,4 @@
 -- `within` meets its contract.
-use mathlib.Core.Path.{_≡_, refl, sym, ap, ap₂, _∙_}
 use borrow.Author.Tests.{lt-leb, le-leb}
 use Rattle.cutter.proofs.glyph.within.Statement.{statement}
 use Rattle.cutter.proofs.glyph.within.Tie as tie

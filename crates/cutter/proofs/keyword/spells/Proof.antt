@@ -1,13 +1,10 @@
 -- `spells` meets its contract: what is left of both texts decides.
-use Prim.Native.Nat.{ℕ, _+_, _-_, _*_, _%_, _≤_, _<_}
-use mathlib.Core.Path.{_≡_, refl, sym, ap, ap₂, _∙_}
-use mathlib.Core.Bool.{true, false, cond, _&&_}
+use Prim.Native.Nat.{ℕ, _+_, _-_, _*_, _≤_, _<_}
+use mathlib.Core.Path.{_≡_, refl, sym, ap, _∙_}
 use native.Mathlib.Omega.{arith}
-use borrow.Author.Needs.{needs}
 use mathlib.Core.List.{List, []}
 use lib.ListN.{length, getD, drop}
 use Rattle.cutter.specs.Rows.{same, keywords}
-use Rattle.cutter.specs.Table.{keyTable}
 use Rattle.cutter.proofs.Keys.{key-at, key-count, key-length, key-letter, other-length, agree, differ, finished}
 use Rattle.cutter.proofs.keyword.spells.Statement.{statement}
 use Rattle.cutter.proofs.keyword.spells.Tie as tie

@@ -1,14 +1,13 @@
 -- `longest_from` meets its contract. The invariant: what the state may still match, from i on, decides.
-use Prim.Native.Nat.{ℕ, _+_, _-_, _*_, _%_, _≤_, _<_}
-use mathlib.Core.Path.{_≡_, refl, sym, ap, ap₂, _∙_}
-use mathlib.Core.Bool.{true, false, cond, _&&_}
+use Prim.Native.Nat.{ℕ, _+_, _-_, _*_, _≤_, _<_}
+use mathlib.Core.Path.{_≡_, refl, sym, ap, _∙_}
 use native.Mathlib.Omega.{arith}
 use borrow.Author.Needs.{needs}
-use mathlib.Core.List.{List, []}
-use lib.ListN.{length, getD, take, drop, length-drop, length-take}
+use mathlib.Core.List.{List}
+use lib.ListN.{length, getD, drop, length-drop}
 use Rattle.cutter.specs.Expr.{Match, walk, longest}
 use Rattle.cutter.specs.Glyph.{glyph}
-use Rattle.cutter.specs.Lent.{label, best, glyphOf, matchOf, Inside}
+use Rattle.cutter.specs.Lent.{label, best, glyphOf}
 use Rattle.cutter.specs.Table.{nextTable, endTable}
 use Rattle.cutter.proofs.Tests.{next-count, end-count}
 use Rattle.cutter.proofs.Walks as w

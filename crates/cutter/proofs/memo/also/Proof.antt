@@ -1,8 +1,7 @@
 -- `also` meets its contract.
-use Prim.Native.Nat.{ℕ, _+_, _-_, _*_, _≤_, _<_}
-use mathlib.Core.Path.{_≡_, refl, sym, ap, ap₂, subst, _∙_}
+use Prim.Native.Nat.{ℕ, _-_}
+use mathlib.Core.Path.{_≡_}
 use native.Mathlib.Omega.{arith}
-use borrow.Author.Needs.{needs}
 use Rattle.cutter.proofs.memo.also.Statement.{statement}
 use Rattle.cutter.proofs.memo.also.Tie as tie
 

@@ -1,9 +1,7 @@
 -- `nothing` meets its contract: state 0 ends no row.
-use Prim.Native.Nat.{ℕ, _+_, _-_, _*_, _≤_, _<_}
-use mathlib.Core.Path.{_≡_, refl, sym, ap, ap₂, subst, _∙_}
+use Prim.Native.Nat.{_-_}
+use mathlib.Core.Path.{refl}
 use native.Mathlib.Omega.{arith}
-use borrow.Author.Needs.{needs}
-use mathlib.Core.List.{List, []}
 use Rattle.cutter.proofs.Runs.{hop-zero}
 use Rattle.cutter.proofs.memo.nothing.Statement.{statement}
 use Rattle.cutter.proofs.memo.nothing.Tie as tie

@@ -1,10 +1,10 @@
 -- `count` meets its contract. The invariant: the rows counted, and those from `at` on, are all.
-use Prim.Native.Nat.{ℕ, _+_, _-_, _*_, _≤_, _<_}
-use mathlib.Core.Path.{_≡_, refl, sym, ap, ap₂, subst, _∙_}
+use Prim.Native.Nat.{ℕ, _+_, _-_, _≤_}
+use mathlib.Core.Path.{_≡_, ap}
 use native.Mathlib.Omega.{arith}
 use borrow.Author.Needs.{needs}
-use mathlib.Core.List.{List, []}
-use lib.ListN.{length, getD, take, drop, length-drop}
+use mathlib.Core.List.{List}
+use lib.ListN.{length, drop}
 use Rattle.cutter.specs.Rows.{row, rows, cutting}
 use Rattle.cutter.specs.Lent.{turnOf, Stands}
 use Rattle.cutter.proofs.Stands.{stands, onwards}

@@ -1,14 +1,14 @@
 -- `fill` meets its contract. The invariant: the rows from `at` on are those from the n-th on, and n rows are written.
-use Prim.Native.Nat.{ℕ, _+_, _-_, _*_, _≤_, _<_}
-use mathlib.Core.Path.{_≡_, refl, sym, ap, ap₂, subst, _∙_}
+use Prim.Native.Nat.{ℕ, _+_, _-_, _≤_, _<_}
+use mathlib.Core.Path.{_≡_, refl, sym, ap, _∙_}
 use native.Mathlib.Omega.{arith}
 use borrow.Author.Needs.{needs}
 use mathlib.Core.List.{List, [], _∷_}
-use lib.ListN.{length, getD, set, take, drop, length-drop, length-set}
+use lib.ListN.{length, getD, set, drop, length-drop}
 use Rattle.cutter.specs.Rows.{row, rows, cutting}
 use Rattle.cutter.specs.Lent.{turnOf, Stands}
 use Rattle.cutter.proofs.Stands.{stands, onwards}
-use Rattle.cutter.proofs.Fills.{Triple, turn, over, begun, wrote, wrote-length, wrote-more, wrote-all, nth, below}
+use Rattle.cutter.proofs.Fills.{turn, over, begun, wrote, wrote-length, wrote-more, wrote-all, nth, below}
 use Rattle.cutter.proofs.Tiling.{few}
 use Rattle.cutter.proofs.pass.fill.Statement.{statement}
 use Rattle.cutter.proofs.pass.fill.Tie as tie

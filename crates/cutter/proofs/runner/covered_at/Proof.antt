@@ -1,12 +1,9 @@
 -- `covered_at` meets its contract.
-use Prim.Native.Nat.{ℕ, _+_, _-_, _*_, _≤_, _<_}
-use mathlib.Core.Path.{_≡_, refl, sym, ap, ap₂, subst, _∙_}
+use Prim.Native.Nat.{ℕ, _-_, _<_}
+use mathlib.Core.Path.{_≡_, sym, ap, subst, _∙_}
 use native.Mathlib.Omega.{arith}
 use borrow.Author.Needs.{needs}
-use mathlib.Core.Bool.{true, false}
-use mathlib.Core.List.{List, [], _∷_}
-use lib.ListN.{length, getD, take, drop, length-drop}
-use Rattle.cutter.specs.Table.{nextTable, endTable}
+use lib.ListN.{length, length-drop}
 use Rattle.cutter.specs.Glyph.{glyph}
 use Rattle.cutter.specs.Lent.{Hop, quiet, glyphOf, covers}
 use lib.Dec.{T}

@@ -1,14 +1,10 @@
 -- `follow` meets its contract: from `at` on the state ends no row.
-use Prim.Native.Nat.{ℕ, _+_, _-_, _*_, _≤_, _<_}
-use mathlib.Core.Path.{_≡_, refl, sym, ap, ap₂, subst, _∙_}
+use Prim.Native.Nat.{_+_, _-_, _≤_, _<_}
+use mathlib.Core.Path.{_≡_, sym, ap, subst, _∙_}
 use native.Mathlib.Omega.{arith}
-use borrow.Author.Needs.{needs}
-use mathlib.Core.Bool.{true, false}
-use mathlib.Core.List.{List, [], _∷_}
-use lib.ListN.{length, getD, take, drop, length-drop}
-use Rattle.cutter.specs.Table.{nextTable, endTable}
+use lib.ListN.{length, take, drop, length-drop}
 use Rattle.cutter.specs.Glyph.{glyph}
-use Rattle.cutter.specs.Lent.{Hop, Run, quiet, glyphOf}
+use Rattle.cutter.specs.Lent.{Hop, glyphOf}
 use Rattle.cutter.proofs.Walks as w
 use Rattle.cutter.proofs.Runs as r
 use Rattle.cutter.proofs.runner.follow.Statement.{statement}

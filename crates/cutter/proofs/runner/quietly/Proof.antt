@@ -1,11 +1,10 @@
 -- `quietly` meets its contract.
-use Prim.Native.Nat.{ℕ, _+_, _-_, _*_, _≤_, _<_}
-use mathlib.Core.Path.{_≡_, refl, sym, ap, ap₂, subst, _∙_}
+use Prim.Native.Nat.{ℕ, _+_, _-_, _*_, _<_}
+use mathlib.Core.Path.{_≡_, sym, ap, subst}
 use native.Mathlib.Omega.{arith}
 use borrow.Author.Needs.{needs}
-use mathlib.Core.List.{List, [], _∷_}
-use lib.ListN.{length, getD, take, drop, length-drop}
-use Rattle.cutter.specs.Table.{nextTable, endTable}
+use lib.ListN.{length, getD}
+use Rattle.cutter.specs.Table.{endTable}
 use Rattle.cutter.specs.Lent.{to}
 use Rattle.cutter.proofs.Tests.{next-count, end-count, next-at}
 use Rattle.cutter.proofs.Runs as r

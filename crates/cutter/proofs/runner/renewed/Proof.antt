@@ -1,8 +1,6 @@
 -- `renewed` meets its contract.
-use Prim.Native.Nat.{ℕ, _+_, _-_, _*_, _≤_, _<_}
-use mathlib.Core.Path.{_≡_, refl, sym, ap, ap₂, subst, _∙_}
+use Prim.Native.Nat.{_-_}
 use native.Mathlib.Omega.{arith}
-use borrow.Author.Needs.{needs}
 use Rattle.cutter.proofs.Runs.{hop-failed}
 use Rattle.cutter.proofs.runner.renewed.Statement.{statement}
 use Rattle.cutter.proofs.runner.renewed.Tie as tie

@@ -1,10 +1,11 @@
--- Written from tools/answers/desk/items.py, digest d97366b8e3ab.
+-- Written from tools/answers/desk/items.py, digest ff56f4b41806.
 -- `desk::items::items` meets its contract. The loop's invariant: as many items were read as were counted. Assumes nothing.
 use Prim.Native.Nat.{_+_, _-_, _≤_}
 use mathlib.Core.Path.{_≡_, refl, sym, _∙_}
 use native.Mathlib.Omega.{arith}
 use lib.ListN.{length}
 use Rattle.notes.specs.Means.{source, bufs}
+use Rattle.grammar.specs.Table.{allowed}
 use Rattle.desk.specs.Items.{tally, Goes}
 use Rattle.desk.proofs.Between.{items-none, idles, goes-as, goes-then}
 use borrow.Author.Needs.{needs}
@@ -16,13 +17,13 @@ use Rattle.desk.proofs.items.item.Reads as item-reads
 use Rattle.desk.proofs.items.over.Reads as over-reads
 
 abbrev Inv-loop : tie.InvT-loop
-Inv-loop d₀ depth src ids ends events₀ errors₀ scratch₀ notes₀ table sets n₀ d events errors scratch notes n = Goes depth (length ids - n) (source src ids ends) (tally d₀ notes₀) (tally d notes) (bufs events₀ errors₀ scratch₀) (bufs events errors scratch) × (n ≤ length ids) × (length events ≡ length events₀) × (length errors ≡ length errors₀) × (length scratch ≡ length scratch₀)
+Inv-loop d₀ depth src ids ends events₀ errors₀ scratch₀ notes₀ table sets n₀ d events errors scratch notes n = Goes (depth, allowed table) 1 (length ids - n) (source src ids ends) (tally d₀ notes₀) (tally d notes) (bufs events₀ errors₀ scratch₀) (bufs events errors scratch) × (n ≤ length ids) × (length events ≡ length events₀) × (length errors ≡ length errors₀) × (length scratch ≡ length scratch₀)
 
 abbrev μ-loop : tie.MeasureT-loop
 μ-loop d₀ depth src ids ends events₀ errors₀ scratch₀ notes₀ table sets n₀ d events errors scratch notes n = n
 
 loop-holds : tie.Need-loop-holds Inv-loop μ-loop
-loop-holds c = (goes-as 0 (length (c .before .before .before .before .before .before .args .ids .now) - length (c .before .before .before .before .before .before .args .ids .now)) (omega arith) (items-none (c .before .before .before .before .before .before .pre .1) (c .before .before .before .before .before .before .pre .2)), omega arith, refl, refl, refl)
+loop-holds c = (goes-as 0 (length (c .before .before .before .before .before .before .args .ids .now) - length (c .before .before .before .before .before .before .args .ids .now)) (omega arith) (items-none 1 (c .before .before .before .before .before .before .pre .1) (c .before .before .before .before .before .before .pre .2)), omega arith, refl, refl, refl)
 
 over-requires : tie.Need-over-requires Inv-loop μ-loop
 over-requires c κs = search needs
@@ -37,10 +38,16 @@ same-length-3 : tie.Need-same-length-3 Inv-loop μ-loop
 same-length-3 c = c .before .before .before .loop .inv .4
 
 returns : tie.Need-returns Inv-loop μ-loop
-returns c = let N = length (c .before .before .before .before .before .before .before .before .before .before .args .ids .now) in let n = c .before .before .before .loop .n in let i = c .before .before .before .loop .inv in goes-as (N - n + n) N (omega (arith, i .1)) (goes-then (N - n) n (i .0) (idles (i .0 .wf) (i .0 .settles) n (sym (c .before .over .ensures) ∙ c .if1 .taken)))
+returns c = let N = length (c .before .before .before .before .before .before .before .before .before .before .args .ids .now) in let n = c .before .before .before .loop .n in let i = c .before .before .before .loop .inv in goes-as (N - n + n) N (omega (arith, i .1)) (goes-then 1 (N - n) n (i .0) (idles (i .0 .wf) (i .0 .settles) (N - n + 1) n (sym (c .before .over .ensures) ∙ c .if1 .taken)))
+
+sub-item : tie.Need-sub-item Inv-loop μ-loop
+sub-item c = search needs
+
+add-item : tie.Need-add-item Inv-loop μ-loop
+add-item c = search needs
 
 item-requires : tie.Need-item-requires Inv-loop μ-loop
-item-requires c κs = (c .before .before .before .before .before .before .before .before .before .before .before .before .before .before .pre .0, c .before .before .before .before .before .before .before .loop .inv .0 .wf, c .before .before .before .before .before .before .before .loop .inv .0 .settles, c .before .before .before .before .before .before .before .before .before .before .before .before .before .before .pre .3)
+item-requires c κs = (c .before .before .before .before .before .before .before .before .before .before .before .before .before .before .pre .0, c .before .before .before .before .before .before .before .loop .inv .0 .wf, c .before .before .before .before .before .before .before .loop .inv .0 .settles, omega (arith, c .before .before .before .before .before .before .before .loop .inv .1, c .before .before .before .before .before .before .loop-test .taken), c .before .before .before .before .before .before .before .before .before .before .before .before .before .before .pre .3)
 
 sub-n : tie.Need-sub-n Inv-loop μ-loop
 sub-n c = omega arith
@@ -49,7 +56,7 @@ loop-less : tie.Need-loop-less Inv-loop μ-loop
 loop-less c = omega arith
 
 loop-again : tie.Need-loop-again Inv-loop μ-loop
-loop-again c = let N = length (c .before .before .before .before .before .before .before .before .before .before .before .before .before .before .before .before .before .before .before .before .before .args .ids .now) in let n = c .before .before .before .before .before .before .before .before .before .before .before .before .before .before .loop .n in let i = c .before .before .before .before .before .before .before .before .before .before .before .before .before .before .loop .inv in (goes-as (N - n + 1) (N - (n - 1)) (omega (arith, i .1, c .before .before .before .before .before .before .before .before .before .before .before .before .before .loop-test .taken)) (goes-then (N - n) 1 (i .0) (c .before .before .before .before .before .before .item .ensures)), omega (arith, i .1), c .before .before .before .before .before .before .item .kept .1 .1 .1 .1 .1 .0 ∙ i .2, c .before .before .before .before .before .before .item .kept .1 .1 .1 .1 .1 .1 .0 ∙ i .3, c .before .before .before .before .before .before .item .kept .1 .1 .1 .1 .1 .1 .1 .0 ∙ i .4)
+loop-again c = let N = length (c .before .before .before .before .before .before .before .before .before .before .before .before .before .before .before .before .before .before .before .before .before .args .ids .now) in let n = c .before .before .before .before .before .before .before .before .before .before .before .before .before .before .loop .n in let i = c .before .before .before .before .before .before .before .before .before .before .before .before .before .before .loop .inv in (goes-as (N - n + 1) (N - (n - 1)) (omega (arith, i .1, c .before .before .before .before .before .before .before .before .before .before .before .before .before .loop-test .taken)) (goes-then 1 (N - n) 1 (i .0) (c .before .before .before .before .before .before .item .ensures)), omega (arith, i .1), c .before .before .before .before .before .before .item .kept .1 .1 .1 .1 .1 .1 .0 ∙ i .2, c .before .before .before .before .before .before .item .kept .1 .1 .1 .1 .1 .1 .1 .0 ∙ i .3, c .before .before .before .before .before .before .item .kept .1 .1 .1 .1 .1 .1 .1 .1 .0 ∙ i .4)
 
 same-length-4 : tie.Need-same-length-4 Inv-loop μ-loop
 same-length-4 c = c .before .loop .inv .2
@@ -75,6 +82,8 @@ items-spec =
     same-length-2
     same-length-3
     returns
+    sub-item
+    add-item
     item-requires
     sub-n
     loop-less

@@ -1,4 +1,4 @@
--- Written from tools/answers/desk/stray.py, digest 6d335f00acde.
+-- Written from tools/answers/desk/stray.py, digest e3e5cd32a3e1.
 -- `desk::items::stray` meets its contract. Assumes nothing.
 use native.Mathlib.Omega.{arith}
 use mathlib.Core.List.{[]}
@@ -27,7 +27,7 @@ shared-slice-read-end : tie.Need-shared-slice-read-end
 shared-slice-read-end c = search needs
 
 record-requires : tie.Need-record-requires
-record-requires c κs = ((c .before .before .before .before .before .before .before .before .pre .0 .1) .2 .errors, c .before .before .before .before .before .before .before .before .pre .1, omega arith, refl, (c .before .before .before .before .before .before .before .before .pre .0 .1) .1)
+record-requires c κs = ((c .before .before .before .before .before .before .before .before .pre .0 .1) .2 .errors, c .before .before .before .before .before .before .before .before .pre .1, omega arith, refl, (c .before .before .before .before .before .before .before .before .pre .0 .1) .1, (c .before .before .before .before .before .before .before .before .pre .0 .1) .2 .numbered)
 
 tell-requires : tie.Need-tell-requires
 tell-requires c κs = let v = noted-wf (source [] (c .before .before .before .before .before .before .before .before .before .before .before .before .before .before .args .ids .now) (c .before .before .before .before .before .before .before .before .before .before .before .before .before .before .args .ends .now)) (whole (c .before .before .before .before .before .before .before .before .before .before .before .before .before .before .args .s) (c .before .before .before .before .before .before .before .before .before .before .before .before .before .before .args .notes .now)) _ (c .before .before .before .before .before .before .before .before .before .before .before .before .before .before .args .before) (c .before .before .before .before .before .before .before .before .before .start-of .result) _ (c .before .before .before .before .before .before .before .before .before .before .before .before .before .before .args .events .now) (c .before .before .before .before .before .before .before .before .before .before .before .before .before .before .args .errors .now) _ (enough (source [] (c .before .before .before .before .before .before .before .before .before .before .before .before .before .before .args .ids .now) (c .before .before .before .before .before .before .before .before .before .before .before .before .before .before .args .ends .now))) (c .before .before .before .before .before .before .before .before .before .before .before .before .before .before .pre .0 .0) (c .before .before .before .before .before .before .before .before .before .before .before .before .before .before .pre .2) (c .before .before .before .before .before .before .before .before .before .before .before .before .before .before .pre .3) (lent (source [] (c .before .before .before .before .before .before .before .before .before .before .before .before .before .before .args .ids .now) (c .before .before .before .before .before .before .before .before .before .before .before .before .before .before .args .ends .now)) (whole (c .before .before .before .before .before .before .before .before .before .before .before .before .before .before .args .s) (c .before .before .before .before .before .before .before .before .before .before .before .before .before .before .args .notes .now)) (c .before .before .before .before .before .before .before .before .before .before .before .before .before .before .args .events .now) (c .before .before .before .before .before .before .before .before .before .before .before .before .before .before .args .errors .now) (c .before .before .before .before .before .before .before .before .before .before .before .before .before .before .pre .0 .1) (c .before .before .before .before .before .before .before .before .before .before .before .before .before .before .pre .0 .2) (c .before .before .before .before .before .before .before .before .before .before .before .before .before .before .pre .1)) (c .before .before .before .before .before .before .before .before .before .start-of .ensures) refl (c .before .before .before .before .before .«record» .ensures (whole (c .before .before .before .before .before .before .before .before .before .before .before .before .before .before .args .s) (c .before .before .before .before .before .before .before .before .before .before .before .before .before .before .args .notes .now)) (c .before .before .before .before .before .before .before .before .before .before .before .before .before .before .pre .3)) in ((v .0 .2 .events, v .1 .events), v .0 .2 .since, omega (arith, v .0 .2 .errors, v .1 .errors))

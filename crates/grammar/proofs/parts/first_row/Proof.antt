@@ -1,4 +1,4 @@
--- Written from tools/answers/grammar/first_row.py, digest 107abf647706.
+-- Written from tools/answers/grammar/first_row.py, digest 5788904eab09.
 -- What is known of a part by its first row.
 use native.Mathlib.Omega.{arith}
 use mathlib.Core.Path.{sym, _∙_}
@@ -14,7 +14,7 @@ use Rattle.kinds.proofs.within.Reads as within-reads
 use Rattle.notes.proofs.rows.peek.Reads as peek-reads
 
 returns : tie.Need-returns
-returns c = unforetold _ _ _ _
+returns c = unforetold _ _ _ _ _
 
 part-at-requires : tie.Need-part-at-requires
 part-at-requires c κs = (c .before .before .pre .0, c .before .before .pre .1 .0)
@@ -23,7 +23,7 @@ enum-known-set : tie.Need-enum-known-set
 enum-known-set c = search needs
 
 returns-2 : tie.Need-returns-2
-returns-2 c = unforetold _ _ _ _
+returns-2 c = unforetold _ _ _ _ _
 
 peek-requires : tie.Need-peek-requires
 peek-requires c κs = c .before .before .before .before .before .before .pre .2
@@ -41,7 +41,7 @@ within-requires : tie.Need-within-requires
 within-requires c κs = search needs
 
 returns-4 : tie.Need-returns-4
-returns-4 c = unforetold _ _ _ _
+returns-4 c = unforetold _ _ _ _ _
 
 returns-5 : tie.Need-returns-5
 returns-5 c = foretold (missing-other (c .before .before .before .before .before .before .before .before .before .if1 .left) (sym (c .before .before .before .before .before .before .set .given .1) ∙ c .before .before .before .before .before .before .before .before .part-at .ensures) (c .before .before .before .before .peek .ensures) (c .before .before .before .if2 .left) (sym (c .if3 .left) ∙ c .before .within .ensures ∙ lent-right (c .before .before .before .before .before .before .before .before .before .before .before .args .sets .now) (c .before .before .before .before .before .before .before .before .before .before .before .pre .1 .1) _ _))

@@ -6,7 +6,8 @@ use native.Mathlib.Omega.{arith}
 use borrow.Author.Needs.{needs}
 use Rattle.shapes.specs.Shapes.{EVENT}
 use Rattle.merger.specs.Count.{counted}
-use Rattle.merger.specs.Events.{markOf, entry-at, rest}
+use Rattle.events.specs.Events.{entry-at}
+use Rattle.merger.specs.Events.{markOf, rest}
 use Rattle.merger.specs.declared.judge.Tally.the-variants as tally
 use Rattle.merger.proofs.Counting.{comes, comes-first, comes-turn, comes-last, comes-open, tallied-more}
 use Rattle.merger.proofs.Reading.{other-at, rest-end}

@@ -1,5 +1,5 @@
 -- `is_error` is the definition's test of an ERROR event.
-use Rattle.merger.specs.Events.{entryOf}
+use Rattle.events.specs.Events.{entryOf}
 use Rattle.merger.proofs.Reading.{of-sort, of-other}
 use Rattle.merger.proofs.marks.is_error.Statement.{statement}
 use Rattle.merger.proofs.marks.is_error.Tie as tie

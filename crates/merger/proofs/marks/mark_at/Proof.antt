@@ -3,7 +3,7 @@ use mathlib.Core.Path.{ap, sym, _∙_}
 use borrow.Author.Needs.{needs}
 use Rattle.shapes.specs.Sort as Sort
 use Rattle.definition.specs.Merge.{error-of}
-use Rattle.merger.specs.Events.{entryOf}
+use Rattle.events.specs.Events.{entryOf}
 use Rattle.merger.proofs.Reading.{opens-at, keeps-at}
 use Rattle.merger.proofs.marks.mark_at.Statement.{statement}
 use Rattle.merger.proofs.marks.mark_at.Tie as tie

@@ -1,9 +1,12 @@
--- `put` leaves the event in its four cells.
+-- Written from tools/answers/merger/put.py, digest 34535ba44157.
+-- `put` leaves the event in its five cells.
 use lib.ListN.{length-set}
 use native.Mathlib.Omega.{arith}
 use borrow.Author.Needs.{needs}
 use Rattle.merger.proofs.marks.put.Statement.{statement}
 use Rattle.merger.proofs.marks.put.Tie as tie
+use Rattle.merger.proofs.marks.put.Reads as reads
+use Rattle.merger.proofs.marks.put.Lts as lts
 
 mul-room : tie.Need-mul-room
 mul-room c = search needs
@@ -38,6 +41,15 @@ mul-room-4 c = search needs
 slice-write-room-4 : tie.Need-slice-write-room-4
 slice-write-room-4 c = simp length-set (omega arith)
 
+add-room-4 : tie.Need-add-room-4
+add-room-4 c = search needs
+
+mul-room-5 : tie.Need-mul-room-5
+mul-room-5 c = search needs
+
+slice-write-room-5 : tie.Need-slice-write-room-5
+slice-write-room-5 c = simp length-set (omega arith)
+
 same-length : tie.Need-same-length
 same-length c = search needs
 
@@ -59,5 +71,8 @@ put-spec =
     add-room-3
     mul-room-4
     slice-write-room-4
+    add-room-4
+    mul-room-5
+    slice-write-room-5
     same-length
     returns)

@@ -5,7 +5,8 @@ use lib.ListN.{length}
 use native.Mathlib.Omega.{arith}
 use borrow.Author.Needs.{needs}
 use Rattle.definition.specs.Merge.{finished}
-use Rattle.merger.specs.Events.{entryOf, rest}
+use Rattle.events.specs.Events.{entryOf}
+use Rattle.merger.specs.Events.{rest}
 use Rattle.merger.specs.Pen.{page}
 use Rattle.merger.proofs.Reading.{other-at, rest-end}
 use Rattle.merger.proofs.Drafting.{Draft, started, able, drafted, completed}

@@ -1,4 +1,4 @@
--- Written from tools/answers/settings/fields.py, digest 8a6cd2848cf3.
+-- Written from tools/answers/settings/fields.py, digest 96c4f16eb5a1.
 -- `settings::lines::fields` meets its contract: a field that is no number, or a value out of its range, makes the line one that does not read.
 use mathlib.Core.Path.{sym, _∙_}
 use mathlib.Core.Option.{none, some}
@@ -65,10 +65,10 @@ allowed-requires : tie.Need-allowed-requires
 allowed-requires c κs = search needs
 
 returns-5 : tie.Need-returns-5
-returns-5 c = rw (told (c .before .before .before .before .before .before .before .before .before .before .before .before .before .before .before .before .before .before .before .before .before .before .args .edition .now) (c .before .before .before .before .before .before .before .before .before .before .before .before .before .before .before .before .before .read-number .ensures) (some _) (c .before .before .before .before .before .before .before .before .before .before .before .before .before .before .before .edition .given .1), told (c .before .before .before .before .before .before .before .before .before .before .before .before .before .before .before .before .before .before .before .before .before .before .args .fuel .now) (c .before .before .before .before .before .before .before .before .before .before .before .before .before .read-number2 .ensures) (some _) (c .before .before .before .before .before .before .before .before .before .before .before .fuel .given .1), told (c .before .before .before .before .before .before .before .before .before .before .before .before .before .before .before .before .before .before .before .before .before .before .args .depth .now) (c .before .before .before .before .before .before .before .before .before .read-number3 .ensures) (some _) (c .before .before .before .before .before .before .before .depth .given .1), told (c .before .before .before .before .before .before .before .before .before .before .before .before .before .before .before .before .before .before .before .before .before .before .args .quote .now) (c .before .before .before .before .before .read-number4 .ensures) (some _) (c .before .before .before .quote .given .1)) (out-of-range (c .before .before .before .before .before .before .before .before .before .before .before .before .before .before .before .edition .given .0 .0) (record { fuel = c .before .before .before .before .before .before .before .before .before .before .before .fuel .given .0 .0; depth = c .before .before .before .before .before .before .before .depth .given .0 .0; quote = c .before .before .before .quote .given .0 .0 }) (sym (c .before .allowed .ensures) ∙ not-true _ (c .if1 .taken)))
+returns-5 c = rw (told (c .before .before .before .before .before .before .before .before .before .before .before .before .before .before .before .before .before .before .before .before .before .before .args .edition .now) (c .before .before .before .before .before .before .before .before .before .before .before .before .before .before .before .before .before .read-number .ensures) (some _) (c .before .before .before .before .before .before .before .before .before .before .before .before .before .before .before .edition .given .1), told (c .before .before .before .before .before .before .before .before .before .before .before .before .before .before .before .before .before .before .before .before .before .before .args .fuel .now) (c .before .before .before .before .before .before .before .before .before .before .before .before .before .read-number2 .ensures) (some _) (c .before .before .before .before .before .before .before .before .before .before .before .fuel .given .1), told (c .before .before .before .before .before .before .before .before .before .before .before .before .before .before .before .before .before .before .before .before .before .before .args .depth .now) (c .before .before .before .before .before .before .before .before .before .read-number3 .ensures) (some _) (c .before .before .before .before .before .before .before .depth .given .1), told (c .before .before .before .before .before .before .before .before .before .before .before .before .before .before .before .before .before .before .before .before .before .before .args .quote .now) (c .before .before .before .before .before .read-number4 .ensures) (some _) (c .before .before .before .quote .given .1)) (out-of-range (c .before .before .before .before .before .before .before .before .before .before .before .before .before .before .before .edition .given .0 .0) (record { fuel = c .before .before .before .before .before .before .before .before .before .before .before .fuel .given .0 .0; depth = c .before .before .before .before .before .before .before .depth .given .0 .0; quote = c .before .before .before .quote .given .0 .0; entrypoint = c .before .before .before .before .before .before .before .before .before .before .before .before .before .before .before .before .before .before .before .before .before .before .args .entrypoint }) (sym (c .before .allowed .ensures) ∙ not-true _ (c .if1 .taken)))
 
 returns-6 : tie.Need-returns-6
-returns-6 c = rw (told (c .before .before .before .before .before .before .before .before .before .before .before .before .before .before .before .before .before .before .before .before .before .before .args .edition .now) (c .before .before .before .before .before .before .before .before .before .before .before .before .before .before .before .before .before .read-number .ensures) (some _) (c .before .before .before .before .before .before .before .before .before .before .before .before .before .before .before .edition .given .1), told (c .before .before .before .before .before .before .before .before .before .before .before .before .before .before .before .before .before .before .before .before .before .before .args .fuel .now) (c .before .before .before .before .before .before .before .before .before .before .before .before .before .read-number2 .ensures) (some _) (c .before .before .before .before .before .before .before .before .before .before .before .fuel .given .1), told (c .before .before .before .before .before .before .before .before .before .before .before .before .before .before .before .before .before .before .before .before .before .before .args .depth .now) (c .before .before .before .before .before .before .before .before .before .read-number3 .ensures) (some _) (c .before .before .before .before .before .before .before .depth .given .1), told (c .before .before .before .before .before .before .before .before .before .before .before .before .before .before .before .before .before .before .before .before .before .before .args .quote .now) (c .before .before .before .before .before .read-number4 .ensures) (some _) (c .before .before .before .quote .given .1)) (in-range (c .before .before .before .before .before .before .before .before .before .before .before .before .before .before .before .edition .given .0 .0) (record { fuel = c .before .before .before .before .before .before .before .before .before .before .before .fuel .given .0 .0; depth = c .before .before .before .before .before .before .before .depth .given .0 .0; quote = c .before .before .before .quote .given .0 .0 }) (sym (c .before .allowed .ensures) ∙ not-false _ (c .if1 .left)))
+returns-6 c = rw (told (c .before .before .before .before .before .before .before .before .before .before .before .before .before .before .before .before .before .before .before .before .before .before .args .edition .now) (c .before .before .before .before .before .before .before .before .before .before .before .before .before .before .before .before .before .read-number .ensures) (some _) (c .before .before .before .before .before .before .before .before .before .before .before .before .before .before .before .edition .given .1), told (c .before .before .before .before .before .before .before .before .before .before .before .before .before .before .before .before .before .before .before .before .before .before .args .fuel .now) (c .before .before .before .before .before .before .before .before .before .before .before .before .before .read-number2 .ensures) (some _) (c .before .before .before .before .before .before .before .before .before .before .before .fuel .given .1), told (c .before .before .before .before .before .before .before .before .before .before .before .before .before .before .before .before .before .before .before .before .before .before .args .depth .now) (c .before .before .before .before .before .before .before .before .before .read-number3 .ensures) (some _) (c .before .before .before .before .before .before .before .depth .given .1), told (c .before .before .before .before .before .before .before .before .before .before .before .before .before .before .before .before .before .before .before .before .before .before .args .quote .now) (c .before .before .before .before .before .read-number4 .ensures) (some _) (c .before .before .before .quote .given .1)) (in-range (c .before .before .before .before .before .before .before .before .before .before .before .before .before .before .before .edition .given .0 .0) (record { fuel = c .before .before .before .before .before .before .before .before .before .before .before .fuel .given .0 .0; depth = c .before .before .before .before .before .before .before .depth .given .0 .0; quote = c .before .before .before .quote .given .0 .0; entrypoint = c .before .before .before .before .before .before .before .before .before .before .before .before .before .before .before .before .before .before .before .before .before .before .args .entrypoint }) (sym (c .before .allowed .ensures) ∙ not-false _ (c .if1 .left)))
 
 pub fields-spec : {M : Type 1} → statement M
 fields-spec =

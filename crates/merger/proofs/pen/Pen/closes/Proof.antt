@@ -1,10 +1,15 @@
+-- Written from tools/answers/merger/closes.py, digest 86342593816a.
 -- `closes` is what the mark does to room and pen.
-use borrow.Author.Needs.{needs}
-use Rattle.merger.specs.Events.{entryOf}
+use Rattle.events.specs.Events.{entryOf}
 use Rattle.merger.specs.Pen.{page}
 use Rattle.merger.proofs.Turning.{shuts}
+use borrow.Author.Needs.{needs}
 use Rattle.merger.proofs.pen.Pen.closes.Statement.{statement}
 use Rattle.merger.proofs.pen.Pen.closes.Tie as tie
+use Rattle.merger.proofs.pen.Pen.closes.Reads as reads
+use Rattle.merger.proofs.pen.Pen.closes.Lts as lts
+use Rattle.events.proofs.read.Reads as read-reads
+use Rattle.merger.proofs.marks.put.Reads as put-reads
 
 sub-begin : tie.Need-sub-begin
 sub-begin c = search needs
@@ -30,17 +35,14 @@ put-requires c κs = search needs
 put-requires-2 : tie.Need-put-requires-2
 put-requires-2 c κs = search needs
 
-add-t9 : tie.Need-add-t9
-add-t9 c = search needs
+add-t10 : tie.Need-add-t10
+add-t10 c = search needs
 
 same-length : tie.Need-same-length
 same-length c = search needs
 
 returns : tie.Need-returns
-returns c =
-    let s = c .before .before .before .before .before .before .before .before .before .before .before .before .before .before .args in
-    let e = c .before .before .before .before .before .before .before .before .before .before .read in
-    shuts (page (s .room .now) (s .self)) (entryOf (e .result)) (e .ensures) _ _ (c .before .before .before .before .before .before .put .ensures) (c .before .before .put2 .ensures)
+returns c = shuts (page (c .before .before .before .before .before .before .before .before .before .before .before .before .before .before .args .room .now) (c .before .before .before .before .before .before .before .before .before .before .before .before .before .before .args .self)) (entryOf (c .before .before .before .before .before .before .before .before .before .before .read .result)) (c .before .before .before .before .before .before .before .before .before .before .read .ensures) (c .before .before .before .before .before .before .before .before .before .before .before .before .before .before .args .depth) _ _ (c .before .before .before .before .before .before .put .ensures) (c .before .before .put2 .ensures)
 
 pub closes-spec : {M : Type 1} → statement M
 closes-spec =
@@ -54,6 +56,6 @@ closes-spec =
     add-node
     put-requires
     put-requires-2
-    add-t9
+    add-t10
     same-length
     returns)

@@ -1,6 +1,6 @@
 -- `joins` is what the mark does to room and pen.
 use borrow.Author.Needs.{needs}
-use Rattle.merger.specs.Events.{entryOf}
+use Rattle.events.specs.Events.{entryOf}
 use Rattle.merger.specs.Pen.{page}
 use Rattle.merger.proofs.Turning.{widens}
 use Rattle.merger.proofs.pen.Pen.joins.Statement.{statement}

@@ -1,0 +1,354 @@
+-- A listing that the program could have written converts. Assumes nothing.
+use Prim.Native.Nat.{ℕ, zero, suc, _+_, _-_, _/_, _%_, _^_, _≤_, _<_}
+use mathlib.Core.Path.{_≡_, refl, sym, ap, ap₂, subst, _∙_}
+use mathlib.Core.Logic.{⊎-elim}
+use mathlib.Core.List.{List, [], _∷_, _++_, map, append-assoc, append-nil}
+use mathlib.Core.Bool.{Bool, true, false, cond, not, _&&_, _||_}
+use native.Mathlib.Omega.{arith}
+use borrow.Author.Tests.{eq-eqb, ne-eqb, eqb-true, eqb-false, lt-ltb, ltb-true, le-leb, lt-leb}
+use lib.Dec.{eqb, leb, ltb}
+use lib.ListN.{length, getD, List·getD-append}
+use Rattle.kinds.specs.Spelling.{kindText, nameText, spellings}
+use Rattle.kinds.proofs.Tables.{all, all-sound}
+use Rattle.kinds.proofs.Spelt.{kind-at, name-at}
+use Rattle.shapes.specs.Sort as Sort
+use Rattle.shapes.specs.Shapes.{HEAD, FORM, COUNT}
+use Rattle.listing.specs.Numbers.{value, decimal}
+use Rattle.listing.specs.Lines.{parted}
+use Rattle.listing.specs.Listing.{led, joined, lineWith, headLine, nodeLine, namesOf, placeOf, errorLine, recordsFrom, eventLine, eventLines, resultLine}
+use Rattle.listing.proofs.Digits.{reads, reads-back, decimal-one, decimal-more}
+use Rattle.listing.proofs.Either.{either}
+use Rattle.listing.proofs.Lent.{in-parts}
+use Rattle.editions.specs.Words.{equal, unpadded, plain, kindAmong, nameNumber}
+use Rattle.editions.specs.Fields.{plains, node, has, fresh, named, place, placed, formOf, error}
+use Rattle.editions.specs.Sorts.{RESULT, ALONE, NODES, KINDS, lettered, sortOf}
+use Rattle.editions.specs.Editions.{allowed, opened, field, ends, stepAt, headText, headStep, lines, madeOf, ended}
+use Rattle.editions.specs.Program.{Small, Distinct, Recorded, Event, begin, token, close, fault, Events, Could, was-read, was-refused, was-unread}
+use Rattle.editions.proofs.Texts.{is-some}
+use Rattle.editions.proofs.Steps.{result-ends, alone-ends}
+use Rattle.editions.proofs.Marks.{Free, Each, free-one, free-append, free-decimal, both}
+use Rattle.editions.proofs.Back.{Goes, last, more, event-up, end-up, remade}
+
+-- WORDS
+
+-- no byte is a mark: neither a tab, nor a line feed, nor a comma
+abbrev bland : List ℕ → Bool
+bland [] = true
+bland (b ∷ bs) = (ltb 44 b || eqb b 32) && bland bs
+
+bland-free : (m : ℕ) → m ≤ 44 → (m ≡ 32 → ⊥) → (t : List ℕ) → bland t ≡ true → Free m t
+bland-free m h k [] e = refl
+bland-free m h k (b ∷ bs) e =
+    let d = both (ltb 44 b || eqb b 32) (bland bs) e in
+    free-one m b bs (ne-eqb b m (λ i. go (ltb 44 b) refl (d .0) i)) (bland-free m h k bs (d .1))
+  where
+    go : (t : Bool) → ltb 44 b ≡ t → (t || eqb b 32) ≡ true → b ≡ m → ⊥
+    go true j x i = omega (arith, ltb-true 44 b j)
+    go false j x i = k (sym i ∙ eqb-true b 32 x)
+
+all-bland : all (λ n. bland (getD spellings n [])) 207 ≡ true
+all-bland = refl
+
+kind-bland : (k : ℕ) → k < 122 → bland (kindText k) ≡ true
+kind-bland k h = ap bland (sym (kind-at k h)) ∙ all-sound (λ n. bland (getD spellings n [])) 207 all-bland k (omega arith)
+
+name-bland : (n : ℕ) → n < 85 → bland (nameText n) ≡ true
+name-bland n h = ap bland (sym (name-at n)) ∙ all-sound (λ n. bland (getD spellings n [])) 207 all-bland (122 + n) (omega arith)
+
+own-nodes : all (λ k. kindAmong 87 122 (kindText (87 + k))) 35 ≡ true
+unfolding kindAmong kindText
+own-nodes = refl
+
+own-rows : all (λ k. kindAmong 0 87 (kindText k)) 87 ≡ true
+unfolding kindAmong kindText
+own-rows = refl
+
+own-names : all (λ n. eqb (nameNumber (nameText n)) n) 85 ≡ true
+unfolding nameNumber nameText
+own-names = refl
+
+node-kind : (k : ℕ) → 87 ≤ k → k < 122 → kindAmong 87 122 (kindText k) ≡ true
+node-kind k h i =
+    let e : k ≡ 87 + (k - 87) = omega arith in
+    ap (λ (n : ℕ). kindAmong 87 122 (kindText n)) e
+    ∙ all-sound (λ k. kindAmong 87 122 (kindText (87 + k))) 35 own-nodes (k - 87) (omega arith)
+
+row-kind : (k : ℕ) → k < 87 → kindAmong 0 87 (kindText k) ≡ true
+row-kind k h = all-sound (λ k. kindAmong 0 87 (kindText k)) 87 own-rows k h
+
+own-name : (n : ℕ) → n < 85 → nameNumber (nameText n) ≡ n
+own-name n h = eqb-true (nameNumber (nameText n)) n (all-sound (λ n. eqb (nameNumber (nameText n)) n) 85 own-names n h)
+
+-- the first digit of a number from 1 on is not 0
+lead : (k n : ℕ) → n < k → 1 ≤ n → getD (decimal n) 0 0 ≡ 48 → ⊥
+lead zero n h p e = omega arith
+lead (suc k) n h p e = ⊎-elim one (λ l. many l (lead k (n / 10))) (either n 10)
+  where
+    one : n < 10 → ⊥
+    one l = omega (arith, e, ap (λ (t : List ℕ). getD t 0 0) (decimal-one n l))
+
+    many : 10 ≤ n → (n / 10 < k → 1 ≤ n / 10 → getD (decimal (n / 10)) 0 0 ≡ 48 → ⊥) → ⊥
+    many l f =
+        f (omega arith) (omega arith)
+        (sym (List·getD-append (decimal (n / 10)) ((48 + n % 10) ∷ []) 0 0 (reads (n / 10) .some-digit))
+        ∙ ap (λ (t : List ℕ). getD t 0 0) (decimal-more n l)
+        ∙ e)
+
+unpadded-decimal : (n : ℕ) → unpadded (decimal n) ≡ true
+unpadded-decimal n = ⊎-elim one many (either n 10)
+  where
+    one : n < 10 → unpadded (decimal n) ≡ true
+    one l = ap unpadded (sym (decimal-one n l))
+
+    led-by : (t : List ℕ) → (getD t 0 0 ≡ 48 → ⊥) → unpadded t ≡ true
+    led-by [] h = refl
+    led-by (b ∷ []) h = refl
+    led-by (b ∷ c ∷ t) h = ap not (ne-eqb b 48 h)
+
+    many : 10 ≤ n → unpadded (decimal n) ≡ true
+    many l = led-by (decimal n) (lead (suc n) n (omega arith) (omega arith))
+
+plain-decimal : (n : ℕ) → Small n → plain (decimal n) ≡ true
+unfolding plain
+plain-decimal n h = ap₂ (λ (a b : Bool). a && b) (is-some (decimal n) (reads-back n h) .0) (unpadded-decimal n)
+
+-- FIELDS
+
+-- a text and fields behind it, each with the mark in front
+parted-led : (m : ℕ) (t : List ℕ) (fs : List (List ℕ)) → Free m t → Each (Free m) fs → parted m (t ++ led m fs) ≡ t ∷ fs
+parted-led m t [] f g = ap (parted m) (append-nil t) ∙ f
+parted-led m t (u ∷ fs) f g =
+    in-parts m t (u ++ led m fs)
+    ∙ ap (λ (ps : List (List ℕ)). ps ++ parted m (u ++ led m fs)) f
+    ∙ ap (λ (ps : List (List ℕ)). t ∷ ps) (parted-led m u fs (g .0) (g .1))
+
+free-led : (m k : ℕ) → eqb k m ≡ false → (fs : List (List ℕ)) → Each (Free m) fs → Free m (led k fs)
+free-led m k e [] f = refl
+free-led m k e (u ∷ fs) f = free-one m k (u ++ led k fs) e (free-append m u (led k fs) (f .0) (free-led m k e fs (f .1)))
+
+-- a line's text without its line feed: it has none inside, and this sort
+record Line (text : List ℕ) (sort : ℕ) : Type 0 where
+  body : List ℕ
+  is : text ≡ body ++ (10 ∷ [])
+  free : Free 10 body
+  sorts : sortOf (parted 9 body) ≡ sort
+
+a-line : (c : ℕ) (fs : List (List ℕ)) (s : ℕ) → eqb c 9 ≡ false → eqb c 10 ≡ false → Each (Free 9) fs → Each (Free 10) fs → lettered c fs ≡ s → Line (lineWith c fs) s
+unfolding sortOf
+a-line c fs s e f g h i =
+    record {
+      body = c ∷ led 9 fs;
+      is = refl;
+      free = free-one 10 c (led 9 fs) f (free-led 10 9 refl fs h);
+      sorts = ap sortOf (parted-led 9 (c ∷ []) fs (free-one 9 c [] e refl) g) ∙ i;
+    }
+
+decimals-free : (m : ℕ) → m < 48 → (ns : List ℕ) → Each (Free m) (map decimal ns)
+decimals-free m h [] = tt
+decimals-free m h (n ∷ ns) = (free-decimal m h n, decimals-free m h ns)
+
+plains-two : (a b : ℕ) → Small a → Small b → plains 2 (decimal a ∷ decimal b ∷ []) ≡ true
+plains-two a b h k = ap₂ (λ (x y : Bool). x && (y && true)) (plain-decimal a h) (plain-decimal b k)
+
+-- the letter and the sort of a node's lines
+node-line : (c k s e sort : ℕ) → eqb c 9 ≡ false → eqb c 10 ≡ false → k < 122
+    → lettered c (kindText k ∷ decimal s ∷ decimal e ∷ []) ≡ sort → Line (nodeLine c k s e) sort
+node-line c k s e sort x y h i =
+    a-line c (kindText k ∷ decimal s ∷ decimal e ∷ []) sort x y
+    (bland-free 9 (omega arith) (λ j. omega arith) (kindText k) (kind-bland k h), decimals-free 9 (omega arith) (s ∷ e ∷ []))
+    (bland-free 10 (omega arith) (λ j. omega arith) (kindText k) (kind-bland k h), decimals-free 10 (omega arith) (s ∷ e ∷ []))
+    i
+
+result : (a b c : ℕ) → Small a → Small b → Small c → Line (resultLine a b c) RESULT
+unfolding lettered
+result a b c h i j =
+    a-line 82 (map decimal (a ∷ b ∷ c ∷ [])) RESULT refl refl (decimals-free 9 (omega arith) (a ∷ b ∷ c ∷ [])) (decimals-free 10 (omega arith) (a ∷ b ∷ c ∷ []))
+    (ap (λ (t : Bool). cond t RESULT 0)
+    (ap₂ (λ (x y : Bool). x && y) (plain-decimal a h) (plains-two b c i j)))
+
+alone : (c n : ℕ) → eqb c 9 ≡ false → eqb c 10 ≡ false → lettered c (decimal n ∷ []) ≡ ALONE → Line (lineWith c (map decimal (n ∷ []))) ALONE
+alone c n x y i = a-line c (decimal n ∷ []) ALONE x y (decimals-free 9 (omega arith) (n ∷ [])) (decimals-free 10 (omega arith) (n ∷ [])) i
+
+refusal-sort : (n : ℕ) → Small n → lettered 70 (decimal n ∷ []) ≡ ALONE
+unfolding lettered
+refusal-sort n h = ap (λ (t : Bool). cond (t && true) ALONE 0) (plain-decimal n h)
+
+unread-sort : (n : ℕ) → Small n → lettered 78 (decimal n ∷ []) ≡ ALONE
+unfolding lettered
+unread-sort n h = ap (λ (t : Bool). cond (t && true) ALONE 0) (plain-decimal n h)
+
+-- AN ERROR'S LINE
+
+fresh-names : (seen ns : List ℕ) → Distinct seen ns → fresh seen (map nameText ns) ≡ true
+fresh-names seen [] d = refl
+fresh-names seen (n ∷ ns) (h, f, d) =
+    ap (λ (k : ℕ). ltb k 85 && not (has k seen) && fresh (k ∷ seen) (map nameText ns)) (own-name n h)
+    ∙ ap₂ (λ (x y : Bool). x && not y && fresh (n ∷ seen) (map nameText ns)) (lt-ltb n 85 h) f
+    ∙ fresh-names (n ∷ seen) ns d
+
+names-free : (m : ℕ) → m ≤ 44 → (m ≡ 32 → ⊥) → (seen ns : List ℕ) → Distinct seen ns → Each (Free m) (map nameText ns)
+names-free m h k seen [] d = tt
+names-free m h k seen (n ∷ ns) (i, f, d) = (bland-free m h k (nameText n) (name-bland n i), names-free m h k (n ∷ seen) ns d)
+
+joined-free : (m : ℕ) → eqb 45 m ≡ false → eqb 44 m ≡ false → (ts : List (List ℕ)) → Each (Free m) ts → Free m (joined ts)
+joined-free m x y [] f = free-one m 45 [] x refl
+joined-free m x y (t ∷ ts) f = free-append m t (led 44 ts) (f .0) (free-led m 44 y ts (f .1))
+
+-- the names of a record as its form has them
+names-told : (form : ℕ) (ns : List ℕ) → (form ≤ 3 → 0 < length ns) → (form ≤ 3 → Distinct [] ns) → (3 < form → ns ≡ []) → named form (joined (map nameText ns)) ≡ true
+names-told form ns s d z = ⊎-elim many few (either 3 form)
+  where
+    many : 3 < form → named form (joined (map nameText ns)) ≡ true
+    many h =
+        ap (λ (t : Bool). cond t (fresh [] (parted 44 (joined (map nameText ns)))) (equal (joined (map nameText ns)) (45 ∷ []))) (lt-leb form 3 h)
+        ∙ ap (λ (l : List ℕ). equal (joined (map nameText l)) (45 ∷ [])) (z h)
+
+    go : (l : List ℕ) → 0 < length l → Distinct [] l → fresh [] (parted 44 (joined (map nameText l))) ≡ true
+    go [] h i = absurd (omega arith)
+    go (n ∷ l) h i =
+        let f = names-free 44 (omega arith) (λ j. omega arith) [] (n ∷ l) i in
+        ap (fresh []) (parted-led 44 (nameText n) (map nameText l) (f .0) (f .1))
+        ∙ fresh-names [] (n ∷ l) i
+
+    few : form ≤ 3 → named form (joined (map nameText ns)) ≡ true
+    few h =
+        ap (λ (t : Bool). cond t (fresh [] (parted 44 (joined (map nameText ns)))) (equal (joined (map nameText ns)) (45 ∷ []))) (le-leb form 3 h)
+        ∙ go ns (s h) (d h)
+
+form-back : (n : ℕ) → n ≤ 10 → formOf (decimal n) ≡ n
+unfolding formOf
+form-back n h =
+    ap (λ (t : Bool). cond (t && leb (value (decimal n)) 10) (value (decimal n)) 0) (plain-decimal n (omega arith))
+    ∙ ap (λ (k : ℕ). cond (leb k 10) k 0) (reads n .value-of)
+    ∙ ap (λ (t : Bool). cond t n 0) (le-leb n 10 h)
+
+place-told : (form p : ℕ) → Small p → place form (cond (eqb form 9) (decimal p ∷ []) []) ≡ true
+place-told form p h = go (eqb form 9) refl
+  where
+    go : (t : Bool) → eqb form 9 ≡ t → place form (cond t (decimal p ∷ []) []) ≡ true
+    go true e = ap₂ (λ (x y : Bool). x && (y && true)) e (plain-decimal p h)
+    go false e = refl
+
+module _ (l : List ℕ) (r : Recorded l) where
+  record-names-free : (m : ℕ) → m ≤ 44 → (m ≡ 32 → ⊥) → Each (Free m) (map nameText (namesOf l))
+  record-names-free m h k =
+      ⊎-elim
+      (λ i. subst (λ (ns : List ℕ). Each (Free m) (map nameText ns)) (sym (r .no-names i)) tt)
+      (λ i. names-free m h k [] (namesOf l) (r .distinct i))
+      (either 3 (getD l FORM 0))
+
+  fields-free : (m : ℕ) → m < 44 → (m ≡ 32 → ⊥) → Each (Free m) (map decimal (getD l FORM 0 ∷ getD l 0 0 ∷ getD l 1 0 ∷ []) ++ (joined (map nameText (namesOf l)) ∷ placeOf l))
+  unfolding placeOf
+  fields-free m h k = (
+    free-decimal m (omega arith) (getD l FORM 0),
+    (
+      free-decimal m (omega arith) (getD l 0 0),
+      (
+        free-decimal m (omega arith) (getD l 1 0),
+        (
+          joined-free m (ne-eqb 45 m (λ i. omega arith)) (ne-eqb 44 m (λ i. omega arith)) (map nameText (namesOf l)) (record-names-free m (omega arith) k),
+          go (eqb (getD l FORM 0) 9),
+        ),
+      ),
+    ),
+  )
+    where
+      go : (t : Bool) → Each (Free m) (cond t (decimal (getD l (HEAD + getD l COUNT 0) 0) ∷ []) [])
+      go true = (free-decimal m (omega arith) (getD l (HEAD + getD l COUNT 0) 0), tt)
+      go false = tt
+
+  error-reads : error (map decimal (getD l FORM 0 ∷ getD l 0 0 ∷ getD l 1 0 ∷ []) ++ (joined (map nameText (namesOf l)) ∷ placeOf l)) ≡ true
+  unfolding placeOf
+  error-reads =
+      ap (λ (n : ℕ). not (eqb n 0) && plain (decimal (getD l 0 0)) && plain (decimal (getD l 1 0)) && placed n (joined (map nameText (namesOf l)) ∷ placeOf l)) (form-back (getD l FORM 0) (r .form-most))
+      ∙ ap₂ (λ (x y : Bool). not x && y && plain (decimal (getD l 1 0)) && placed (getD l FORM 0) (joined (map nameText (namesOf l)) ∷ placeOf l)) (ne-eqb (getD l FORM 0) 0 (λ i. omega (arith, r .form-least))) (plain-decimal (getD l 0 0) (r .start))
+      ∙ ap₂ (λ (x y : Bool). x && (y && place (getD l FORM 0) (placeOf l))) (plain-decimal (getD l 1 0) (r .end)) (names-told (getD l FORM 0) (namesOf l) (r .some-names) (r .distinct) (r .no-names))
+      ∙ place-told (getD l FORM 0) (getD l (HEAD + getD l COUNT 0) 0) (r .place)
+
+  error-line : Line (errorLine l) Sort.ERROR
+  unfolding errorLine lettered
+  error-line =
+      a-line 88 (map decimal (getD l FORM 0 ∷ getD l 0 0 ∷ getD l 1 0 ∷ []) ++ (joined (map nameText (namesOf l)) ∷ placeOf l)) Sort.ERROR refl refl
+      (fields-free 9 (omega arith) (λ i. omega arith)) (fields-free 10 (omega arith) (λ i. omega arith))
+      (ap (λ (t : Bool). cond t Sort.ERROR 0) error-reads)
+
+-- EVENTS, AND THE WHOLE
+
+event-line : {errors : List ℕ} {a b c d : ℕ} → Event errors a b c d → Line (eventLine errors a b c d) a
+unfolding eventLine lettered
+event-line (begin {k = k} {start = s} {end = e} h i j m) =
+    node-line 66 k s e Sort.BEGIN refl refl i
+    (ap (λ (t : Bool). cond t Sort.BEGIN 0) (ap₂ (λ (x y : Bool). x && y) (plains-two s e j m) (node-kind k h i)))
+event-line (token {k = k} {start = s} {end = e} i j m) =
+    node-line 84 k s e Sort.TOKEN refl refl (omega arith)
+    (ap (λ (t : Bool). cond t Sort.TOKEN 0) (ap₂ (λ (x y : Bool). x && y) (plains-two s e j m) (row-kind k i)))
+event-line (close {k = k} {start = s} {end = e} h i j m) =
+    node-line 69 k s e Sort.END refl refl i
+    (ap (λ (t : Bool). cond t Sort.END 0) (ap₂ (λ (x y : Bool). x && y) (plains-two s e j m) (node-kind k h i)))
+event-line (fault {errors = errors} {i = i} r) = error-line (recordsFrom i errors) r
+
+-- text that is lines, which go up from line n on
+record Runs (n d : ℕ) (text : List ℕ) : Type 0 where
+  all : List (List ℕ)
+  written : List (List ℕ)
+  is : text ≡ ended all
+  free : Each (Free 10) all
+  goes : Goes true n d all written
+
+-- the last line, and a line before others
+runs-last : (n d s : ℕ) {text : List ℕ} → (n ≡ 1 → ⊥) → Line text s → ends s n d ≡ true → Runs n d text
+runs-last n d s h l e =
+    record {
+      all = l .body ∷ [];
+      written = l .body ∷ [];
+      is = l .is;
+      free = (l .free, tt);
+      goes = last (end-up n d (l .body) h (ap (λ (s : ℕ). ends s n d) (l .sorts) ∙ e));
+    }
+
+runs-more : (n d s : ℕ) {text rest : List ℕ} → (n ≡ 1 → ⊥) → Line text s → allowed s d ≡ true → Runs (suc n) (opened s d) rest → Runs n d (text ++ rest)
+runs-more n d s {text} {rest} h l e r =
+    record {
+      all = l .body ∷ r .all;
+      written = (l .body ++ (9 ∷ decimal (field (sortOf (parted 9 (l .body))) d))) ∷ r .written;
+      is =
+          ap₂ (λ (x y : List ℕ). x ++ y) (l .is) (r .is)
+          ∙ append-assoc (l .body) (10 ∷ []) (ended (r .all));
+      free = (l .free, r .free);
+      goes =
+          more (event-up n d (l .body) h (ap (λ (s : ℕ). allowed s d) (l .sorts) ∙ e))
+          (subst (λ (s : ℕ). Goes true (suc n) (opened s d) (r .all) (r .written)) (sym (l .sorts)) (r .goes));
+    }
+
+runs : (errors : List ℕ) (m d : ℕ) (events : List ℕ) → Events errors d events → {text : List ℕ} → Line text RESULT → Runs (suc (suc m)) d (eventLines errors events ++ text)
+runs errors m d [] e l = runs-last (suc (suc m)) d RESULT (λ i. omega arith) l (sym (result-ends RESULT d (suc (suc m)) e refl))
+runs errors m d (a ∷ []) e l = absurd e
+runs errors m d (a ∷ b ∷ []) e l = absurd e
+runs errors m d (a ∷ b ∷ c ∷ []) e l = absurd e
+runs errors m d (a ∷ b ∷ c ∷ f ∷ []) e l = absurd e
+runs errors m d (a ∷ b ∷ c ∷ f ∷ depth ∷ events) (x, v, w) {text} l =
+    subst (Runs (suc (suc m)) d) (sym (append-assoc (eventLine errors a b c f) (eventLines errors events) text))
+    (runs-more (suc (suc m)) d a (λ i. omega arith) (event-line v) x (runs errors (suc m) (opened a d) events w l))
+
+pub record Converts (text : List ℕ) : Type 0 where
+  pub written : List (List ℕ)
+  pub is : madeOf true text ≡ lines written
+
+-- behind the `L` line
+headed : {text : List ℕ} → Runs 2 0 text → Converts (headLine ++ text)
+unfolding decimal stepAt headStep
+headed {text} r =
+    record {
+      written = headText 2 ∷ r .written;
+      is =
+          ap (λ (t : List ℕ). madeOf true (headText 1 ++ (10 ∷ t))) (r .is)
+          ∙ remade true (headText 1 ∷ r .all) (headText 2 ∷ r .written) (refl, r .free) (more {k = 0} refl (r .goes));
+    }
+
+stands : (c n : ℕ) → eqb c 9 ≡ false → eqb c 10 ≡ false → lettered c (decimal n ∷ []) ≡ ALONE → Runs 2 0 (lineWith c (map decimal (n ∷ [])))
+stands c n x y i = runs-last 2 0 ALONE (λ i. omega arith) (alone c n x y i) (sym (alone-ends ALONE 0 2 refl (λ i. omega arith) refl))
+
+pub could-convert : {text : List ℕ} → Could text → Converts text
+could-convert (was-read events errors a b c e h i j) = headed (runs errors 0 0 events e (result a b c h i j))
+could-convert (was-refused n h) = headed (stands 70 n refl refl (refusal-sort n h))
+could-convert (was-unread n h) = headed (stands 78 n refl refl (unread-sort n h))

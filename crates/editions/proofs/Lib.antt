@@ -1,0 +1,10 @@
+pub mod Texts
+pub mod Parts
+pub mod Letters
+pub mod Steps
+pub mod Rooms
+pub mod Scanning
+pub mod Judging
+pub mod Marks
+pub mod Back
+pub mod Could
