@@ -35,7 +35,8 @@ uint32_t stableglow_cut(const uint8_t *source, size_t source_len, uint32_t *ids,
    Or returns a refusal's number and five zeros in answer: 1 too long, 2 lists that differ in length, 3 an unknown id, 4 rows
    that do not tile the source, 6 too little scratch, (2 x (rows + 1) + 63) / 64 words are enough, 18 an edition that is not there:
    each leaves the lists as they were lent (5 is not used). 19, before all of these: a settings line that does not read, has a value
-   outside its range or a number out of turn; answer[0] then holds the number of the first such line, from 1, and the lists are as lent. 7 and 8: the events or the records exceeded their room: the lists are all zero.
+   outside its range or a number out of turn; answer[0] then holds the number of the first such line, from 1, and the lists are as
+   lent. 7 and 8: the events or the records exceeded their room: the lists are all zero.
    An empty list of errors means that every item was accepted only where the outcome is 0.
    The lists must not overlap. */
 uint32_t stableglow_read(const uint8_t *source, size_t source_len, const uint32_t *ids, size_t ids_len,
