@@ -1,5 +1,5 @@
 #!/usr/bin/env python3
-"""cutter.py [--check]: writes the cutter's tables, crates/cutter/src/table.rt, specs/Classes.antt and specs/Table.antt, from the classes and expressions below.
+"""cutter.py [--check]: writes the cutter's tables, crates/tokens/src/table.rt, specs/Classes.antt and specs/Table.antt, from the classes and expressions below.
 
 The definition has a byte's class by ranges (specs/Classes) and the expressions (specs/Tokens); the code has tables. Each state has a word that leads to it, and
 that the tables follow the definition is proved, so nothing of what is worked out here has to be believed. With --check it writes nothing, and fails where a
@@ -9,7 +9,7 @@ import sys
 from pathlib import Path
 
 ROOT = Path(__file__).resolve().parent.parent
-CRATE = ROOT / "crates" / "cutter"
+CRATE = ROOT / "crates" / "tokens"
 PAGE = (ROOT / "docs" / "KINDS.md").read_text(encoding="utf-8")
 
 CLASSES = """OTHER INVALID SPACE BLANK LF CR DIGIT ZERO OCTAL DECIMAL HEX BIG_B KILO X O LETTER UNDERSCORE BANG QUOTE HASH DOLLAR PERCENT

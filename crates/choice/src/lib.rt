@@ -259,7 +259,8 @@ pub fn record(
         × (numberOf (now notes) ≤ 65536) ⌝ }
     ensures { λ r. ⌜
         ((s : Whole) → s .full ≡ 0
-        → Noted (start ∷ end ∷ form ∷ numberOf (now (notes .entry)) ∷ count ∷ take count names) (beside (now (notes .entry)) s) (withFull r (beside (now (notes .exit)) s))
+        → Noted (start ∷ end ∷ form ∷ numberOf (now (notes .entry)) ∷ count ∷ take count names)
+        (beside (now (notes .entry)) s) (withFull r (beside (now (notes .exit)) s))
         (now (errors .entry)) (now (errors .exit))) ⌝ }
 {
     let at = notes[ER];

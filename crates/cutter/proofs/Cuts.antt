@@ -4,17 +4,18 @@ use mathlib.Core.Path.{_≡_, refl, sym, ap, _∙_, subst}
 use mathlib.Core.List.{List}
 use mathlib.Core.Bool.{Bool, true, false, cond}
 use native.Mathlib.Omega.{arith}
-use Rattle.cutter.specs.Lent.{label, matchOf, Inside, found, missed, modeAt, Known, Made}
-use Rattle.cutter.specs.declared.matcher.Match as m
+use Rattle.tokens.specs.Lent.{label, matchOf, Inside}
+use Rattle.cutter.specs.Made.{found, missed, modeAt, Known, Made}
+use Rattle.tokens.specs.declared.matcher.Match as m
 use Rattle.cutter.specs.declared.row.Row as d
 use Rattle.kinds.specs.Sets.{trivial}
 use mathlib.Core.Option.{none, some}
 use lib.ListN.{length, take}
 use borrow.Author.Tests.{eq-eqb, ne-eqb}
 use Rattle.kinds.specs.Kinds as k
-use Rattle.cutter.specs.Glyph.{glyph}
-use Rattle.cutter.specs.Expr.{Match, Tokens, longest}
-use Rattle.cutter.specs.Tokens as t
+use Rattle.tokens.specs.Glyph.{glyph}
+use Rattle.tokens.specs.Expr.{Match, Tokens, longest}
+use Rattle.tokens.specs.Tokens as t
 use Rattle.cutter.specs.Rows.{Row, keyword, next, strangeBy, strange, normalBy, normalRow, hexBy, hexRow, jumpBy, jumpRow, row, onwards}
 use Rattle.cutter.specs.declared.place.Place.{Place}
 use Rattle.cutter.specs.declared.place.Place.the-variants.{Elsewhere, Named, Equated, InHex, InJump, Unclosed}

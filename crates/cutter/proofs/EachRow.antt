@@ -9,18 +9,18 @@ use native.Mathlib.Omega.{arith}
 use lib.Dec.{T, ltb, eqb, ltb→lt}
 use lib.ListN.{length, drop, take, length-drop}
 use Rattle.kinds.specs.Kinds as k
-use Rattle.cutter.specs.Expr.{Expr, Tokens, Match, longest}
-use Rattle.cutter.specs.Glyph.{glyph}
-use Rattle.cutter.specs.Classes as c
-use Rattle.cutter.specs.Tokens as t
-use Rattle.cutter.specs.Matches.{Fits, Listed}
+use Rattle.tokens.specs.Expr.{Expr, Tokens, Match, longest}
+use Rattle.tokens.specs.Glyph.{glyph}
+use Rattle.tokens.specs.Classes as c
+use Rattle.tokens.specs.Tokens as t
+use Rattle.tokens.specs.Matches.{Fits, Listed}
 use Rattle.cutter.specs.Rows.{Row, same, keywords, sought, keyword, named, strangeBy, strange, normalBy, normalRow, hexBy, hexRow, jumpBy, jumpRow, row, rows, cutting}
 use Rattle.cutter.specs.Each.{Longest, Unmatched, Strange, Normal, Hex, Jump, Cuts, Each}
 use Rattle.cutter.specs.Tiles.{Ids}
 use Rattle.cutter.specs.declared.place.Place.{Place}
 use Rattle.cutter.specs.declared.place.Place.the-variants.{Elsewhere, Named, Equated, InHex, InJump, Unclosed}
-use Rattle.cutter.proofs.Equal.{both, left, right}
-use Rattle.cutter.proofs.Longest.{longest-fits, none-longer}
+use Rattle.tokens.proofs.Equal.{both, left, right}
+use Rattle.tokens.proofs.Longest.{longest-fits, none-longer}
 use Rattle.cutter.proofs.Tiling.{row-fine}
 use Rattle.cutter.proofs.Fills.{taken}
 

@@ -6,12 +6,12 @@ use mathlib.Core.Bool.{Bool}
 use native.Mathlib.Omega.{arith}
 use lib.ListN.{length, take, drop, length-drop}
 use lib.Seq.{drop-drop}
-use Rattle.cutter.specs.Lent.{Holds, Stands, Known, Made, rowOf}
+use Rattle.cutter.specs.Made.{Holds, Stands, Known, Made, rowOf}
 use Rattle.cutter.specs.Rows.{row}
 use Rattle.cutter.specs.declared.memo.Memo.{Memo}
 use Rattle.cutter.specs.declared.place.Place.{Place}
 use Rattle.cutter.specs.declared.row.Row as d
-use Rattle.cutter.proofs.Walks.{tail}
+use Rattle.tokens.proofs.Walks.{tail}
 
 -- the source from a place on, as the code hands it on
 abbrev pub rest : ℕ → List ℕ → List ℕ

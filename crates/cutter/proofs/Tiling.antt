@@ -5,14 +5,14 @@ use mathlib.Core.List.{List, [], _∷_}
 use mathlib.Core.Option.{Option, none, some}
 use native.Mathlib.Omega.{arith}
 use lib.ListN.{length}
-use Rattle.cutter.specs.Glyph.{glyph}
-use Rattle.cutter.specs.Expr.{Tokens, Match, step, whole, better, walk, longest}
-use Rattle.cutter.specs.Tokens as t
+use Rattle.tokens.specs.Glyph.{glyph}
+use Rattle.tokens.specs.Expr.{Tokens, Match, step, whole, better, walk, longest}
+use Rattle.tokens.specs.Tokens as t
 use Rattle.cutter.specs.Rows.{Row, strangeBy, strange, normalBy, normalRow, hexBy, hexRow, jumpBy, jumpRow, row, rows, cutting}
 use Rattle.cutter.specs.Tiles.{Tiles}
 use Rattle.cutter.specs.declared.place.Place.{Place}
 use Rattle.cutter.specs.declared.place.Place.the-variants.{Elsewhere, Named, Equated, InHex, InJump, Unclosed}
-use Rattle.cutter.proofs.Glyphs.{glyph-some, glyph-within}
+use Rattle.tokens.proofs.Glyphs.{glyph-some, glyph-within}
 
 -- a match is of one byte at least and ends within n bytes
 abbrev Good : ℕ → Match → Type 0

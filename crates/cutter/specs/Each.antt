@@ -7,11 +7,11 @@ use mathlib.Core.Logic.{_⊎_}
 use lib.Dec.{eqb}
 use lib.ListN.{length, take, drop}
 use Rattle.kinds.specs.Kinds as k
-use Rattle.cutter.specs.Classes as c
-use Rattle.cutter.specs.Glyph.{glyph}
-use Rattle.cutter.specs.Expr.{Tokens}
-use Rattle.cutter.specs.Tokens as t
-use Rattle.cutter.specs.Matches.{Fits}
+use Rattle.tokens.specs.Classes as c
+use Rattle.tokens.specs.Glyph.{glyph}
+use Rattle.tokens.specs.Expr.{Tokens}
+use Rattle.tokens.specs.Tokens as t
+use Rattle.tokens.specs.Matches.{Fits}
 use Rattle.cutter.specs.Rows.{Row, named, next}
 use Rattle.cutter.specs.declared.place.Place.{Place}
 use Rattle.cutter.specs.declared.place.Place.the-variants.{Elsewhere, Named, Equated, InHex, InJump, Unclosed}

@@ -10,10 +10,10 @@ use lib.ListN.{length, take, drop}
 use Rattle.shapes.specs.Refusal as Refusal
 use Rattle.kinds.specs.Kinds as k
 use Rattle.kinds.specs.Sets.{trivial}
-use Rattle.cutter.specs.Classes as c
-use Rattle.cutter.specs.Glyph.{glyph}
-use Rattle.cutter.specs.Expr.{Match, longest}
-use Rattle.cutter.specs.Tokens as t
+use Rattle.tokens.specs.Classes as c
+use Rattle.tokens.specs.Glyph.{glyph}
+use Rattle.tokens.specs.Expr.{Match, longest}
+use Rattle.tokens.specs.Tokens as t
 use Rattle.cutter.specs.declared.place.Place.{Place}
 use Rattle.cutter.specs.declared.place.Place.the-variants.{Elsewhere, Named, Equated, InHex, InJump, Unclosed}
 use Rattle.cutter.specs.declared.answer.Cut.{Cut}

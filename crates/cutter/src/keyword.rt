@@ -5,8 +5,8 @@ ghost use Prim.Native.Nat.{_<_};
 ghost use mathlib.Core.List.{[]};
 ghost use lib.ListN.{length, getD};
 ghost use Rattle.cutter.specs.Rows.{same, keywords, keyword};
-ghost use Rattle.cutter.specs.Lent.{slotOf};
-ghost use Rattle.cutter.specs.Table.{keyTable};
+ghost use Rattle.cutter.specs.Made.{slotOf};
+ghost use Rattle.tokens.specs.Table.{keyTable};
 
 fn wide(b: u8) -> usize
     ensures { λ r. ⌜ r ≡ b ⌝ }

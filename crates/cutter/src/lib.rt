@@ -1,12 +1,12 @@
 // Cuts rule text into rows (request (v)): the tokenizer's three modes, by a table of classes and a table of states.
 use crate::pass::fill;
 use crate::pass::fits;
-use crate::table::CLASSES;
-use crate::table::FINALS;
-use crate::table::KEYS;
-use crate::table::NEXT;
-use crate::table::WIDES;
 use shapes::refusal;
+use tokens::table::CLASSES;
+use tokens::table::FINALS;
+use tokens::table::KEYS;
+use tokens::table::NEXT;
+use tokens::table::WIDES;
 ghost use mathlib.Core.Path.{_≡_};
 ghost use mathlib.Core.Bool.{_||_};
 ghost use Prim.Native.Nat.{ℕ};
@@ -14,16 +14,11 @@ ghost use lib.Dec.{ltb};
 ghost use Rattle.cutter.specs.Rows.{cut, returning};
 
 mod answer;
-mod characters;
-mod glyph;
 mod keyword;
-mod matcher;
 mod memo;
 mod pass;
 mod place;
 mod row;
-mod runner;
-mod table;
 mod turn;
 
 pub use answer::Cut;

@@ -1,20 +1,21 @@
 // The failures that are followed at one time. Only where a string, a regexp or a comment may begin are they asked, and only there do they go on to that place:
 // all other rows leave the memo as it is.
-use crate::characters::byte;
-use crate::matcher::FROM_HEX;
-use crate::matcher::FROM_NORMAL;
-use crate::matcher::HEX;
-use crate::matcher::NORMAL;
-use crate::runner::Runner;
-use crate::runner::covered_at;
-use crate::runner::follow;
-use crate::runner::renewed;
+use tokens::characters::byte;
+use tokens::matcher::FROM_HEX;
+use tokens::matcher::FROM_NORMAL;
+use tokens::matcher::HEX;
+use tokens::matcher::NORMAL;
+use tokens::runner::Runner;
+use tokens::runner::covered_at;
+use tokens::runner::follow;
+use tokens::runner::renewed;
 ghost use mathlib.Core.Path.{_≡_};
 ghost use Prim.Native.Nat.{ℕ, _≤_};
 ghost use mathlib.Core.List.{List};
 ghost use mathlib.Core.Bool.{true};
 ghost use lib.ListN.{length, drop};
-ghost use Rattle.cutter.specs.Lent.{Lent, Holds, Stands, Known, Lost};
+ghost use Rattle.tokens.specs.Lent.{Lent};
+ghost use Rattle.cutter.specs.Made.{Holds, Stands, Known, Lost};
 
 // The last string, regexp and block comment that failed in normal mode, and the last comment in hex mode: text such as `/* /* /* ..` would otherwise be
 // read to its end again from each place that begins one. They stand at the byte `from` of the source.

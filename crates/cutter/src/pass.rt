@@ -7,8 +7,9 @@ ghost use Prim.Native.Nat.{_≤_};
 ghost use lib.Dec.{leb};
 ghost use lib.ListN.{length};
 ghost use Rattle.cutter.specs.Rows.{cutting};
-ghost use Rattle.cutter.specs.Lent.{Lent, Room, Filled};
-ghost use Rattle.cutter.specs.Table.{keyTable};
+ghost use Rattle.tokens.specs.Lent.{Lent};
+ghost use Rattle.cutter.specs.Made.{Room, Filled};
+ghost use Rattle.tokens.specs.Table.{keyTable};
 
 // How many rows the source has.
 fn count(

@@ -1,11 +1,11 @@
 // Which mode cuts next.
-use crate::matcher::HEX;
-use crate::matcher::JUMP;
-use crate::matcher::NORMAL;
 use kinds::kind;
+use tokens::matcher::HEX;
+use tokens::matcher::JUMP;
+use tokens::matcher::NORMAL;
 ghost use mathlib.Core.Path.{_≡_};
 ghost use Rattle.cutter.specs.Rows.{next};
-ghost use Rattle.cutter.specs.Lent.{modeAt};
+ghost use Rattle.cutter.specs.Made.{modeAt};
 
 // Where the cutting stands: how much of a pattern identifier, an equals sign and an opening brace was just seen, or in which mode it is; or, `Unclosed`, that
 // normal mode cuts within a hex pattern whose closing brace has not come.

@@ -1,28 +1,29 @@
 // The row at the start of the bytes. Where a mode matches nothing, the mode below it cuts: jump, hex, normal; and where normal mode matches nothing, the row
 // is a strange one.
-use crate::glyph::INVALID;
-use crate::glyph::glyph_at;
 use crate::keyword::id_of;
-use crate::matcher::FROM_HEX;
-use crate::matcher::FROM_JUMP;
-use crate::matcher::FROM_NORMAL;
-use crate::matcher::FROM_UNKNOWN;
-use crate::matcher::HEX;
-use crate::matcher::JUMP;
-use crate::matcher::Match;
-use crate::matcher::NORMAL;
-use crate::matcher::longest_from;
-use crate::matcher::tried;
 use crate::place::Place;
 use crate::place::mode_of;
 use crate::place::onward;
 use kinds::kind;
+use tokens::glyph::INVALID;
+use tokens::glyph::glyph_at;
+use tokens::matcher::FROM_HEX;
+use tokens::matcher::FROM_JUMP;
+use tokens::matcher::FROM_NORMAL;
+use tokens::matcher::FROM_UNKNOWN;
+use tokens::matcher::HEX;
+use tokens::matcher::JUMP;
+use tokens::matcher::Match;
+use tokens::matcher::NORMAL;
+use tokens::matcher::longest_from;
+use tokens::matcher::tried;
 ghost use mathlib.Core.Path.{_≡_};
 ghost use Prim.Native.Nat.{_<_};
 ghost use lib.ListN.{length};
 ghost use Rattle.cutter.specs.Rows.{normalRow, hexRow, jumpRow, strange, row};
-ghost use Rattle.cutter.specs.Lent.{Lent, Made, found, missed, Known, Lost};
-ghost use Rattle.cutter.specs.Table.{keyTable};
+ghost use Rattle.tokens.specs.Lent.{Lent};
+ghost use Rattle.cutter.specs.Made.{Made, found, missed, Known, Lost};
+ghost use Rattle.tokens.specs.Table.{keyTable};
 
 // A row; whether normal mode matched nothing here, and whether hex mode did.
 pub struct Row {

@@ -8,8 +8,9 @@ ghost use mathlib.Core.Path.{_≡_};
 ghost use Prim.Native.Nat.{_+_, _≤_, _<_};
 ghost use lib.ListN.{length, drop};
 ghost use Rattle.cutter.specs.Rows.{row};
-ghost use Rattle.cutter.specs.Lent.{Lent, Stands, turnOf};
-ghost use Rattle.cutter.specs.Table.{keyTable};
+ghost use Rattle.tokens.specs.Lent.{Lent};
+ghost use Rattle.cutter.specs.Made.{Stands, turnOf};
+ghost use Rattle.tokens.specs.Table.{keyTable};
 
 // A row, and the memo behind it.
 pub struct Turn {

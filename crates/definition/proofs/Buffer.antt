@@ -10,9 +10,9 @@ use Rattle.kinds.specs.Kinds as kinds
 use Rattle.kinds.specs.Sets.{kindOf, trivial}
 use Rattle.shapes.specs.Sort as Sort
 use Rattle.shapes.specs.Shapes.{EVENT, KIND, END, DEPTH, Entry, event, flat}
-use Rattle.definition.specs.Prog.{Prog, Production}
+use Rattle.definition.specs.Prog.{Prog}
 use Rattle.definition.specs.Grammar.{item-of}
-use Rattle.definition.specs.Run.{State, Reader, Limits, Event, opened, leaf, closed, bad, Mode, ok, failed, stopped, next, past, trivia-out, trivia, seek-out, take, turn, charge, begin, finish, nodes, exec, run, read, Choice, stray, Next, end, other, hit, sought, seek, errors, rule-keywords, item-keywords, read-item, stray-item, item-at, flush, again, item}
+use Rattle.definition.specs.Run.{State, Reader, Limits, Event, opened, leaf, closed, bad, Mode, ok, failed, stopped, next, past, trivia-out, trivia, seek-out, take, turn, charge, begin, finish, nodes, exec, run, Choice, stray, Next, end, other, hit, sought, seek, errors, rule-keywords, item-keywords, read-item, stray-item, item-at, flush, again, item}
 use Rattle.definition.specs.Render.{Source, starts-at, ends-at, span-end, bads, render, inside}
 use Rattle.definition.specs.Buffer.{height, cell, next-depth, patch, buffered, buffer}
 use Rattle.definition.specs.Open.{Nest, Adds, Open}

@@ -1,7 +1,7 @@
 -- No reading comes deeper than the limit allows: SOURCE_FILE, the nodes that may be open besides, the one that stops the reader, and no more.
 use Prim.Native.Nat.{ℕ, zero, suc, _+_, _≤_, _<_}
 use mathlib.Core.Path.{_≡_, refl, ap, sym, _∙_, subst}
-use mathlib.Core.List.{List, [], _∷_, _++_}
+use mathlib.Core.List.{List, [], _∷_}
 use mathlib.Core.Bool.{Bool, true, false}
 use lib.ListN.{length}
 use native.Mathlib.Omega.{arith}
@@ -10,7 +10,7 @@ use Rattle.kinds.specs.Sets.{kindOf, trivial}
 use Rattle.shapes.specs.Shapes.{flat}
 use Rattle.definition.specs.Prog.{Production, Prog}
 use Rattle.definition.specs.Grammar.{grammar, kind, item-of}
-use Rattle.definition.specs.Run.{State, Reader, Limits, Event, opened, leaf, closed, bad, Mode, ok, failed, stopped, Choice, Next, end, other, hit, next, sought, past, trivia-out, trivia, seek, seek-out, skip-to, swallow, if-ok, turn, keep, back, expected, unexpected, choose, begin, nodes, exec, run, errors, rule-keywords, item-keywords, read-item, stray-item, item-at, flush, again, item, items, start, read}
+use Rattle.definition.specs.Run.{State, Reader, Limits, Event, opened, leaf, closed, bad, Mode, ok, failed, stopped, Choice, Next, end, other, hit, next, sought, past, trivia-out, trivia, seek-out, skip-to, swallow, if-ok, turn, keep, back, expected, unexpected, choose, begin, nodes, exec, run, errors, rule-keywords, item-keywords, read-item, stray-item, item-at, flush, again, item, items, start, read}
 use Rattle.definition.specs.Render.{Source, inside}
 use Rattle.definition.specs.Buffer.{height, buffer}
 use Rattle.definition.specs.Open.{Adds}

@@ -1,13 +1,12 @@
 -- REQUEST (x): the numbers of the items that records belong to. They are as many as the records; n items and then m; more fuel, or events written before,
 -- change none; and those of the rows that are left, read as a file of their own, are shifted by the items before.
-use Prim.Native.Nat.{ℕ, zero, suc, _+_, _-_, _≤_, _<_}
+use Prim.Native.Nat.{ℕ, zero, suc, _+_, _-_, _≤_}
 use mathlib.Core.Path.{_≡_, refl, ap, ap₂, sym, _∙_, subst}
-use mathlib.Core.List.{List, [], _∷_, _++_, append-assoc, map}
+use mathlib.Core.List.{List, [], _∷_, _++_, append-assoc}
 use lib.ListN.{length, replicate, length-append, length-replicate}
-use native.Mathlib.Nat.{suc-add, zero-add, add-zero}
+use native.Mathlib.Nat.{suc-add, zero-add}
 use native.Mathlib.Omega.{arith}
-use Rattle.definition.specs.Grammar.{item-of}
-use Rattle.definition.specs.Run.{State, Limits, Draft, Event, opened, leaf, closed, bad, Choice, Mode, ok, failed, stopped, Stop, Next, end, other, hit, sought, trivia, turn, put, item-keywords, item-at, errors, flush, again, item, items, start, read}
+use Rattle.definition.specs.Run.{State, Limits, Draft, Event, opened, leaf, closed, bad, Mode, ok, failed, stopped, Stop, Next, sought, trivia, turn, put, item-keywords, item-at, errors, flush, again, item, items, start, read}
 use Rattle.definition.specs.Render.{bads, numbers, item-numbers}
 use Rattle.definition.specs.Remaining.{shift-items}
 use Rattle.definition.proofs.Every.{never}
@@ -19,7 +18,7 @@ use Rattle.definition.proofs.Whole.{item-h, items-h, any-live}
 use Rattle.definition.proofs.Takes.{end-length, item-takes}
 use Rattle.definition.proofs.Shrink.{size-nil}
 use Rattle.definition.proofs.Agree.{nil-cons}
-use Rattle.definition.proofs.Suffix.{Between, items-rows, items-stuck, items-between, start-between, rebuilt}
+use Rattle.definition.proofs.Suffix.{Between, items-rows, items-between, start-between, rebuilt}
 
 -- how many records an item brings
 abbrev pub brought : Limits → State → ℕ

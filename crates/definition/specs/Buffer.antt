@@ -1,6 +1,6 @@
 -- What the event buffer holds at any moment: the events in order, in document 01's numbers. A begin event whose end has not come is provisional;
 -- of a finished list it is the rendering (proofs/Buffer).
-use Prim.Native.Nat.{ℕ, zero, suc, _+_, _-_, _%_}
+use Prim.Native.Nat.{ℕ, suc, _+_, _-_, _%_}
 use mathlib.Core.List.{List, [], _∷_, _++_}
 use mathlib.Core.Bool.{true, false}
 use lib.Dec.{eqb, ltb}

@@ -1,23 +1,22 @@
 -- The public definition, case by case: a refusal as lent, a room too small for anything, a room exceeded, an answer. Assumes nothing.
-use Prim.Native.Nat.{ℕ, zero, suc, _+_, _-_, _*_, _/_, _≤_, _<_}
+use Prim.Native.Nat.{ℕ, zero, suc, _+_, _-_, _/_, _≤_, _<_}
 use mathlib.Core.Path.{_≡_, refl, sym, ap, ap₂, subst, _∙_}
 use mathlib.Core.List.{List, [], _∷_, _++_, map}
 use mathlib.Core.Bool.{Bool, true, false}
 use mathlib.Core.Logic.{_⊎_, inl, inr}
 use native.Mathlib.Omega.{arith}
-use native.Mathlib.Decide.{decLt}
 use borrow.Author.Tests.{lt-ltb, le-ltb}
 use lib.Dec.{ltb}
 use lib.ListN.{length, getD, take, replicate}
 use lib.Seq.{length-take-le}
-use Rattle.shapes.specs.Shapes.{EVENT, flat, flat-records}
+use Rattle.shapes.specs.Shapes.{EVENT}
 use Rattle.definition.specs.Run as P
-use Rattle.definition.specs.Render.{Source, Reading, item-numbers, rendered, used, moments, exceeds, over}
-use Rattle.definition.specs.Answer.{Desk, After, Answer, refused, given, first-of, grounds, refusal, exceeded, answer, as-lent, refusing, blank, left-by, after, source-of}
+use Rattle.definition.specs.Render.{Source, item-numbers, rendered, used, moments, exceeds, over}
+use Rattle.definition.specs.Answer.{Desk, After, Answer, refused, given, first-of, grounds, refusal, exceeded, refusing, blank, left-by, after, source-of}
 use Rattle.notes.proofs.Rooms.{exceeds-events}
 use Rattle.notes.proofs.Rooms as rooms
-use Rattle.desk.specs.declared.items.Desk as D
-use Rattle.desk.specs.Items.{tally}
+use Rattle.items.specs.declared.Desk as D
+use Rattle.items.specs.Items.{tally}
 use Rattle.desk.specs.Framing.{answering, reading, Framed, Finished}
 
 -- the first number that is not 0, or an answer

@@ -16,7 +16,7 @@ use Rattle.definition.specs.Ford.{Res, Ford, rules, star, strip, any-item, Acce
 use Rattle.definition.specs.Run as P
 use Rattle.definition.specs.Run.{Limits}
 use Rattle.definition.specs.Render.{Reading, inside}
-use Rattle.definition.specs.Answer.{Desk, After, Answer, given, refusal, exceeded, answer, source-of, words, refusing, blank, filled, left-by, after}
+use Rattle.definition.specs.Answer.{Desk, After, given, refusal, exceeded, answer, source-of, words, refusing, blank, filled, left-by, after}
 use Rattle.definition.specs.Remaining.{Running, standing, remaining, Continued}
 use Rattle.theorems.proofs.Answered.{number-of, given-is, answered}
 use Rattle.definition.specs.Merge.{marks, finished, merged, merger}

@@ -1,35 +1,34 @@
 -- SOURCE_FILE around the items: which room is exceeded first, and the finished lists. Assumes nothing.
 use Prim.Native.Nat.{ℕ, zero, suc, _+_, _-_, _*_, _/_, _%_, _^_, _≤_, _<_}
 use mathlib.Core.Path.{_≡_, refl, sym, ap, ap₂, subst, _∙_}
-use mathlib.Core.List.{List, [], _∷_, _++_, append-nil, append-assoc, map}
+use mathlib.Core.List.{List, [], _∷_, _++_, append-nil, map}
 use mathlib.Core.Bool.{Bool, true, false}
 use native.Mathlib.Omega.{arith}
 use native.Mathlib.Nat.{zero-div, le-refl, add-comm}
 use native.Mathlib.Decide.{ℕ-discrete, decLt}
 use borrow.Author.Tests.{lt-ltb, le-ltb}
 use borrow.Rule.Slice.PartMut.{midOf, putMid, postOf, mid-len}
-use lib.Dec.{eqb, ltb}
-use lib.ListN.{length, getD, take, drop, set, replicate, length-append, length-drop}
-use lib.Seq.{take-append-add, take-append-le, length-take-le}
+use lib.Dec.{eqb}
+use lib.ListN.{length, getD, take, set, replicate, length-append, length-drop}
+use lib.Seq.{take-append-add, take-append-le}
 use Rattle.kinds.specs.Kinds as k
 use Rattle.shapes.specs.Sort as Sort
 use Rattle.shapes.specs.Shapes.{EVENT, Entry, event, flat, owned, of-item, flat-records}
 use Rattle.shapes.proofs.Laws.{flat-length, owned-split, bare-length}
 use Rattle.definition.specs.Run as P
 use Rattle.definition.specs.Run.{Mode, ok, failed, stopped}
-use Rattle.definition.specs.Buffer.{buffer}
-use Rattle.definition.specs.Render.{Source, inside, item-numbers, rendered, outcome-of, said, held, records, used, moments, exceeds, over}
+use Rattle.definition.specs.Render.{Source, inside, item-numbers, rendered, outcome-of, said, records, used, moments, exceeds, over}
 use Rattle.definition.proofs.Buffer.{buffer-length}
 use Rattle.definition.proofs.Height.{buffer-read}
 use Rattle.notes.specs.Whole.{Whole}
 use Rattle.notes.specs.Bits.{ifb, bitAt}
 use Rattle.notes.specs.Change.{withEv, withFull}
-use Rattle.notes.specs.Means.{Bufs, bufs, Means, recorded, overOf, modeOf}
+use Rattle.notes.specs.Means.{Bufs, bufs, Means, recorded, overOf}
 use Rattle.notes.specs.Did.{Wf, Put}
 use Rattle.notes.proofs.Naming.{none-named}
 use Rattle.notes.proofs.Rooms.{ev-count, er-count, first-of, exceeds-none, exceeds-events, full-first}
-use Rattle.desk.specs.declared.items.Desk.{Desk}
-use Rattle.desk.specs.Items.{Tally, tally, blank, clean, pastOf, Between, Goes, Settled}
+use Rattle.items.specs.declared.Desk.{Desk}
+use Rattle.items.specs.Items.{Tally, tally, blank, clean, pastOf, Between, Goes, Settled}
 use Rattle.desk.proofs.Start.{reads}
 use Rattle.desk.specs.Framing.{reading, outcomeOf, Finished, Framed}
 use Rattle.grammar.specs.Table.{reach, allowed, Lent}
@@ -183,6 +182,10 @@ module _ (L : P.Limits) (x : Source) (fuel evcap R : ℕ) {d : Tally} {t : Whole
 -- the table as it is laid out, entrypoint allowed or not
 pub laid : (E : Bool) {r : ℕ} → r ≡ literal-row E → Lent (set (rows true) literal r) × (allowed (set (rows true) literal r) ≡ E)
 laid E e = subst (λ (r : ℕ). Lent (set (rows true) literal r) × (allowed (set (rows true) literal r) ≡ E)) (sym e) (rows-lent E, rows-allow E)
+
+-- the items were read by bounds that are these
+pub goes-by : {a b : ℕ × Bool} {i n : ℕ} {x : Source} {d r : Tally} {u v : Bufs} → a ≡ b → Goes a i n x d r u v → Goes b i n x d r u v
+goes-by {a} {b} {i} {n} {x} {d} {r} {u} {v} e = subst (λ (c : ℕ × Bool). Goes c i n x d r u v) e
 
 -- all items, from nothing on: xs are the events with the begin event, whose other cells are lent, and l₀ the list of notes
 module _ (L : P.Limits) (x : Source) (fuel : ℕ) (xs er₀ sc₀ l₀ : List ℕ) {d₀ : Desk} (e : d₀ ≡ blank fuel (length xs - EVENT)) (n : l₀ ≡ replicate 69 0) where

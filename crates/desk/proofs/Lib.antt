@@ -1,9 +1,3 @@
-pub mod Writing
-pub mod Telling
-pub mod Junk
-pub mod Stray
-pub mod Hand
-pub mod Between
 pub mod Start
 pub mod Framing
 pub mod Answering

@@ -13,7 +13,7 @@ use Rattle.definition.proofs.Buffer.{buffer-none}
 use Rattle.notes.specs.Bits.{bitAt}
 use Rattle.notes.specs.Means.{Bufs, bufs, Means, recorded, overOf}
 use Rattle.notes.proofs.Rooms.{exceeds-none}
-use Rattle.desk.specs.Items.{Tally, tally, blank, clean, pastOf, Between, Goes}
+use Rattle.items.specs.Items.{Tally, tally, blank, clean, pastOf, Between, Goes}
 use Rattle.grammar.specs.Table.{reach}
 
 module _ (L : Limits) (x : Source) (fuel evcap ercap : ℕ) (ev er sc : List ℕ) (none : (i : ℕ) → bitAt sc i ≡ false) where

@@ -9,8 +9,8 @@ use Rattle.definition.specs.Run.{Limits}
 use Rattle.definition.specs.Render.{Source, Reading, records, item-numbers, rendered, outcome-of, moments, over}
 use Rattle.definition.specs.Answer.{After, refusing}
 use Rattle.notes.specs.Means.{modeOf}
-use Rattle.desk.specs.declared.items.Desk.{Desk}
-use Rattle.desk.specs.Items.{Tally}
+use Rattle.items.specs.declared.Desk.{Desk}
+use Rattle.items.specs.Items.{Tally}
 use Rattle.desk.specs.declared.read.Limits as C
 use Rattle.desk.specs.declared.read.Reading as D
 use Rattle.desk.specs.declared.read.Reading.the-variants.{Refused, Answered}

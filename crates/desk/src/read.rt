@@ -1,11 +1,11 @@
 // The public reader: the refusals in their order, the reading inside SOURCE_FILE, and zeros where they belong.
-use crate::items::Desk;
-use crate::items::items;
 use cells::clear;
 use cells::wipe;
 use grammar::parts::literal;
 use grammar::table::LITERAL;
 use grammar::table::ROWS;
+use items::Desk;
+use items::items;
 use kinds::SETS;
 use kinds::kind;
 use notes::names::ER;
@@ -25,13 +25,16 @@ use steps::state::State;
 ghost use mathlib.Core.Path.{_≡_};
 ghost use Prim.Native.Nat.{_+_, _*_, _≤_};
 ghost use lib.ListN.{length, replicate};
+ghost use Rattle.kinds.specs.Answers.{words};
 ghost use Rattle.shapes.specs.Shapes.{EVENT};
 ghost use Rattle.definition.specs.Run as P;
 ghost use Rattle.definition.specs.Answer.{refusing, after};
 ghost use Rattle.refusals.specs.Judge.{desk};
-ghost use Rattle.notes.specs.Means.{source, Rows};
-ghost use Rattle.desk.specs.Items as Items;
-ghost use Rattle.desk.specs.Items.{tally};
+ghost use Rattle.notes.specs.Means.{source, bufs, Rows};
+ghost use Rattle.notes.specs.Did.{Wf};
+ghost use Rattle.grammar.specs.Table.{allowed, reach, Lent};
+ghost use Rattle.items.specs.Items as Items;
+ghost use Rattle.items.specs.Items.{tally, Goes, Settled};
 ghost use Rattle.desk.specs.Framing.{limitsOf, Framed, afterOf, answering, outcomeOf};
 
 // How many nodes may be open besides SOURCE_FILE, how long a found text may be to be quoted, and whether entrypoint is a term. Any values will do; each
@@ -95,6 +98,65 @@ fn outcome(mode: u8) -> u32
     outcome::DEEP
 }
 
+// The grammar's table, entrypoint being a term or not. What is proved of a step carries every table that is laid out before it, so this one is laid out
+// where little is left to do.
+fn lines_by(entrypoint: bool) -> [u32; 288]
+    ensures { λ r. ⌜ Lent r × (allowed r ≡ entrypoint) ⌝ }
+{
+    let row = literal(entrypoint);
+    let mut table = ROWS;
+    table[LITERAL] = row;
+    table
+}
+
+// The words of the sets, laid out apart for the same reason.
+fn set_words() -> [[u64; 2]; 56]
+    ensures { λ r. ⌜ r ≡ words ⌝ }
+{
+    SETS
+}
+
+// All items, by these limits.
+fn items_by(
+    d: Desk,
+    limits: Limits,
+    src: &[u8],
+    ids: &[u32],
+    ends: &[u32],
+    events: &mut [u32],
+    errors: &mut [u32],
+    scratch: &mut [u64],
+    notes: &mut [usize; 69],
+) -> Desk
+    requires { ⌜
+        Rows (source (now src) (now ids) (now ends))
+        × Wf (source (now src) (now ids) (now ends)) (bufs (now events) (now errors) (now scratch)) (tally d (now notes) .state)
+        × Settled (tally d (now notes) .state) ⌝ }
+    ensures { λ r. ⌜
+        Goes (reach (limitsOf limits)) 1 (length (now (ids .entry)))
+        (source (now (src .entry)) (now (ids .entry)) (now (ends .entry)))
+        (tally d (now (notes .entry))) (tally r (now (notes .exit)))
+        (bufs (now (events .entry)) (now (errors .entry)) (now (scratch .entry)))
+        (bufs (now (events .exit)) (now (errors .exit)) (now (scratch .exit))) ⌝ }
+{
+    let depth = limits.depth as usize;
+    let table = lines_by(limits.entrypoint);
+    let sets = set_words();
+    items(
+        d,
+        depth,
+        src,
+        ids,
+        ends,
+        events,
+        errors,
+        scratch,
+        notes,
+        &table,
+        &sets,
+    )
+}
+
 // SOURCE_FILE around all items, in events with room for its begin event, where scratch and notes are all zero.
 fn whole(
     src: &[u8],
@@ -126,23 +188,8 @@ fn whole(
     let d = blank(fuel, events.len() - EVENT);
     notes[ERCAP] = errors.len();
     notes[QUOTE] = limits.quote as usize;
-    let mut table = ROWS;
-    table[LITERAL] = literal(limits.entrypoint);
-    let sets = SETS;
     let inner = &mut events[EVENT..];
-    let r = items(
-        d,
-        limits.depth as usize,
-        src,
-        ids,
-        ends,
-        inner,
-        errors,
-        scratch,
-        notes,
-        &table,
-        &sets,
-    );
+    let r = items_by(d, limits, src, ids, ends, inner, errors, scratch, notes);
     let s = r.state;
     let t = s.write(sort::END, kind::SOURCE_FILE, 0, size, 0, inner);
     Desk {

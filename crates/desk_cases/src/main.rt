@@ -365,6 +365,33 @@ fn in_words(name: &[u8], src: &[u8], ids: &[u32], starts: &[u32], ends: &[u32], 
     }
 }
 
+// The first rows of longer lists, so many of each.
+fn first_rows(
+    name: &[u8],
+    src: &[u8],
+    ids: &[u32],
+    starts: &[u32],
+    ends: &[u32],
+    a: usize,
+    b: usize,
+    c: usize,
+    words: usize,
+) {
+    if ids.len() < a {
+        return;
+    }
+    if starts.len() < b {
+        return;
+    }
+    if ends.len() < c {
+        return;
+    }
+    if src.len() < c {
+        return;
+    }
+    in_words(name, &src[..c], &ids[..a], &starts[..b], &ends[..c], words);
+}
+
 // Lists of these lengths, whose rows are a byte of white space each.
 fn rows(name: &[u8], a: usize, b: usize, c: usize, words: usize) {
     let src = [32u8; 65537];
@@ -373,13 +400,7 @@ fn rows(name: &[u8], a: usize, b: usize, c: usize, words: usize) {
     let mut ends = [0u32; 65537];
     count_up(&mut starts, 0);
     count_up(&mut ends, 1);
-    if a <= 65537 {
-        if b <= 65537 {
-            if c <= 65537 {
-                in_words(name, &src[..c], &ids[..a], &starts[..b], &ends[..c], words);
-            }
-        }
-    }
+    first_rows(name, &src, &ids, &starts, &ends, a, b, c, words);
 }
 
 // One row.
@@ -431,11 +452,15 @@ fn lengths() {
     three(b"2 before 3", &wrong, &starts[..2], &ends);
 }
 
-fn single() {
+// A row's id, judged before its place.
+fn single_ids() {
     one(b"id 81", b"a", 81, 0, 1);
     one(b"id 82", b"a", 82, 0, 1);
     one(b"id 4294967295", b"a", 4294967295, 0, 1);
     one(b"3 before 4", b"a", 82, 0, 0);
+}
+
+fn single() {
     one(b"two bytes", b"ab", 74, 0, 2);
     one(b"first start 1", b"ab", 74, 1, 2);
     one(b"last end short", b"ab", 74, 0, 1);
@@ -523,7 +548,7 @@ fn include_first() {
     );
 }
 
-// What is expected here is the Rust's.
+// What is expected here and in `imports_and_rules` is the Rust's.
 fn imports() {
     one(b"import, end short", b"import", 25, 0, 5);
     one(b"import without string", b"import", 25, 0, 6);
@@ -544,6 +569,9 @@ fn imports() {
         32,
         false,
     );
+}
+
+fn imports_and_rules() {
     import_alone(b"import, fuel 0", 0, false);
     import_alone(b"import, fuel 1", 1, true);
     damaged_import();
@@ -569,6 +597,9 @@ fn rooms() {
     rule(b"P2, room 85", 5, 1, 85, 0, false);
     rule(b"P2, room 4", 5, 1, 4, 0, false);
     rule(b"P2, room 0", 5, 1, 0, 0, false);
+}
+
+fn error_rooms() {
     rule(b"P3, rooms 85 7", 4, 1, 85, 7, false);
     rule(b"P3, rooms 80 7", 4, 1, 80, 7, false);
     rule(b"P3, rooms 85 6", 4, 1, 85, 6, false);
@@ -624,6 +655,20 @@ fn limited(name: &[u8], src: &[u8], end: u32, depth: u16, quote: u8) {
     tell(name, r, &scratch, &events, &errors, false);
 }
 
+fn texts() {
+    text(b"text of 15", b"rule 123456789012345", 20);
+    text(b"text of 16", b"rule 1234567890123456", 21);
+    limited(b"text of 15, 14 quoted", b"rule 123456789012345", 20, 9, 14);
+    limited(
+        b"text of 16, 16 quoted",
+        b"rule 1234567890123456",
+        21,
+        9,
+        16,
+    );
+    limited(b"no node may be open", b"rule 123456789012345", 20, 0, 16);
+}
+
 // Bytes that are no text stand where a rule's name is expected.
 fn not_text(name: &[u8], src: &[u8], end: u32, room: usize) {
     let ids = [37, 0, 3];
@@ -654,6 +699,10 @@ fn places() {
     not_text(b"ED A0 80, room 5", b"rule \xED\xA0\x80", 8, 5);
     not_text(b"F4 90 80 80", b"rule \xF4\x90\x80\x80", 9, 32);
     not_text(b"E2 82", b"rule \xE2\x82", 7, 32);
+}
+
+// The same of bytes that begin no character, or one that is cut short.
+fn more_places() {
     not_text(b"E1 41", b"rule \xE1\x41", 7, 32);
     not_text(b"C0", b"rule \xC0", 6, 32);
     not_text(b"BF", b"rule \xBF", 6, 32);
@@ -783,24 +832,18 @@ fn main() {
     sizes();
     many_rows();
     lengths();
+    single_ids();
     single();
     tiling();
     imports();
+    imports_and_rules();
     words();
     rooms();
+    error_rooms();
     stray_rooms();
-    text(b"text of 15", b"rule 123456789012345", 20);
-    text(b"text of 16", b"rule 1234567890123456", 21);
-    limited(b"text of 15, 14 quoted", b"rule 123456789012345", 20, 9, 14);
-    limited(
-        b"text of 16, 16 quoted",
-        b"rule 1234567890123456",
-        21,
-        9,
-        16,
-    );
-    limited(b"no node may be open", b"rule 123456789012345", 20, 0, 16);
+    texts();
     places();
+    more_places();
     behind_junk();
     many_rules();
     signs(b"1016 signs", 1016);

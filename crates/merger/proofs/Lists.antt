@@ -1,13 +1,11 @@
 -- An event in a list of numbers: writing its five cells, and reading them again.
-use Prim.Native.Nat.{ℕ, suc, _+_, _-_, _≤_, _<_}
-use mathlib.Core.Path.{_≡_, refl, ap, ap₂, sym, _∙_}
-use mathlib.Core.List.{List, [], _∷_, _++_, append-nil}
-use lib.ListN.{length, getD, take, drop, set, replicate, length-set, length-drop}
-use lib.Seq.{drop-length, drop-cons, set-append-seam, getD-append-seam, getD-append-add}
-use borrow.Rule.Slice.PartMut.{midOf, putMid, mid-len, post-is}
-use native.Mathlib.Nat.{zero-add, suc-add, le-refl}
-use native.Mathlib.Omega.{arith}
-use Rattle.shapes.specs.Shapes.{EVENT, Entry, flat, entries}
+use Prim.Native.Nat.{ℕ, _+_, _-_}
+use mathlib.Core.Path.{_≡_, ap, ap₂, _∙_}
+use mathlib.Core.List.{List, [], _∷_, _++_}
+use lib.ListN.{length, set, length-set}
+use lib.Seq.{set-append-seam, getD-append-seam, getD-append-add}
+use native.Mathlib.Nat.{zero-add, suc-add}
+use Rattle.shapes.specs.Shapes.{Entry, flat}
 use Rattle.events.specs.Events.{entry-at}
 use Rattle.merger.specs.Events.{put-at}
 

@@ -1,6 +1,6 @@
 -- The relation's first laws: nothing done, one step after another, an event written, a place moved. Assumes nothing.
-use Prim.Native.Nat.{ℕ, zero, suc, _+_, _-_, _*_, _≤_, _<_}
-use mathlib.Core.Path.{_≡_, refl, sym, ap, ap₂, subst, _∙_}
+use Prim.Native.Nat.{ℕ, _+_, _-_, _*_, _≤_, _<_}
+use mathlib.Core.Path.{_≡_, refl, sym, ap, subst, _∙_}
 use mathlib.Core.List.{List, [], _∷_, _++_, map}
 use mathlib.Core.Bool.{Bool, true, false}
 use native.Mathlib.Nat.{le-refl, le-trans}
@@ -15,15 +15,14 @@ use Rattle.definition.specs.Run as P
 use Rattle.definition.specs.Run.{Event, opened, leaf, closed, bad, Limits}
 use Rattle.definition.specs.Buffer.{height, cell, next-depth, buffer}
 use Rattle.definition.proofs.Buffer.{next-is}
-use Rattle.definition.specs.Render.{Source, records, said, held, used, exceeds, over}
+use Rattle.definition.specs.Render.{Source, records, said, used, over}
 use Rattle.notes.specs.Whole.{Whole, beside}
 use Rattle.notes.specs.Bits.{ifb}
-use Rattle.notes.specs.Change.{withPos, withEv, withFull, standing}
-use Rattle.notes.specs.Means.{Bufs, bufs, Past, Means, Stands, Lines, overOf}
-use Rattle.notes.specs.Did.{Ok, Sound, Wf, Roomy, Did, Events, Errors, Plain, Penned, Put}
-use Rattle.notes.proofs.Naming.{none-named}
+use Rattle.notes.specs.Change.{withPos, withEv, withFull}
+use Rattle.notes.specs.Means.{Bufs, bufs, Past, Means, Stands, overOf}
+use Rattle.notes.specs.Did.{Ok, Sound, Wf, Did, Penned, Put}
 use Rattle.notes.proofs.Lists.{stored, take-event, keep-event, length-event}
-use Rattle.notes.proofs.Rooms.{ev-count, er-count, fits, first-of, spill, marked, full-first, exceeds-none, exceeds-events}
+use Rattle.notes.proofs.Rooms.{ev-count, fits, first-of, spill, marked, full-first, exceeds-none, exceeds-events}
 
 -- the definition's state but for what nothing reads
 abbrev pub bare : P.State → P.State

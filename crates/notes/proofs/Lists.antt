@@ -1,14 +1,13 @@
 -- Facts on lists.
-use Prim.Native.Nat.{ℕ, zero, suc, _+_, _-_, _*_, _≤_, _<_}
+use Prim.Native.Nat.{ℕ, zero, suc, _+_, _-_, _≤_, _<_}
 use mathlib.Core.Path.{_≡_, refl, sym, ap, _∙_}
 use mathlib.Core.List.{List, [], _∷_, _++_}
 use mathlib.Core.Bool.{Bool, true, false, not}
 use native.Mathlib.Omega.{arith}
-use native.Mathlib.Numerals.{towards-suc, add-one, sub-one}
-use lib.ListN.{length, getD, take, drop, set, length-set, length-append, length-drop}
-use lib.Seq.{take-at, sets, sets-eq, length-take-le, take-set-le, take-append-le, take-set-lt}
+use native.Mathlib.Numerals.{towards-suc, sub-one}
+use lib.ListN.{length, getD, take, drop, set, length-set, length-append}
+use lib.Seq.{take-at, sets-eq, length-take-le, take-set-le}
 use Rattle.shapes.specs.Shapes.{EVENT, event}
-use Rattle.definition.specs.Buffer.{patch}
 
 pub getD-any : (l : List ℕ) (i d d′ : ℕ) → i < length l → getD l i d ≡ getD l i d′
 getD-any [] i d d′ h = absurd (omega arith)

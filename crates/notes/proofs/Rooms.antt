@@ -4,16 +4,14 @@ use mathlib.Core.Path.{_≡_, refl, sym, ap, ap₂, _∙_}
 use mathlib.Core.List.{List, [], _∷_, _++_}
 use mathlib.Core.Bool.{Bool, true, false}
 use native.Mathlib.Omega.{arith}
-use native.Mathlib.Decide.{ℕ-discrete}
 use borrow.Author.Tests.{le-ltb, lt-ltb, ltb-true, ltb-false}
 use lib.Dec.{ltb}
-use lib.ListN.{length, take, length-append}
+use lib.ListN.{length, length-append}
 use lib.Seq.{length-take-le}
 use Rattle.shapes.specs.Shapes.{EVENT, Rec, Owned, flat-records, of-item, bare}
 pub use Rattle.shapes.proofs.Laws.{flat-append, lengths, flat-lengths, bare-of}
 use Rattle.definition.specs.Run as P
 use Rattle.definition.specs.Run.{Event, opened, leaf, closed, bad, Choice, Limits}
-use Rattle.definition.specs.Buffer.{buffer}
 use Rattle.definition.specs.Render.{Source, record-of, records, said, held, used, exceeds}
 use Rattle.definition.proofs.Buffer.{buffer-length}
 use Rattle.notes.specs.Whole.{Whole}

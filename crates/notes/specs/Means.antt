@@ -1,13 +1,13 @@
 -- What the state and the lent lists stand for in the definition.
-use Prim.Native.Nat.{ℕ, zero, suc, _+_, _-_, _*_, _≤_, _<_}
+use Prim.Native.Nat.{ℕ, zero, suc, _+_, _-_, _≤_, _<_}
 use mathlib.Core.Path.{_≡_}
 use mathlib.Core.List.{List, [], _∷_, _++_, map}
-use mathlib.Core.Bool.{Bool, true, false}
+use mathlib.Core.Bool.{false}
 use mathlib.Core.Option.{Option, none, some}
 use lib.Dec.{ltb}
 use lib.ListN.{length, getD, take, drop}
 use Rattle.definition.specs.Run as P
-use Rattle.definition.specs.Run.{Event, Choice, Mode, ok, failed, stopped, Stop, spent, deep, Limits}
+use Rattle.definition.specs.Run.{Event, Choice, Mode, ok, failed, stopped, spent, deep, Limits}
 use Rattle.definition.specs.Buffer.{buffer}
 use Rattle.definition.specs.Render.{Source, record-of, records, over, used}
 use Rattle.kinds.specs.Sets.{setOf, idsOf}

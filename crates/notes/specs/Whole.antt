@@ -1,5 +1,5 @@
 -- The reader's state as a whole: the few numbers that every step hands on, and what is noted beside them in a lent list.
-use Prim.Native.Nat.{ℕ, _+_}
+use Prim.Native.Nat.{ℕ}
 use mathlib.Core.List.{List, []}
 use lib.ListN.{getD, drop}
 

@@ -1,5 +1,4 @@
 // What was expected: codes of names in the list of notes, which is lent beside the state.
-ghost use mathlib.Core.Path.{_≡_};
 ghost use Prim.Native.Nat.{_≤_, _<_};
 ghost use lib.ListN.{length};
 ghost use Rattle.definition.specs.Render.{Source};

@@ -1,6 +1,6 @@
 -- The merger's finished list is the list without each ERROR end that an ERROR begin follows, and without that begin, the spans of ERROR nodes apart. So a
 -- list that nests is merged, its merged list nests, and the two have the same rules.
-use Prim.Native.Nat.{ℕ, zero, suc, _*_, _%_}
+use Prim.Native.Nat.{ℕ, suc, _%_}
 use mathlib.Core.Path.{_≡_, refl, ap, ap₂, sym, _∙_, subst}
 use mathlib.Core.List.{List, [], _∷_}
 use mathlib.Core.Bool.{Bool, true, false, _&&_}

@@ -10,15 +10,15 @@ use lib.Dec.{T, eqb}
 use lib.ListN.{length}
 use native.Mathlib.Omega.{arith}
 use Rattle.kinds.specs.Kinds as kd
-use Rattle.kinds.specs.Sets.{idOf, kindOf, pick, trivial}
+use Rattle.kinds.specs.Sets.{idOf, kindOf, trivial}
 use Rattle.definition.specs.Prog.{Production, RULE-DECL, RULE-MODS, Prog, eat, unless, ifnext, opt, many, then, _⨟_, _/_, last, recover, node, memo}
 use Rattle.definition.specs.Grammar.{grammar, kind, item-of, one}
-use Rattle.definition.specs.Run.{State, Reader, Limits, Event, opened, leaf, closed, bad, Choice, stray, Mode, ok, failed, stopped, Next, end, other, hit, next, sought, skip, past, trivia-out, trivia, seek-out, skip-to, turn, put, back, begin, finish, nodes, if-ok, eat-row, eats, refuse-row, branch, or-else, alts, go-on, loop, fails, known, remember, memo-row, choose, first-names, swallow, recovered, recovery, exec, run, errors, rule-keywords, item-keywords, read-item, stray-item, item-at, flush, again, item, items, start, read}
+use Rattle.definition.specs.Run.{State, Reader, Limits, Event, opened, leaf, closed, bad, Choice, stray, Mode, ok, failed, stopped, Next, end, other, hit, next, sought, skip, past, trivia-out, trivia, seek-out, skip-to, turn, put, back, begin, finish, if-ok, eat-row, eats, refuse-row, branch, or-else, alts, go-on, loop, fails, known, remember, memo-row, choose, first-names, swallow, recovered, recovery, exec, run, errors, rule-keywords, item-keywords, read-item, stray-item, item-at, flush, again, item, items, start, read}
 use Rattle.definition.proofs.Gap.{gap-out}
 use Rattle.definition.proofs.Every.{productions, each-but}
 use Rattle.definition.proofs.Agree.{nil-cons}
 use Rattle.definition.proofs.Grows.{grows}
-use Rattle.definition.proofs.Shrink.{strict, strict-exec, run-ok, not-failed, not-stopped}
+use Rattle.definition.proofs.Shrink.{strict-exec, run-ok, not-failed, not-stopped}
 use Rattle.definition.proofs.Tidy.{charge-same}
 use Rattle.theorems.proofs.Bound.{charged}
 use Rattle.outline.proofs.Walking.{never}

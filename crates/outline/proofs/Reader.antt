@@ -1,23 +1,21 @@
 -- A list that the reader wrote, merged or not, is never refused 9 or 15: it nests, no deeper than is allowed, and each of its rules has a name.
-use Prim.Native.Nat.{ℕ, zero, suc, _+_, _≤_, _<_}
+use Prim.Native.Nat.{ℕ, zero, suc, _≤_, _<_}
 use mathlib.Core.Path.{_≡_, refl, ap, ap₂, sym, _∙_, subst}
 use mathlib.Core.List.{List, [], _∷_}
 use mathlib.Core.Bool.{Bool, true, false, _&&_, not}
-use lib.Dec.{eqb, ltb}
+use lib.Dec.{eqb}
 use lib.ListN.{length}
 use borrow.Author.Tests.{eq-eqb, eqb-true, lt-ltb}
 use native.Mathlib.Omega.{arith}
 use Rattle.shapes.specs.Shapes.{Entry}
 use Rattle.kinds.specs.Kinds as kd
 use Rattle.definition.specs.Run as D
-use Rattle.definition.specs.Run.{State, Limits, read}
+use Rattle.definition.specs.Run.{Limits, read}
 use Rattle.shapes.specs.Shapes as W
 use Rattle.definition.specs.Render.{Source, starts-at, ends-at, span-end, bads, render, Reading}
 use Rattle.definition.specs.Answer as A
 use Rattle.definition.specs.Answer.{Desk, answer, source-of}
-use Rattle.definition.specs.Merge as M
 use Rattle.definition.specs.Merge.{finished}
-use Rattle.definition.proofs.Agree.{nil-cons}
 use Rattle.definition.proofs.Shown.{render-keeps}
 use Rattle.theorems.proofs.Answered.{given-is}
 use Rattle.theorems.proofs.Joined.{read-well-formed}

@@ -2,13 +2,12 @@
 -- that has it is accepted; where it is allowed it is a term. E is the limit that says which.
 use Prim.Native.Nat.{ℕ}
 use mathlib.Core.Path.{_≡_, refl, sym, subst}
-use mathlib.Core.Logic.{_⊎_, inl, inr}
+use mathlib.Core.Logic.{inl}
 use mathlib.Core.List.{List, [], _∷_, _++_}
-use mathlib.Core.Bool.{Bool, true, false}
-use lib.Dec.{T}
+use mathlib.Core.Bool.{true, false}
 use Rattle.kinds.specs.Kinds as k
 use Rattle.kinds.specs.Sets.{idOf}
-use Rattle.definition.specs.Prog.{Production, Prog, TERM, unless, node}
+use Rattle.definition.specs.Prog.{TERM, unless, node}
 use Rattle.definition.specs.Grammar.{grammar, kind, plain-terms}
 use Rattle.definition.specs.Ford.{Res, Ford, nt, rules, strip, Items, no-more, one-item, Accepts}
 use Rattle.definition.proofs.Peg.{Peg, eat-yes, alt-yes, node-is}

@@ -1,10 +1,10 @@
 -- What the code's tests of answers and fates stand for. Assumes nothing.
-use Prim.Native.Nat.{ℕ, _+_}
-use mathlib.Core.Path.{_≡_, refl, sym, ap, _∙_}
-use mathlib.Core.Bool.{Bool, true, false, not, _&&_}
+use Prim.Native.Nat.{ℕ}
+use mathlib.Core.Path.{_≡_, sym, ap, _∙_}
+use mathlib.Core.Bool.{Bool, true, not, _&&_}
 use borrow.Author.Tests.{eq-eqb, ne-eqb}
 use lib.Dec.{eqb}
-use Rattle.replay.specs.Tally.{sortOf, amountOf, differ, gives, marking, one}
+use Rattle.replay.specs.Tally.{sortOf, amountOf, differ, gives, marking}
 use Rattle.replay.specs.declared.tally.Answer.{Answer}
 use Rattle.replay.specs.declared.tally.Fate.{Fate}
 use Rattle.replay.specs.declared.tally.Fate.the-variants as fate

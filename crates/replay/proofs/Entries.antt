@@ -2,7 +2,7 @@
 use Prim.Native.Nat.{ℕ, _+_, _≤_, _<_}
 use mathlib.Core.Path.{_≡_, refl, sym, ap, _∙_}
 use mathlib.Core.List.{List, [], _∷_, _++_}
-use mathlib.Core.Bool.{Bool, true, false, cond, _&&_}
+use mathlib.Core.Bool.{Bool, true, false, _&&_}
 use mathlib.Core.Logic.{⊎-elim}
 use mathlib.Core.Option.{Option, none, some}
 use native.Mathlib.Omega.{arith}
@@ -56,6 +56,13 @@ module _ (name : List ℕ) (s d : ℕ) where
   an-answer (some b) e f = cc
 
 -- FIELDS
+
+-- where a field ends, by the code's tests: before the line's end, or at it
+pub inside : {m : ℕ} {s : List ℕ} {at to : ℕ} → Piece m s at to → (to ≡ length s → ⊥) → to < length s
+inside p h = omega (arith, p .within, h)
+
+pub at-end : {n to : ℕ} → to ≡ n → n ≤ to
+at-end h = omega (arith, h)
 
 pub finished : {s : List ℕ} {fs : List (List ℕ)} {at to : ℕ} → Passed 9 s fs at → Piece 9 s at to → length s ≤ to
     → lineFrom (entryOf (fs ++ (part at to s ∷ []))) ≡ lineFrom (entryOf (parted 9 s))

@@ -8,14 +8,13 @@ use native.Mathlib.Omega.{arith}
 use lib.Dec.{eqb}
 use lib.ListN.{length, drop, length-append, drop-of-length-le}
 use Rattle.shapes.specs.Outcome.{DONE, SPENT, DEEP}
-use Rattle.shapes.specs.Refusal.{DAY}
 use Rattle.listing.specs.Numbers.{number}
 use Rattle.listing.specs.Lines.{onto, parted, Piece}
 use Rattle.listing.proofs.Pieces.{part, marked, unmarked, one-piece, part-length}
 use Rattle.replay.specs.Tally.{REFUSED, wasRead, gives, one, countOf, replayed, adding, Room}
 use Rattle.replay.specs.Tally as tallies
-use Rattle.replay.specs.Day.{Entry, entry, answerOf, withAnswer, entryFrom, entryOf, Day, following, behindLast, linesOf, dayOf, filesOf, Totals, refusalAt, totalsOf}
-use Rattle.replay.specs.Answer.{lineFrom, totalsFrom, Again}
+use Rattle.replay.specs.Day.{Entry, answerOf, withAnswer, entryFrom, entryOf, Day, following, behindLast, linesOf, dayOf, filesOf, refusalAt, totalsOf}
+use Rattle.replay.specs.Answer.{lineFrom, Again}
 use Rattle.replay.specs.declared.lines.Line.{Line}
 use Rattle.replay.specs.declared.lines.Line.the-variants as line
 use Rattle.replay.specs.declared.lines.Replayed.the-variants as result

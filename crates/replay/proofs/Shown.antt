@@ -1,11 +1,9 @@
 -- A line's pieces joined are the line, and where it has room. Assumes nothing.
 use Prim.Native.Nat.{ℕ, _+_, _≤_, _<_}
-use mathlib.Core.Path.{_≡_, refl, sym, ap, _∙_}
+use mathlib.Core.Path.{_≡_, sym, ap, _∙_}
 use mathlib.Core.List.{List, [], _∷_, _++_, map, append-assoc}
 use mathlib.Core.Bool.{Bool, true, false, cond}
-use native.Mathlib.Omega.{arith}
 use borrow.Author.Tests.{le-leb, lt-leb}
-use lib.Dec.{leb}
 use lib.ListN.{length, drop}
 use Rattle.kinds.specs.Spelling.{Spelled}
 use Rattle.listing.specs.Numbers.{decimal}
@@ -13,9 +11,8 @@ use Rattle.listing.specs.Listing.{led}
 use Rattle.listing.proofs.Written.{led-append}
 use Rattle.replay.specs.Tally.{marked, one}
 use Rattle.replay.specs.Day.{Entry, shownOf, fateShown, fieldsOf, written, writable, fileLine}
-use Rattle.replay.specs.Answer.{Put, putting, placed, recording, showing}
+use Rattle.replay.specs.Answer.{Put, putting, placed, recording}
 use Rattle.replay.specs.declared.lines.Shown.{Shown}
-use Rattle.replay.specs.declared.lines.Written.{Written}
 use Rattle.replay.specs.declared.lines.Written.the-variants as wrote
 use Rattle.replay.specs.declared.tally.File.{File}
 

@@ -9,7 +9,7 @@ use borrow.Author.Tests.{eq-eqb, eqb-true}
 use lib.Dec.{eqb}
 use lib.ListN.{length}
 use Rattle.shapes.specs.Outcome.{DONE, SPENT, DEEP}
-use Rattle.replay.specs.Tally.{REFUSED, sortOf, amountOf, differ, wasRead, gives, marking, marked, one, countOf, replayed, adding}
+use Rattle.replay.specs.Tally.{REFUSED, sortOf, amountOf, differ, wasRead, gives, marked, one, countOf, replayed, adding}
 use Rattle.replay.specs.Day.{Entry, entry, filesOf}
 use Rattle.replay.specs.declared.tally.Answer.{Answer}
 use Rattle.replay.specs.declared.tally.Answer.the-variants as answer

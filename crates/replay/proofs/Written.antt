@@ -9,7 +9,7 @@ use borrow.Author.Tests.{ne-eqb}
 use lib.Dec.{eqb}
 use lib.ListN.{length}
 use Rattle.shapes.specs.Refusal.{DAY}
-use Rattle.listing.specs.Numbers.{number, decimal}
+use Rattle.listing.specs.Numbers.{number}
 use Rattle.listing.specs.Lines.{onto, parted}
 use Rattle.listing.specs.Listing.{led}
 use Rattle.listing.proofs.Digits.{reads-back}
@@ -17,7 +17,7 @@ use Rattle.listing.proofs.Lent.{in-parts}
 use Rattle.listing.proofs.Marks.{Free, free-one, free-append, free-decimal, AllFree, free-led, fields-of}
 use Rattle.listing.proofs.Pieces.{one-piece}
 use Rattle.replay.specs.Tally.{amountOf, replayed}
-use Rattle.replay.specs.Day.{Entry, entry, shownOf, entryFields, written, single, writable, answerOf, withAnswer, entryFrom, entryOf, Day, following, linesOf, dayOf, filesOf, totalsOf}
+use Rattle.replay.specs.Day.{Entry, entry, shownOf, entryFields, written, single, writable, answerOf, withAnswer, entryOf, Day, following, linesOf, dayOf, filesOf, totalsOf}
 use Rattle.replay.specs.declared.tally.Answer.{Answer}
 use Rattle.replay.specs.declared.tally.Answer.the-variants as answer
 use Rattle.replay.specs.declared.tally.Fate.{Fate}

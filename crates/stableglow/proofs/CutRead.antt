@@ -1,5 +1,5 @@
 -- What `stableglow_cut` writes, `stableglow_read` takes: rows that were cut are never refused 2, 3 or 4, nor 1 while there are at most 65,536.
-use Prim.Native.Nat.{ℕ, zero, suc, _+_, _-_, _≤_, _<_, max}
+use Prim.Native.Nat.{ℕ, _+_, _-_, _≤_, max}
 use mathlib.Core.Path.{_≡_, refl, sym, ap, ap₂, _∙_, subst}
 use mathlib.Core.List.{List, [], _∷_, _++_, map}
 use mathlib.Core.Bool.{Bool, true, false, cond, not, _&&_, _||_}
@@ -8,7 +8,7 @@ use native.Mathlib.Nat.{max-le}
 use lib.Dec.{eqb, ltb}
 use lib.ListN.{length, take, drop, length-map}
 use borrow.Author.Tests.{eq-eqb, lt-ltb, le-ltb, ltb-false}
-use Rattle.definition.specs.Answer.{Desk, no-id, tile, words, grounds, first-of, refusal, any}
+use Rattle.definition.specs.Answer.{Desk, no-id, tile, words, first-of, refusal, any}
 use Rattle.cutter.specs.Rows.{After, cutting, put, refused, cut}
 use Rattle.cutter.specs.Tiles.{Tiles, Ids}
 use Rattle.cutter.proofs.Tiling.{tiles}

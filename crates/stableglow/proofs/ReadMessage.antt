@@ -12,13 +12,13 @@ use Rattle.shapes.specs.Shapes.{Rec, Owned, flat-records, owned, bare}
 use Rattle.shapes.proofs.Laws.{bare-owned, bare-length}
 use Rattle.kinds.specs.Kinds as kinds
 use Rattle.utf8.specs.Utf8.{utf8, bad-byte}
-use Rattle.definition.specs.Run.{State, Limits, Event, opened, leaf, closed, bad, Choice, wanted, unwanted, stray, read}
-use Rattle.definition.specs.Render.{Source, starts-at, ends-at, id-at, text-at, form-found, form-slash, form-unknown, form-wanted, form-unwanted, form-of, names-of, place-of, record-of, records, Reading}
-use Rattle.definition.specs.Answer.{Desk, After, Answer, given, source-of, left-by}
+use Rattle.definition.specs.Run.{Limits, Event, opened, leaf, closed, bad, Choice, wanted, unwanted, stray, read}
+use Rattle.definition.specs.Render.{Source, starts-at, id-at, text-at, form-found, form-slash, form-unknown, form-wanted, form-unwanted, form-of, names-of, place-of, record-of, records, Reading}
+use Rattle.definition.specs.Answer.{Desk, After, Answer, source-of, left-by}
 use Rattle.definition.proofs.Cut.{Rows, rows-of}
 use Rattle.theorems.proofs.Answered.{given-is}
 use Rattle.theorems.proofs.Matched.{Fresh, Names, Row, Written, read-rowed, tile-rises, tile-within}
-use Rattle.messages.specs.Record.{part, behind, counts, has, named, empty, quotes, shows, reads, size, recordAt}
+use Rattle.messages.specs.Record.{part, behind, counts, has, named, shows, reads, size, recordAt}
 use Rattle.messages.specs.Message.{message, written, messaging}
 use Rattle.messages.proofs.Readable.{reads-when}
 use Rattle.desk.specs.declared.read.Reading.the-variants.{Answered}

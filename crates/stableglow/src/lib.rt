@@ -149,7 +149,9 @@ pub extern "C" fn stableglow_message(
     room: &mut [u8],
     length: &mut [u32; 1],
 ) -> u32
-    ensures { λ r. ⌜ faced r (now (length .exit)) (now (room .exit)) ≡ messageFace (messaging (now (source .entry)) (now (numbers .entry)) (now (room .entry))) ⌝ }
+    ensures { λ r. ⌜
+        faced r (now (length .exit)) (now (room .exit))
+        ≡ messageFace (messaging (now (source .entry)) (now (numbers .entry)) (now (room .entry))) ⌝ }
 {
     let written = messages::message(source, numbers, room);
     match written {

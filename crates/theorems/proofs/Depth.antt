@@ -1,6 +1,6 @@
 -- The merged list's depths are the counted ones: "only neighbours at one depth are joined", so every event that is left keeps the depth that it had.
 use Prim.Native.Nat.{ℕ, zero, suc, _-_, _%_}
-use mathlib.Core.Path.{_≡_, refl, ap, ap₂, sym, _∙_, subst}
+use mathlib.Core.Path.{_≡_, refl, ap, sym, _∙_, subst}
 use mathlib.Core.List.{List, [], _∷_}
 use mathlib.Core.Bool.{Bool, true, false, _&&_}
 use lib.Dec.{eqb, leb, T, eqb→eq, eqb-refl}

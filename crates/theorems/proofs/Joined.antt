@@ -1,11 +1,11 @@
 -- A list that the reader wrote, handed to the merger: it is never refused 9 or 10, and the ERROR nodes that are joined stand in their order, so that the
 -- surviving node runs from the first one's start to the last one's end.
-use Prim.Native.Nat.{ℕ, zero, suc, _+_, _-_, _*_, _%_, _≤_, _<_}
+use Prim.Native.Nat.{ℕ, zero, suc, _-_, _*_, _%_, _≤_, _<_}
 use mathlib.Core.Path.{_≡_, refl, ap, ap₂, sym, _∙_, subst}
-use mathlib.Core.List.{List, [], _∷_, _++_}
+use mathlib.Core.List.{List, [], _∷_}
 use mathlib.Core.Bool.{Bool, true, false, _&&_}
 use lib.Dec.{eqb, ltb, leb, T, eqb→eq, eqb-refl, ltb→lt, le→leb}
-use lib.ListN.{length, getD, length-append}
+use lib.ListN.{length, getD}
 use native.Mathlib.Nat.{min-eq-left, max-eq-right, le-refl}
 use native.Mathlib.Omega.{arith}
 use Rattle.kinds.specs.Kinds as k
@@ -14,12 +14,12 @@ use Rattle.shapes.specs.Refusal as Refusal
 use Rattle.shapes.specs.Shapes.{EVENT, Entry, flat, entries}
 use Rattle.shapes.proofs.Laws.{flat-length, entries-flat}
 use Rattle.definition.specs.Run.{State, Limits, Event, opened, leaf, closed, bad, read}
-use Rattle.definition.specs.Render.{Source, starts-at, ends-at, span-end, bads, render, inside, Reading, rendered}
+use Rattle.definition.specs.Render.{Source, starts-at, ends-at, span-end, bads, render, Reading}
 use Rattle.definition.specs.Open.{Nest}
 use Rattle.definition.specs.Answer.{Desk, tile, answer, given, source-of}
-use Rattle.definition.specs.Merge.{deep, sound, well-formed, error-of, Span, Mark, opens, joins, closes, keeps, ended, marked, marks, paired, reach, merge, finished, Merged, merged, refusing, merger}
+use Rattle.definition.specs.Merge.{sound, well-formed, error-of, Span, Mark, opens, joins, closes, keeps, ended, marked, marks, paired, reach, merge, finished, Merged, merged, refusing, merger}
 use Rattle.definition.proofs.Every.{and-left, and-right}
-use Rattle.definition.proofs.Tidy.{In, Ins, read-tidy}
+use Rattle.definition.proofs.Tidy.{Ins, read-tidy}
 use Rattle.theorems.proofs.Trail.{Trail, read-trail}
 use Rattle.definition.proofs.Shown.{render-keeps}
 use Rattle.definition.proofs.Cut.{Rows, rows-of}

@@ -1,12 +1,12 @@
 -- What is known of the errors that are chosen. An unexpected row is one that was matched inside `not`, so it is a row of the file and has text: form 5
 -- ("Unexpected: 5 empty") cannot occur. What is expected has names, at least one, and none twice.
-use Prim.Native.Nat.{ℕ, zero, suc, _+_, _-_, _≤_, _<_, min}
-use mathlib.Core.Path.{_≡_, refl, ap, sym, _∙_, subst}
+use Prim.Native.Nat.{ℕ, zero, suc, _+_, _-_, _≤_, _<_}
+use mathlib.Core.Path.{_≡_, refl, ap, sym, subst}
 use mathlib.Core.List.{List, [], _∷_, _++_}
 use mathlib.Core.Bool.{Bool, true, false, _&&_}
 use mathlib.Core.Option.{Option, none, some}
 use lib.Dec.{eqb, ltb, T, eqb→eq, ltb→lt}
-use lib.ListN.{length, getD, take, drop, length-take, length-drop, length-append}
+use lib.ListN.{length, getD, drop, length-take, length-drop, length-append}
 use native.Mathlib.Omega.{arith}
 use borrow.Author.Tests.{eqb-false}
 use Rattle.kinds.specs.Kinds as kinds
@@ -15,8 +15,8 @@ use Rattle.utf8.specs.Utf8.{utf8}
 use Rattle.shapes.specs.Shapes.{Rec}
 use Rattle.definition.specs.Prog.{Production, IMPORT-STMT, INCLUDE-STMT, node}
 use Rattle.definition.specs.Grammar.{grammar, item-of, rule-decl}
-use Rattle.definition.specs.Run.{State, Reader, Limits, Event, opened, leaf, closed, bad, Choice, wanted, unwanted, stray, Mode, ok, failed, stopped, Next, end, other, hit, next, sought, skip, past, trivia-out, trivia, seek, seek-out, skip-to, turn, put, begin, finish, nodes, has, join, further, furthest, pending, add, decide, choose, errors, run, rule-keywords, item-keywords, read-item, stray-item, item-at, flush, again, item, items, start, read}
-use Rattle.definition.specs.Render.{Source, starts-at, ends-at, id-at, text-at, form-found, form-slash, form-unknown, form-wanted, form-unwanted, form-of, record-of, records, Reading}
+use Rattle.definition.specs.Run.{State, Limits, Event, opened, leaf, closed, bad, Choice, wanted, unwanted, stray, Mode, ok, failed, stopped, Next, end, other, hit, next, sought, skip, past, trivia-out, trivia, seek-out, skip-to, turn, put, begin, finish, has, join, further, furthest, pending, add, decide, choose, errors, run, rule-keywords, item-keywords, read-item, stray-item, item-at, flush, again, item, items, start, read}
+use Rattle.definition.specs.Render.{Source, id-at, text-at, form-found, form-slash, form-unknown, form-unwanted, form-of, record-of, records, Reading}
 use Rattle.definition.specs.Answer.{Desk, tile, answer, given, source-of}
 use Rattle.definition.proofs.Every.{and-left, and-right, never, productions, each}
 use Rattle.definition.proofs.Gap.{gap-out}

@@ -1,6 +1,6 @@
 -- REQUEST (x): the item numbers of the records begin at 1, never fall, and are those of the items as they are counted.
 use Prim.Native.Nat.{ℕ, zero, suc, _+_, _-_, _≤_, _<_}
-use mathlib.Core.Path.{_≡_, refl, ap, sym, _∙_, subst}
+use mathlib.Core.Path.{_≡_, refl, ap, _∙_}
 use mathlib.Core.List.{List, [], _∷_, _++_}
 use lib.ListN.{length, getD, replicate}
 use native.Mathlib.Omega.{arith}

@@ -10,7 +10,7 @@ use Rattle.kinds.specs.Kinds as k
 use Rattle.shapes.specs.Shapes.{Entry, flat, Rec}
 use Rattle.definition.specs.Prog.{RULE-DECL, IMPORT-STMT, INCLUDE-STMT, _/_, last, node}
 use Rattle.definition.specs.Run.{State, Limits, Event, opened, closed, bad, stray, Next, end, other, hit, next, past, sought, rule-keywords, item-keywords, skip, item, items, start, read}
-use Rattle.definition.specs.Render.{Source, Reading, bads, inside, records, numbers, item-numbers, outcome-of, rendered, moments}
+use Rattle.definition.specs.Render.{Source, Reading, bads, inside, records, item-numbers, outcome-of, rendered, moments}
 use Rattle.definition.specs.Buffer.{buffer}
 use Rattle.definition.specs.Answer.{Desk, given, words, refusal, answer, source-of}
 use Rattle.definition.specs.Remaining.{Running, standing, rows-before, place, written, recorded, remaining, shifts, shift-records, items-before, shift-items, in-file, Continued, Keyless, Astray, Solid, tokens, junk-events, Junk}

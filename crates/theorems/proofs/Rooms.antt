@@ -1,7 +1,7 @@
 -- Rooms: refusals 7 and 8 are given exactly where a moment exceeds its room; a room that is no multiple of 4 serves as the multiple below;
 -- with room enough there is an answer; and the buffers stay as long as they were lent.
 use Prim.Native.Nat.{ℕ, zero, suc, _+_, _-_, _*_, _/_, _≤_, _<_, max}
-use mathlib.Core.Path.{_≡_, refl, ap, ap₂, sym, _∙_}
+use mathlib.Core.Path.{_≡_, refl, ap, ap₂, _∙_}
 use mathlib.Core.List.{List, [], _∷_, _++_, map}
 use mathlib.Core.Bool.{Bool, true, false}
 use lib.Dec.{T, ltb, ltb→lt, lt→ltb}

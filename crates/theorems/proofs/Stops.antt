@@ -2,7 +2,7 @@
 use Prim.Native.Nat.{ℕ, zero, suc}
 use mathlib.Core.Path.{_≡_, refl, ap, sym, _∙_, subst}
 use mathlib.Core.Logic.{_⊎_, inl, inr}
-use mathlib.Core.List.{List, [], _∷_, map}
+use mathlib.Core.List.{List, map}
 use mathlib.Core.Bool.{Bool, true, false, _&&_, _||_}
 use lib.Dec.{T, eqb}
 use lib.ListN.{length}
@@ -10,9 +10,9 @@ use Rattle.kinds.specs.Kinds as kinds
 use Rattle.kinds.specs.Sets.{idOf}
 use Rattle.definition.specs.Prog.{Production, IMPORT-STMT, INCLUDE-STMT, Prog, eat, unless, ifnext, opt, many, then, _⨟_, _/_, last, recover, node, memo}
 use Rattle.definition.specs.Grammar.{grammar, kind, rule-decl, item-of}
-use Rattle.definition.specs.Run.{State, Limits, Reader, Mode, ok, failed, stopped, Stop, Next, end, other, hit, next, turn, back, if-ok, trivia, eat-row, branch, or-else, alts, go-on, loop, known, remember, memo-row, fails, begin, finish, nodes, exec, run, read-item}
+use Rattle.definition.specs.Run.{State, Limits, Reader, Mode, ok, failed, stopped, Next, end, other, hit, next, turn, back, if-ok, trivia, eat-row, branch, or-else, alts, go-on, loop, known, remember, memo-row, fails, begin, finish, nodes, exec, run, read-item}
 use Rattle.definition.specs.Remaining.{Running}
-use Rattle.definition.proofs.Every.{productions, all, each, and-left, and-right, or-cases, never}
+use Rattle.definition.proofs.Every.{productions, each, and-left, and-right, or-cases}
 use Rattle.theorems.proofs.Bound.{idle, idle-productions, recovery-stopped, idles, charged}
 
 -- RECOVER: each stands right behind a node; b says whether one stands right before

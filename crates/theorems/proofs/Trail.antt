@@ -9,7 +9,7 @@ use Rattle.kinds.specs.Kinds as kinds
 use Rattle.kinds.specs.Sets.{kindOf, trivial}
 use Rattle.definition.specs.Prog.{Prog}
 use Rattle.definition.specs.Grammar.{item-of}
-use Rattle.definition.specs.Run.{State, Reader, Limits, Event, opened, leaf, closed, bad, Choice, stray, Mode, ok, failed, stopped, Next, end, other, hit, next, sought, skip, past, trivia-out, trivia, seek, seek-out, skip-to, take, turn, put, begin, finish, nodes, errors, run, rule-keywords, item-keywords, read-item, stray-item, item-at, flush, again, item, items, start, read}
+use Rattle.definition.specs.Run.{State, Reader, Limits, Event, opened, leaf, closed, bad, Choice, stray, Mode, ok, failed, stopped, Next, end, other, hit, next, sought, skip, past, trivia-out, trivia, seek, seek-out, take, turn, put, begin, finish, nodes, errors, run, rule-keywords, item-keywords, read-item, stray-item, item-at, flush, again, item, items, start, read}
 use Rattle.definition.proofs.Gap.{gap, gap-out}
 use Rattle.definition.proofs.Induct.{exec-kept, run-kept}
 use Rattle.definition.proofs.Order.{Steps, stepped}

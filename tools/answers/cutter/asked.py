@@ -2,8 +2,8 @@ WHERE = "memo/asked"
 USES = """-- `asked` meets its contract.
 use mathlib.Core.Path.{_≡_, refl, sym, ap, _∙_}
 use native.Mathlib.Omega.{arith}
-use Rattle.cutter.specs.Expr.{longest}
-use Rattle.cutter.proofs.Tests.{starts-hex}
+use Rattle.tokens.specs.Expr.{longest}
+use Rattle.tokens.proofs.Tests.{starts-hex}
 """
 HEX = "λ e. sym (ap (λ ts. longest 1 ts ({args} .s .now)) starts-hex) ∙ {covered-at} .ensures e"
 ANS = {

@@ -2,8 +2,8 @@ WHERE = "memo/begun"
 USES = """-- `begun` meets its contract.
 use mathlib.Core.Path.{_≡_, refl, ap, _∙_}
 use native.Mathlib.Omega.{arith}
-use Rattle.cutter.specs.Expr.{longest}
-use Rattle.cutter.proofs.Tests.{starts-normal, starts-hex}
+use Rattle.tokens.specs.Expr.{longest}
+use Rattle.tokens.proofs.Tests.{starts-normal, starts-hex}
 """
 
 

@@ -4,8 +4,8 @@ use mathlib.Core.Path.{_≡_, refl, sym, ap, _∙_}
 use native.Mathlib.Omega.{arith}
 use lib.ListN.{length}
 use borrow.Author.Tests.{not-true, not-false}
-use Rattle.cutter.specs.Classes.{wides}
-use Rattle.cutter.specs.Table.{classTable, nextTable, endTable, keyTable}
+use Rattle.tokens.specs.Classes.{wides}
+use Rattle.tokens.specs.Table.{classTable, nextTable, endTable, keyTable}
 use Rattle.cutter.specs.Rows.{cutting}
 use Rattle.cutter.proofs.Answers.{same-after, given, too-long, no-room, answers, too-small, enough, each}
 """

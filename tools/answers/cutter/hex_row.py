@@ -2,9 +2,9 @@ WHERE = "row/hex_row"
 USES = """-- `hex_row` meets its contract.
 use mathlib.Core.Path.{_≡_, refl, sym, ap, _∙_}
 use native.Mathlib.Omega.{arith}
-use Rattle.cutter.specs.Expr.{longest}
-use Rattle.cutter.specs.Tokens as t
-use Rattle.cutter.proofs.Tests.{starts-hex}
+use Rattle.tokens.specs.Expr.{longest}
+use Rattle.tokens.specs.Tokens as t
+use Rattle.tokens.proofs.Tests.{starts-hex}
 use Rattle.cutter.proofs.Cuts.{of-start, in-bytes, by-found, made-below, hex-bracket, hex-other}
 """
 FOUND = "(of-start 1 2 ({args} .s .now) t.hex starts-hex ({tried} .ensures .0) k)"

@@ -1,7 +1,7 @@
 WHERE = "row/jump_row"
 USES = """-- `jump_row` meets its contract.
-use Rattle.cutter.specs.Tokens as t
-use Rattle.cutter.proofs.Tests.{starts-jump}
+use Rattle.tokens.specs.Tokens as t
+use Rattle.tokens.proofs.Tests.{starts-jump}
 use Rattle.cutter.proofs.Cuts.{of-start, in-bytes, by-found, renamed, jump-none, jump-some}
 """
 ANS = {

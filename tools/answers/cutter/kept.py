@@ -3,8 +3,8 @@ USES = """-- `kept` meets its contract.
 use mathlib.Core.Path.{_≡_, _∙_, subst}
 use native.Mathlib.Omega.{arith}
 use lib.ListN.{drop}
-use Rattle.cutter.specs.Lent.{Holds}
-use Rattle.cutter.proofs.Walks.{tail}
+use Rattle.cutter.specs.Made.{Holds}
+use Rattle.tokens.proofs.Walks.{tail}
 use Rattle.cutter.proofs.Stands.{holds-rest, known-rest, stands, holds-here}
 """
 TEXT = "({args} .at) ({args} .source .now)"

@@ -2,7 +2,7 @@ WHERE = "memo/looked"
 USES = """-- `looked` meets its contract.
 use mathlib.Core.Path.{_≡_, sym, ap, _∙_, subst}
 use native.Mathlib.Omega.{arith}
-use Rattle.cutter.specs.Lent.{Stands}
+use Rattle.cutter.specs.Made.{Stands}
 use Rattle.cutter.proofs.Cuts.{known-none}
 use Rattle.cutter.proofs.Stands.{holds-rest, known-drop, stands, to-go, gone}
 """

@@ -2,8 +2,8 @@ WHERE = "memo/lost_at"
 USES = """-- `lost_at` meets its contract.
 use mathlib.Core.Path.{_≡_, sym, ap, _∙_}
 use native.Mathlib.Omega.{arith}
-use Rattle.cutter.specs.Expr.{longest}
-use Rattle.cutter.proofs.Tests.{starts-normal}
+use Rattle.tokens.specs.Expr.{longest}
+use Rattle.tokens.proofs.Tests.{starts-normal}
 """
 
 

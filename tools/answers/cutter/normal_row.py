@@ -4,9 +4,9 @@ use Prim.Native.Nat.{_<_}
 use mathlib.Core.Path.{_≡_, sym, ap, ap₂, subst, _∙_}
 use native.Mathlib.Omega.{arith}
 use lib.Seq.{length-take-le}
-use Rattle.cutter.specs.Expr.{longest}
-use Rattle.cutter.specs.Tokens as t
-use Rattle.cutter.proofs.Tests.{starts-normal}
+use Rattle.tokens.specs.Expr.{longest}
+use Rattle.tokens.specs.Tokens as t
+use Rattle.tokens.proofs.Tests.{starts-normal}
 use Rattle.cutter.proofs.Cuts.{of-start, in-bytes, by-found, renamed, normal-none, normal-word, normal-other}
 """
 TEXT = "({args} .s .now)"

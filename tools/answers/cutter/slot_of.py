@@ -4,7 +4,7 @@ use Prim.Native.Nat.{ℕ, _+_, _-_, _*_, _%_, _<_}
 use mathlib.Core.Path.{_≡_, refl, sym, ap, ap₂, subst, _∙_}
 use native.Mathlib.Omega.{arith}
 use lib.ListN.{length, getD}
-use Rattle.cutter.specs.Table.{keyTable}
+use Rattle.tokens.specs.Table.{keyTable}
 use Rattle.cutter.proofs.Keys.{key-count, slot-small, slot-read}
 """
 FIRST = "({wide} .ensures)"

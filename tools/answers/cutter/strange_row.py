@@ -2,8 +2,8 @@ WHERE = "row/strange_row"
 USES = """-- `strange_row` meets its contract.
 use mathlib.Core.Path.{_≡_, sym, ap, _∙_}
 use native.Mathlib.Omega.{arith}
-use Rattle.cutter.specs.Tokens as t
-use Rattle.cutter.proofs.Tests.{starts-unknown}
+use Rattle.tokens.specs.Tokens as t
+use Rattle.tokens.proofs.Tests.{starts-unknown}
 use Rattle.cutter.proofs.Cuts.{of-start, in-bytes, by-missed, strange-some, strange-invalid, strange-white}
 """
 NONE = "(of-start 0 4 ({args} .s .now) t.unknown starts-unknown ({longest-from} .ensures .0) ({enum-told} .given .1))"

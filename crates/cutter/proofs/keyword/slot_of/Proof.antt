@@ -1,10 +1,10 @@
--- Written from tools/answers/cutter/slot_of.py, digest e1d65371328c.
+-- Written from tools/answers/cutter/slot_of.py, digest e83337806d8d.
 -- `slot_of` meets its contract.
 use Prim.Native.Nat.{ℕ, _+_, _-_, _*_, _%_, _<_}
 use mathlib.Core.Path.{_≡_, refl, sym, ap, ap₂, subst, _∙_}
 use native.Mathlib.Omega.{arith}
 use lib.ListN.{length, getD}
-use Rattle.cutter.specs.Table.{keyTable}
+use Rattle.tokens.specs.Table.{keyTable}
 use Rattle.cutter.proofs.Keys.{key-count, slot-small, slot-read}
 use borrow.Author.Needs.{needs}
 use Rattle.cutter.proofs.keyword.slot_of.Statement.{statement}

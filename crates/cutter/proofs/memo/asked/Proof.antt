@@ -1,16 +1,16 @@
--- Written from tools/answers/cutter/asked.py, digest 4002b152fff5.
+-- Written from tools/answers/cutter/asked.py, digest 8dc9078c0b7b.
 -- `asked` meets its contract.
 use mathlib.Core.Path.{_≡_, refl, sym, ap, _∙_}
 use native.Mathlib.Omega.{arith}
-use Rattle.cutter.specs.Expr.{longest}
-use Rattle.cutter.proofs.Tests.{starts-hex}
+use Rattle.tokens.specs.Expr.{longest}
+use Rattle.tokens.proofs.Tests.{starts-hex}
 use borrow.Author.Needs.{needs}
 use Rattle.cutter.proofs.memo.asked.Statement.{statement}
 use Rattle.cutter.proofs.memo.asked.Tie as tie
 use Rattle.cutter.proofs.memo.asked.Reads as reads
 use Rattle.cutter.proofs.memo.asked.Lts as lts
 use Rattle.cutter.proofs.memo.lost_at.Reads as lost-at-reads
-use Rattle.cutter.proofs.runner.covered_at.Reads as covered-at-reads
+use Rattle.tokens.proofs.runner.covered_at.Reads as covered-at-reads
 
 lost-at-requires : tie.Need-lost-at-requires
 lost-at-requires c κs = c .before .before .before .before .before .before .pre

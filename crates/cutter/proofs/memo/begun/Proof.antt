@@ -1,9 +1,9 @@
--- Written from tools/answers/cutter/begun.py, digest 48baf7a8302b.
+-- Written from tools/answers/cutter/begun.py, digest 2fdcca799d03.
 -- `begun` meets its contract.
 use mathlib.Core.Path.{_≡_, refl, ap, _∙_}
 use native.Mathlib.Omega.{arith}
-use Rattle.cutter.specs.Expr.{longest}
-use Rattle.cutter.proofs.Tests.{starts-normal, starts-hex}
+use Rattle.tokens.specs.Expr.{longest}
+use Rattle.tokens.proofs.Tests.{starts-normal, starts-hex}
 use borrow.Author.Needs.{needs}
 use Rattle.cutter.proofs.memo.begun.Statement.{statement}
 use Rattle.cutter.proofs.memo.begun.Tie as tie
@@ -11,7 +11,7 @@ use Rattle.cutter.proofs.memo.begun.Reads as reads
 use Rattle.cutter.proofs.memo.begun.Lts as lts
 use Rattle.cutter.proofs.memo.also.Reads as also-reads
 use Rattle.cutter.proofs.memo.opening.Reads as opening-reads
-use Rattle.cutter.proofs.runner.renewed.Reads as renewed-reads
+use Rattle.tokens.proofs.runner.renewed.Reads as renewed-reads
 
 opening-requires : tie.Need-opening-requires
 opening-requires c κs = search needs

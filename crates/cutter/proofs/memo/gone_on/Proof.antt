@@ -1,4 +1,4 @@
--- Written from tools/answers/cutter/gone_on.py, digest 3b50ebfa88b5.
+-- Written from tools/answers/cutter/gone_on.py, digest 64183736ac13.
 -- `gone_on` meets its contract.
 use mathlib.Core.Path.{refl}
 use native.Mathlib.Omega.{arith}
@@ -7,7 +7,7 @@ use Rattle.cutter.proofs.memo.gone_on.Statement.{statement}
 use Rattle.cutter.proofs.memo.gone_on.Tie as tie
 use Rattle.cutter.proofs.memo.gone_on.Reads as reads
 use Rattle.cutter.proofs.memo.gone_on.Lts as lts
-use Rattle.cutter.proofs.runner.follow.Reads as follow-reads
+use Rattle.tokens.proofs.runner.follow.Reads as follow-reads
 
 follow-requires : tie.Need-follow-requires
 follow-requires c κs = (omega arith, c .before .before .before .before .before .before .before .before .before .pre .0, c .before .before .before .before .before .before .before .before .before .pre .1 .quote, c .before .before .before .before .before .before .before .before .before .pre .2)

@@ -1,10 +1,10 @@
--- Written from tools/answers/cutter/kept.py, digest 51a8494bdcb0.
+-- Written from tools/answers/cutter/kept.py, digest df7ab08d0912.
 -- `kept` meets its contract.
 use mathlib.Core.Path.{_≡_, _∙_, subst}
 use native.Mathlib.Omega.{arith}
 use lib.ListN.{drop}
-use Rattle.cutter.specs.Lent.{Holds}
-use Rattle.cutter.proofs.Walks.{tail}
+use Rattle.cutter.specs.Made.{Holds}
+use Rattle.tokens.proofs.Walks.{tail}
 use Rattle.cutter.proofs.Stands.{holds-rest, known-rest, stands, holds-here}
 use borrow.Author.Needs.{needs}
 use Rattle.cutter.proofs.memo.kept.Statement.{statement}

@@ -1,8 +1,8 @@
--- Written from tools/answers/cutter/looked.py, digest c20824e428c9.
+-- Written from tools/answers/cutter/looked.py, digest 600d3c46e685.
 -- `looked` meets its contract.
 use mathlib.Core.Path.{_≡_, sym, ap, _∙_, subst}
 use native.Mathlib.Omega.{arith}
-use Rattle.cutter.specs.Lent.{Stands}
+use Rattle.cutter.specs.Made.{Stands}
 use Rattle.cutter.proofs.Cuts.{known-none}
 use Rattle.cutter.proofs.Stands.{holds-rest, known-drop, stands, to-go, gone}
 use borrow.Author.Needs.{needs}

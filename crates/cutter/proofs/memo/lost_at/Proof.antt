@@ -1,15 +1,15 @@
--- Written from tools/answers/cutter/lost_at.py, digest c0724f9cfd6e.
+-- Written from tools/answers/cutter/lost_at.py, digest 4eb30e3027bb.
 -- `lost_at` meets its contract.
 use mathlib.Core.Path.{_≡_, sym, ap, _∙_}
 use native.Mathlib.Omega.{arith}
-use Rattle.cutter.specs.Expr.{longest}
-use Rattle.cutter.proofs.Tests.{starts-normal}
+use Rattle.tokens.specs.Expr.{longest}
+use Rattle.tokens.proofs.Tests.{starts-normal}
 use borrow.Author.Needs.{needs}
 use Rattle.cutter.proofs.memo.lost_at.Statement.{statement}
 use Rattle.cutter.proofs.memo.lost_at.Tie as tie
 use Rattle.cutter.proofs.memo.lost_at.Reads as reads
 use Rattle.cutter.proofs.memo.lost_at.Lts as lts
-use Rattle.cutter.proofs.runner.covered_at.Reads as covered-at-reads
+use Rattle.tokens.proofs.runner.covered_at.Reads as covered-at-reads
 
 covered-at-requires : tie.Need-covered-at-requires
 covered-at-requires c κs = (omega arith, omega arith, c .before .before .before .before .before .before .before .before .before .pre .0 .quote, c .before .before .before .before .before .before .before .before .before .pre .1)

@@ -2,7 +2,7 @@
 use Prim.Native.Nat.{_-_}
 use mathlib.Core.Path.{refl}
 use native.Mathlib.Omega.{arith}
-use Rattle.cutter.proofs.Runs.{hop-zero}
+use Rattle.tokens.proofs.Runs.{hop-zero}
 use Rattle.cutter.proofs.memo.nothing.Statement.{statement}
 use Rattle.cutter.proofs.memo.nothing.Tie as tie
 

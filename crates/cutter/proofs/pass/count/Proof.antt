@@ -6,7 +6,7 @@ use borrow.Author.Needs.{needs}
 use mathlib.Core.List.{List}
 use lib.ListN.{length, drop}
 use Rattle.cutter.specs.Rows.{row, rows, cutting}
-use Rattle.cutter.specs.Lent.{turnOf, Stands}
+use Rattle.cutter.specs.Made.{turnOf, Stands}
 use Rattle.cutter.proofs.Stands.{stands, onwards}
 use Rattle.cutter.proofs.Fills.{begun, one-more, counted}
 use Rattle.cutter.proofs.pass.count.Statement.{statement}

@@ -6,7 +6,7 @@ use borrow.Author.Needs.{needs}
 use mathlib.Core.List.{List, [], _∷_}
 use lib.ListN.{length, getD, set, drop, length-drop}
 use Rattle.cutter.specs.Rows.{row, rows, cutting}
-use Rattle.cutter.specs.Lent.{turnOf, Stands}
+use Rattle.cutter.specs.Made.{turnOf, Stands}
 use Rattle.cutter.proofs.Stands.{stands, onwards}
 use Rattle.cutter.proofs.Fills.{turn, over, begun, wrote, wrote-length, wrote-more, wrote-all, nth, below}
 use Rattle.cutter.proofs.Tiling.{few}

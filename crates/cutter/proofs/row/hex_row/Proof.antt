@@ -1,17 +1,17 @@
--- Written from tools/answers/cutter/hex_row.py, digest 0e228c99c5d9.
+-- Written from tools/answers/cutter/hex_row.py, digest 5934a0033cc6.
 -- `hex_row` meets its contract.
 use mathlib.Core.Path.{_≡_, refl, sym, ap, _∙_}
 use native.Mathlib.Omega.{arith}
-use Rattle.cutter.specs.Expr.{longest}
-use Rattle.cutter.specs.Tokens as t
-use Rattle.cutter.proofs.Tests.{starts-hex}
+use Rattle.tokens.specs.Expr.{longest}
+use Rattle.tokens.specs.Tokens as t
+use Rattle.tokens.proofs.Tests.{starts-hex}
 use Rattle.cutter.proofs.Cuts.{of-start, in-bytes, by-found, made-below, hex-bracket, hex-other}
 use borrow.Author.Needs.{needs}
 use Rattle.cutter.proofs.row.hex_row.Statement.{statement}
 use Rattle.cutter.proofs.row.hex_row.Tie as tie
 use Rattle.cutter.proofs.row.hex_row.Reads as reads
 use Rattle.cutter.proofs.row.hex_row.Lts as lts
-use Rattle.cutter.proofs.matcher.tried.Reads as tried-reads
+use Rattle.tokens.proofs.matcher.tried.Reads as tried-reads
 use Rattle.cutter.proofs.row.matching.Reads as matching-reads
 use Rattle.cutter.proofs.row.normal_row.Reads as normal-row-reads
 

@@ -1,14 +1,14 @@
--- Written from tools/answers/cutter/jump_row.py, digest e4212df5040b.
+-- Written from tools/answers/cutter/jump_row.py, digest 41af8b336d75.
 -- `jump_row` meets its contract.
-use Rattle.cutter.specs.Tokens as t
-use Rattle.cutter.proofs.Tests.{starts-jump}
+use Rattle.tokens.specs.Tokens as t
+use Rattle.tokens.proofs.Tests.{starts-jump}
 use Rattle.cutter.proofs.Cuts.{of-start, in-bytes, by-found, renamed, jump-none, jump-some}
 use borrow.Author.Needs.{needs}
 use Rattle.cutter.proofs.row.jump_row.Statement.{statement}
 use Rattle.cutter.proofs.row.jump_row.Tie as tie
 use Rattle.cutter.proofs.row.jump_row.Reads as reads
 use Rattle.cutter.proofs.row.jump_row.Lts as lts
-use Rattle.cutter.proofs.matcher.longest_from.Reads as longest-from-reads
+use Rattle.tokens.proofs.matcher.longest_from.Reads as longest-from-reads
 use Rattle.cutter.proofs.row.hex_row.Reads as hex-row-reads
 use Rattle.cutter.proofs.row.matching.Reads as matching-reads
 

@@ -1,12 +1,12 @@
--- Written from tools/answers/cutter/normal_row.py, digest c33db96b5ed1.
+-- Written from tools/answers/cutter/normal_row.py, digest 3f55a2c41139.
 -- `normal_row` meets its contract.
 use Prim.Native.Nat.{_<_}
 use mathlib.Core.Path.{_≡_, sym, ap, ap₂, subst, _∙_}
 use native.Mathlib.Omega.{arith}
 use lib.Seq.{length-take-le}
-use Rattle.cutter.specs.Expr.{longest}
-use Rattle.cutter.specs.Tokens as t
-use Rattle.cutter.proofs.Tests.{starts-normal}
+use Rattle.tokens.specs.Expr.{longest}
+use Rattle.tokens.specs.Tokens as t
+use Rattle.tokens.proofs.Tests.{starts-normal}
 use Rattle.cutter.proofs.Cuts.{of-start, in-bytes, by-found, renamed, normal-none, normal-word, normal-other}
 use borrow.Author.Needs.{needs}
 use Rattle.cutter.proofs.row.normal_row.Statement.{statement}
@@ -14,7 +14,7 @@ use Rattle.cutter.proofs.row.normal_row.Tie as tie
 use Rattle.cutter.proofs.row.normal_row.Reads as reads
 use Rattle.cutter.proofs.row.normal_row.Lts as lts
 use Rattle.cutter.proofs.keyword.id_of.Reads as id-of-reads
-use Rattle.cutter.proofs.matcher.tried.Reads as tried-reads
+use Rattle.tokens.proofs.matcher.tried.Reads as tried-reads
 use Rattle.cutter.proofs.place.onward.Reads as onward-reads
 use Rattle.cutter.proofs.row.matching.Reads as matching-reads
 use Rattle.cutter.proofs.row.strange_row.Reads as strange-row-reads

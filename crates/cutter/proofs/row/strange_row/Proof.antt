@@ -1,17 +1,17 @@
--- Written from tools/answers/cutter/strange_row.py, digest 84c46641c633.
+-- Written from tools/answers/cutter/strange_row.py, digest 2c2d2c7246de.
 -- `strange_row` meets its contract.
 use mathlib.Core.Path.{_≡_, sym, ap, _∙_}
 use native.Mathlib.Omega.{arith}
-use Rattle.cutter.specs.Tokens as t
-use Rattle.cutter.proofs.Tests.{starts-unknown}
+use Rattle.tokens.specs.Tokens as t
+use Rattle.tokens.proofs.Tests.{starts-unknown}
 use Rattle.cutter.proofs.Cuts.{of-start, in-bytes, by-missed, strange-some, strange-invalid, strange-white}
 use borrow.Author.Needs.{needs}
 use Rattle.cutter.proofs.row.strange_row.Statement.{statement}
 use Rattle.cutter.proofs.row.strange_row.Tie as tie
 use Rattle.cutter.proofs.row.strange_row.Reads as reads
 use Rattle.cutter.proofs.row.strange_row.Lts as lts
-use Rattle.cutter.proofs.glyph.glyph_at.Reads as glyph-at-reads
-use Rattle.cutter.proofs.matcher.longest_from.Reads as longest-from-reads
+use Rattle.tokens.proofs.glyph.glyph_at.Reads as glyph-at-reads
+use Rattle.tokens.proofs.matcher.longest_from.Reads as longest-from-reads
 use Rattle.cutter.proofs.row.unmatched.Reads as unmatched-reads
 
 longest-from-requires : tie.Need-longest-from-requires

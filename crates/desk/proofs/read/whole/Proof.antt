@@ -1,28 +1,24 @@
--- Written from tools/answers/desk/whole.py, digest b4c51270bf44.
+-- Written from tools/answers/desk/whole.py, digest 4af898428031.
 -- SOURCE_FILE around all items.
 use Prim.Native.Nat.{_-_}
 use native.Mathlib.Omega.{arith}
-use mathlib.Core.Path.{refl, sym, ap, _∙_}
-use mathlib.Core.Bool.{Bool}
+use mathlib.Core.Path.{refl, _∙_}
 use lib.ListN.{length, length-set}
 use Rattle.kinds.specs.Kinds as k
-use Rattle.kinds.specs.Sets.{idOf}
-use Rattle.kinds.specs.Answers.{words}
 use Rattle.shapes.specs.Sort as Sort
 use Rattle.shapes.specs.Shapes.{EVENT}
 use borrow.Rule.Slice.PartMut.{same-len-mid}
 use Rattle.notes.specs.Means.{source}
 use Rattle.notes.proofs.Lists.{stored, take-event, length-event}
 use Rattle.desk.specs.Framing.{limitsOf}
-use Rattle.desk.proofs.Framing.{laid, opens, frames}
+use Rattle.desk.proofs.Framing.{opens, frames}
 use borrow.Author.Needs.{needs}
 use Rattle.desk.proofs.read.whole.Statement.{statement}
 use Rattle.desk.proofs.read.whole.Tie as tie
 use Rattle.desk.proofs.read.whole.Reads as reads
 use Rattle.desk.proofs.read.whole.Lts as lts
-use Rattle.desk.proofs.items.items.Reads as items-reads
 use Rattle.desk.proofs.read.blank.Reads as blank-reads
-use Rattle.grammar.proofs.parts.literal.Reads as literal-reads
+use Rattle.desk.proofs.read.items_by.Reads as items-by-reads
 use Rattle.steps.proofs.state.State.write.Reads as write-reads
 
 cast-size : tie.Need-cast-size
@@ -58,12 +54,6 @@ cast-notes c = search needs
 element-write-notes-2 : tie.Need-element-write-notes-2
 element-write-notes-2 c = search needs
 
-literal-requires : tie.Need-literal-requires
-literal-requires c κs = search needs
-
-array-write-table : tie.Need-array-write-table
-array-write-table c = search needs
-
 sub-inner : tie.Need-sub-inner
 sub-inner c = search needs
 
@@ -73,12 +63,8 @@ part-inner-start c = search needs
 part-inner-end : tie.Need-part-inner-end
 part-inner-end c = search needs
 
-cast-items : tie.Need-cast-items
-cast-items c = search needs
-
-items-requires : tie.Need-items-requires
-unfolding idOf words
-items-requires c κs = let w = opens (limitsOf (c .before .before .before .before .before .before .before .before .before .before .before .before .before .before .before .before .before .args .limits)) (source (c .before .before .before .before .before .before .before .before .before .before .before .before .before .before .before .before .before .args .src .now) (c .before .before .before .before .before .before .before .before .before .before .before .before .before .before .before .before .before .args .ids .now) (c .before .before .before .before .before .before .before .before .before .before .before .before .before .before .before .before .before .args .ends .now)) (c .before .before .before .before .before .before .before .before .before .before .before .before .before .before .before .before .before .args .fuel) (stored (c .before .before .before .before .before .before .before .before .before .before .before .before .before .before .before .before .before .args .events .now) 0 Sort.BEGIN k.SOURCE-FILE 0 (length (c .before .before .before .before .before .before .before .before .before .before .before .before .before .before .before .before .before .args .src .now)) 0) (c .before .before .before .before .before .before .before .before .before .before .before .before .before .before .before .before .before .args .errors .now) (c .before .before .before .before .before .before .before .before .before .before .before .before .before .before .before .before .before .args .scratch .now) (c .before .before .before .before .before .before .before .before .before .before .before .before .before .before .before .before .before .args .notes .now) (c .before .before .before .before .before .before .before .before .before .before .blank .ensures) (c .before .before .before .before .before .before .before .before .before .before .before .before .before .before .before .before .before .pre .4) (c .before .before .before .before .before .before .before .before .before .before .before .before .before .before .before .before .before .pre .2) in (c .before .before .before .before .before .before .before .before .before .before .before .before .before .before .before .before .before .pre .0, w .0, w .1, (laid (c .before .before .before .before .before .before .before .before .before .before .before .before .before .before .before .before .before .args .limits .entrypoint) (c .before .before .before .before .before .before .before .before .literal .ensures) .0, refl))
+items-by-requires : tie.Need-items-by-requires
+items-by-requires c κs = let w = opens (limitsOf (c .before .before .before .before .before .before .before .before .before .before .before .before .before .args .limits)) (source (c .before .before .before .before .before .before .before .before .before .before .before .before .before .args .src .now) (c .before .before .before .before .before .before .before .before .before .before .before .before .before .args .ids .now) (c .before .before .before .before .before .before .before .before .before .before .before .before .before .args .ends .now)) (c .before .before .before .before .before .before .before .before .before .before .before .before .before .args .fuel) (stored (c .before .before .before .before .before .before .before .before .before .before .before .before .before .args .events .now) 0 Sort.BEGIN k.SOURCE-FILE 0 (length (c .before .before .before .before .before .before .before .before .before .before .before .before .before .args .src .now)) 0) (c .before .before .before .before .before .before .before .before .before .before .before .before .before .args .errors .now) (c .before .before .before .before .before .before .before .before .before .before .before .before .before .args .scratch .now) (c .before .before .before .before .before .before .before .before .before .before .before .before .before .args .notes .now) (c .before .before .before .before .before .before .blank .ensures) (c .before .before .before .before .before .before .before .before .before .before .before .before .before .pre .4) (c .before .before .before .before .before .before .before .before .before .before .before .before .before .pre .2) in (c .before .before .before .before .before .before .before .before .before .before .before .before .before .pre .0, w .0, w .1)
 
 write-requires : tie.Need-write-requires
 write-requires c κs = search needs
@@ -87,13 +73,13 @@ same-length : tie.Need-same-length
 same-length c = search needs
 
 same-length-2 : tie.Need-same-length-2
-same-length-2 c = same-len-mid EVENT (length (stored (c .before .before .before .before .before .before .before .before .before .before .before .before .before .before .before .before .before .before .before .before .before .before .before .before .before .before .before .before .args .events .now) 0 Sort.BEGIN k.SOURCE-FILE 0 (length (c .before .before .before .before .before .before .before .before .before .before .before .before .before .before .before .before .before .before .before .before .before .before .before .before .before .before .before .before .args .src .now)) 0) - EVENT) (stored (c .before .before .before .before .before .before .before .before .before .before .before .before .before .before .before .before .before .before .before .before .before .before .before .before .before .before .before .before .args .events .now) 0 Sort.BEGIN k.SOURCE-FILE 0 (length (c .before .before .before .before .before .before .before .before .before .before .before .before .before .before .before .before .before .before .before .before .before .before .before .before .before .before .before .before .args .src .now)) 0) (c .before .before .write .last .1 .1 .1 .1 .1 .1 .0) (c .before .before .write .kept .1 .1 .1 .1 .1 .1 .0 ∙ c .before .before .before .before .before .before .before .before .before .before .items .kept .1 .1 .1 .1 .1 .0) ∙ length-event (c .before .before .before .before .before .before .before .before .before .before .before .before .before .before .before .before .before .before .before .before .before .before .before .before .before .before .before .before .args .events .now) 0 Sort.BEGIN k.SOURCE-FILE 0 (length (c .before .before .before .before .before .before .before .before .before .before .before .before .before .before .before .before .before .before .before .before .before .before .before .before .before .before .before .before .args .src .now)) 0
+same-length-2 c = same-len-mid EVENT (length (stored (c .before .before .before .before .before .before .before .before .before .before .before .before .before .before .before .before .before .before .before .before .before .before .before .before .args .events .now) 0 Sort.BEGIN k.SOURCE-FILE 0 (length (c .before .before .before .before .before .before .before .before .before .before .before .before .before .before .before .before .before .before .before .before .before .before .before .before .args .src .now)) 0) - EVENT) (stored (c .before .before .before .before .before .before .before .before .before .before .before .before .before .before .before .before .before .before .before .before .before .before .before .before .args .events .now) 0 Sort.BEGIN k.SOURCE-FILE 0 (length (c .before .before .before .before .before .before .before .before .before .before .before .before .before .before .before .before .before .before .before .before .before .before .before .before .args .src .now)) 0) (c .before .before .write .last .1 .1 .1 .1 .1 .1 .0) (c .before .before .write .kept .1 .1 .1 .1 .1 .1 .0 ∙ c .before .before .before .before .before .before .before .before .before .before .items-by .kept .1 .1 .1 .1 .1 .0) ∙ length-event (c .before .before .before .before .before .before .before .before .before .before .before .before .before .before .before .before .before .before .before .before .before .before .before .before .args .events .now) 0 Sort.BEGIN k.SOURCE-FILE 0 (length (c .before .before .before .before .before .before .before .before .before .before .before .before .before .before .before .before .before .before .before .before .before .before .before .before .args .src .now)) 0
 
 same-length-3 : tie.Need-same-length-3
 same-length-3 c = search needs
 
 returns : tie.Need-returns
-returns c = frames (limitsOf (c .before .before .before .before .before .before .before .before .before .before .before .before .before .before .before .before .before .before .before .before .before .before .before .before .before .before .before .before .args .limits)) (source (c .before .before .before .before .before .before .before .before .before .before .before .before .before .before .before .before .before .before .before .before .before .before .before .before .before .before .before .before .args .src .now) (c .before .before .before .before .before .before .before .before .before .before .before .before .before .before .before .before .before .before .before .before .before .before .before .before .before .before .before .before .args .ids .now) (c .before .before .before .before .before .before .before .before .before .before .before .before .before .before .before .before .before .before .before .before .before .before .before .before .before .before .before .before .args .ends .now)) (c .before .before .before .before .before .before .before .before .before .before .before .before .before .before .before .before .before .before .before .before .before .before .before .before .before .before .before .before .args .fuel) (stored (c .before .before .before .before .before .before .before .before .before .before .before .before .before .before .before .before .before .before .before .before .before .before .before .before .before .before .before .before .args .events .now) 0 Sort.BEGIN k.SOURCE-FILE 0 (length (c .before .before .before .before .before .before .before .before .before .before .before .before .before .before .before .before .before .before .before .before .before .before .before .before .before .before .before .before .args .src .now)) 0) (c .before .before .before .before .before .before .before .before .before .before .before .before .before .before .before .before .before .before .before .before .before .before .before .before .before .before .before .before .args .errors .now) (c .before .before .before .before .before .before .before .before .before .before .before .before .before .before .before .before .before .before .before .before .before .before .before .before .before .before .before .before .args .scratch .now) (c .before .before .before .before .before .before .before .before .before .before .before .before .before .before .before .before .before .before .before .before .before .before .before .before .before .before .before .before .args .notes .now) (c .before .before .before .before .before .before .before .before .before .before .before .before .before .before .before .before .before .before .before .before .before .blank .ensures) (c .before .before .before .before .before .before .before .before .before .before .before .before .before .before .before .before .before .before .before .before .before .before .before .before .before .before .before .before .pre .4) (c .before .before .before .before .before .before .before .before .before .before .before .before .before .before .before .before .before .before .before .before .before .before .before .before .before .before .before .before .pre .1) (omega (arith, c .before .before .before .before .before .before .before .before .before .before .before .before .before .before .before .before .before .before .before .before .before .before .before .before .before .before .before .before .pre .3, length-event (c .before .before .before .before .before .before .before .before .before .before .before .before .before .before .before .before .before .before .before .before .before .before .before .before .before .before .before .before .args .events .now) 0 Sort.BEGIN k.SOURCE-FILE 0 (length (c .before .before .before .before .before .before .before .before .before .before .before .before .before .before .before .before .before .before .before .before .before .before .before .before .before .before .before .before .args .src .now)) 0)) _ (length-event (c .before .before .before .before .before .before .before .before .before .before .before .before .before .before .before .before .before .before .before .before .before .before .before .before .before .before .before .before .args .events .now) 0 Sort.BEGIN k.SOURCE-FILE 0 (length (c .before .before .before .before .before .before .before .before .before .before .before .before .before .before .before .before .before .before .before .before .before .before .before .before .before .before .before .before .args .src .now)) 0) (take-event (c .before .before .before .before .before .before .before .before .before .before .before .before .before .before .before .before .before .before .before .before .before .before .before .before .before .before .before .before .args .events .now) 0 Sort.BEGIN k.SOURCE-FILE 0 (length (c .before .before .before .before .before .before .before .before .before .before .before .before .before .before .before .before .before .before .before .before .before .before .before .before .before .before .before .before .args .src .now)) 0 (c .before .before .before .before .before .before .before .before .before .before .before .before .before .before .before .before .before .before .before .before .before .before .before .before .before .before .before .before .pre .3)) (ap (λ (e : Bool). (c .before .before .before .before .before .before .before .before .before .before .before .before .before .before .before .before .before .before .before .before .before .before .before .before .before .before .before .before .args .limits .depth, e)) (sym (laid (c .before .before .before .before .before .before .before .before .before .before .before .before .before .before .before .before .before .before .before .before .before .before .before .before .before .before .before .before .args .limits .entrypoint) (c .before .before .before .before .before .before .before .before .before .before .before .before .before .before .before .before .before .before .before .literal .ensures) .1))) (omega (arith, c .before .before .before .before .before .before .before .before .before .before .before .before .before .before .before .before .before .before .before .before .before .before .before .before .before .before .before .before .good)) (c .before .before .before .before .before .before .before .before .before .before .items .ensures) (c .before .before .write .ensures (c .before .before .before .before .before .before .before .before .before .before .items .last .1 .1 .1 .1 .1 .1 .1 .1 .0))
+returns c = frames (limitsOf (c .before .before .before .before .before .before .before .before .before .before .before .before .before .before .before .before .before .before .before .before .before .before .before .before .args .limits)) (source (c .before .before .before .before .before .before .before .before .before .before .before .before .before .before .before .before .before .before .before .before .before .before .before .before .args .src .now) (c .before .before .before .before .before .before .before .before .before .before .before .before .before .before .before .before .before .before .before .before .before .before .before .before .args .ids .now) (c .before .before .before .before .before .before .before .before .before .before .before .before .before .before .before .before .before .before .before .before .before .before .before .before .args .ends .now)) (c .before .before .before .before .before .before .before .before .before .before .before .before .before .before .before .before .before .before .before .before .before .before .before .before .args .fuel) (stored (c .before .before .before .before .before .before .before .before .before .before .before .before .before .before .before .before .before .before .before .before .before .before .before .before .args .events .now) 0 Sort.BEGIN k.SOURCE-FILE 0 (length (c .before .before .before .before .before .before .before .before .before .before .before .before .before .before .before .before .before .before .before .before .before .before .before .before .args .src .now)) 0) (c .before .before .before .before .before .before .before .before .before .before .before .before .before .before .before .before .before .before .before .before .before .before .before .before .args .errors .now) (c .before .before .before .before .before .before .before .before .before .before .before .before .before .before .before .before .before .before .before .before .before .before .before .before .args .scratch .now) (c .before .before .before .before .before .before .before .before .before .before .before .before .before .before .before .before .before .before .before .before .before .before .before .before .args .notes .now) (c .before .before .before .before .before .before .before .before .before .before .before .before .before .before .before .before .before .blank .ensures) (c .before .before .before .before .before .before .before .before .before .before .before .before .before .before .before .before .before .before .before .before .before .before .before .before .pre .4) (c .before .before .before .before .before .before .before .before .before .before .before .before .before .before .before .before .before .before .before .before .before .before .before .before .pre .1) (omega (arith, c .before .before .before .before .before .before .before .before .before .before .before .before .before .before .before .before .before .before .before .before .before .before .before .before .pre .3, length-event (c .before .before .before .before .before .before .before .before .before .before .before .before .before .before .before .before .before .before .before .before .before .before .before .before .args .events .now) 0 Sort.BEGIN k.SOURCE-FILE 0 (length (c .before .before .before .before .before .before .before .before .before .before .before .before .before .before .before .before .before .before .before .before .before .before .before .before .args .src .now)) 0)) _ (length-event (c .before .before .before .before .before .before .before .before .before .before .before .before .before .before .before .before .before .before .before .before .before .before .before .before .args .events .now) 0 Sort.BEGIN k.SOURCE-FILE 0 (length (c .before .before .before .before .before .before .before .before .before .before .before .before .before .before .before .before .before .before .before .before .before .before .before .before .args .src .now)) 0) (take-event (c .before .before .before .before .before .before .before .before .before .before .before .before .before .before .before .before .before .before .before .before .before .before .before .before .args .events .now) 0 Sort.BEGIN k.SOURCE-FILE 0 (length (c .before .before .before .before .before .before .before .before .before .before .before .before .before .before .before .before .before .before .before .before .before .before .before .before .args .src .now)) 0 (c .before .before .before .before .before .before .before .before .before .before .before .before .before .before .before .before .before .before .before .before .before .before .before .before .pre .3)) refl (omega (arith, c .before .before .before .before .before .before .before .before .before .before .before .before .before .before .before .before .before .before .before .before .before .before .before .before .good)) (c .before .before .before .before .before .before .before .before .before .before .items-by .ensures) (c .before .before .write .ensures (c .before .before .before .before .before .before .before .before .before .before .items-by .last .1 .1 .1 .1 .1 .1 .1 .1 .0))
 
 pub whole-spec : {M : Type 1} → statement M
 whole-spec =
@@ -110,13 +96,10 @@ whole-spec =
     element-write-notes
     cast-notes
     element-write-notes-2
-    literal-requires
-    array-write-table
     sub-inner
     part-inner-start
     part-inner-end
-    cast-items
-    items-requires
+    items-by-requires
     write-requires
     same-length
     same-length-2

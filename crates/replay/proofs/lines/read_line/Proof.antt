@@ -1,9 +1,8 @@
--- Written from tools/answers/replay/read_line.py, digest cf3136d1e92a.
+-- Written from tools/answers/replay/read_line.py, digest 7c1c37c8c5c0.
 -- `replay::lines::read_line` meets its contract, by the places where the fields end.
 use mathlib.Core.Path.{_∙_}
-use native.Mathlib.Omega.{arith}
 use Rattle.listing.proofs.Marks.{passed, pass}
-use Rattle.replay.proofs.Entries.{finished, too-many}
+use Rattle.replay.proofs.Entries.{inside, at-end, finished, too-many}
 use borrow.Author.Needs.{needs}
 use Rattle.replay.proofs.lines.read_line.Statement.{statement}
 use Rattle.replay.proofs.lines.read_line.Tie as tie
@@ -16,7 +15,7 @@ piece-end-requires : tie.Need-piece-end-requires
 piece-end-requires c κs = search needs
 
 returns : tie.Need-returns
-returns c = finished (passed 9 _) (c .before .piece-end .ensures) (omega arith)
+returns c = finished (passed 9 _) (c .before .piece-end .ensures) (at-end (c .if1 .taken))
 
 add-second : tie.Need-add-second
 add-second c = search needs
@@ -25,7 +24,7 @@ piece-end-requires-2 : tie.Need-piece-end-requires-2
 piece-end-requires-2 c κs = search needs
 
 returns-2 : tie.Need-returns-2
-returns-2 c = finished (pass (passed 9 _) (c .before .before .before .piece-end .ensures) (omega arith)) (c .before .piece-end2 .ensures) (omega arith)
+returns-2 c = finished (pass (passed 9 _) (c .before .before .before .piece-end .ensures) (inside (c .before .before .before .piece-end .ensures) (c .before .before .if1 .left))) (c .before .piece-end2 .ensures) (at-end (c .if2 .taken))
 
 add-third : tie.Need-add-third
 add-third c = search needs
@@ -34,7 +33,7 @@ piece-end-requires-3 : tie.Need-piece-end-requires-3
 piece-end-requires-3 c κs = search needs
 
 returns-3 : tie.Need-returns-3
-returns-3 c = finished (pass (pass (passed 9 _) (c .before .before .before .before .before .piece-end .ensures) (omega arith)) (c .before .before .before .piece-end2 .ensures) (omega arith)) (c .before .piece-end3 .ensures) (omega arith)
+returns-3 c = finished (pass (pass (passed 9 _) (c .before .before .before .before .before .piece-end .ensures) (inside (c .before .before .before .before .before .piece-end .ensures) (c .before .before .before .before .if1 .left))) (c .before .before .before .piece-end2 .ensures) (inside (c .before .before .before .piece-end2 .ensures) (c .before .before .if2 .left))) (c .before .piece-end3 .ensures) (at-end (c .if3 .taken))
 
 add-fourth : tie.Need-add-fourth
 add-fourth c = search needs
@@ -43,7 +42,7 @@ piece-end-requires-4 : tie.Need-piece-end-requires-4
 piece-end-requires-4 c κs = search needs
 
 returns-4 : tie.Need-returns-4
-returns-4 c = finished (pass (pass (pass (passed 9 _) (c .before .before .before .before .before .before .before .piece-end .ensures) (omega arith)) (c .before .before .before .before .before .piece-end2 .ensures) (omega arith)) (c .before .before .before .piece-end3 .ensures) (omega arith)) (c .before .piece-end4 .ensures) (omega arith)
+returns-4 c = finished (pass (pass (pass (passed 9 _) (c .before .before .before .before .before .before .before .piece-end .ensures) (inside (c .before .before .before .before .before .before .before .piece-end .ensures) (c .before .before .before .before .before .before .if1 .left))) (c .before .before .before .before .before .piece-end2 .ensures) (inside (c .before .before .before .before .before .piece-end2 .ensures) (c .before .before .before .before .if2 .left))) (c .before .before .before .piece-end3 .ensures) (inside (c .before .before .before .piece-end3 .ensures) (c .before .before .if3 .left))) (c .before .piece-end4 .ensures) (at-end (c .if4 .taken))
 
 add-fifth : tie.Need-add-fifth
 add-fifth c = search needs
@@ -52,7 +51,7 @@ piece-end-requires-5 : tie.Need-piece-end-requires-5
 piece-end-requires-5 c κs = search needs
 
 returns-5 : tie.Need-returns-5
-returns-5 c = finished (pass (pass (pass (pass (passed 9 _) (c .before .before .before .before .before .before .before .before .before .piece-end .ensures) (omega arith)) (c .before .before .before .before .before .before .before .piece-end2 .ensures) (omega arith)) (c .before .before .before .before .before .piece-end3 .ensures) (omega arith)) (c .before .before .before .piece-end4 .ensures) (omega arith)) (c .before .piece-end5 .ensures) (omega arith)
+returns-5 c = finished (pass (pass (pass (pass (passed 9 _) (c .before .before .before .before .before .before .before .before .before .piece-end .ensures) (inside (c .before .before .before .before .before .before .before .before .before .piece-end .ensures) (c .before .before .before .before .before .before .before .before .if1 .left))) (c .before .before .before .before .before .before .before .piece-end2 .ensures) (inside (c .before .before .before .before .before .before .before .piece-end2 .ensures) (c .before .before .before .before .before .before .if2 .left))) (c .before .before .before .before .before .piece-end3 .ensures) (inside (c .before .before .before .before .before .piece-end3 .ensures) (c .before .before .before .before .if3 .left))) (c .before .before .before .piece-end4 .ensures) (inside (c .before .before .before .piece-end4 .ensures) (c .before .before .if4 .left))) (c .before .piece-end5 .ensures) (at-end (c .if5 .taken))
 
 add-sixth : tie.Need-add-sixth
 add-sixth c = search needs
@@ -61,7 +60,7 @@ piece-end-requires-6 : tie.Need-piece-end-requires-6
 piece-end-requires-6 c κs = search needs
 
 returns-6 : tie.Need-returns-6
-returns-6 c = too-many (pass (pass (pass (pass (pass (pass (passed 9 _) (c .before .before .before .before .before .before .before .before .before .before .before .piece-end .ensures) (omega arith)) (c .before .before .before .before .before .before .before .before .before .piece-end2 .ensures) (omega arith)) (c .before .before .before .before .before .before .before .piece-end3 .ensures) (omega arith)) (c .before .before .before .before .before .piece-end4 .ensures) (omega arith)) (c .before .before .before .piece-end5 .ensures) (omega arith)) (c .before .piece-end6 .ensures) (omega arith))
+returns-6 c = too-many (pass (pass (pass (pass (pass (pass (passed 9 _) (c .before .before .before .before .before .before .before .before .before .before .before .piece-end .ensures) (inside (c .before .before .before .before .before .before .before .before .before .before .before .piece-end .ensures) (c .before .before .before .before .before .before .before .before .before .before .if1 .left))) (c .before .before .before .before .before .before .before .before .before .piece-end2 .ensures) (inside (c .before .before .before .before .before .before .before .before .before .piece-end2 .ensures) (c .before .before .before .before .before .before .before .before .if2 .left))) (c .before .before .before .before .before .before .before .piece-end3 .ensures) (inside (c .before .before .before .before .before .before .before .piece-end3 .ensures) (c .before .before .before .before .before .before .if3 .left))) (c .before .before .before .before .before .piece-end4 .ensures) (inside (c .before .before .before .before .before .piece-end4 .ensures) (c .before .before .before .before .if4 .left))) (c .before .before .before .piece-end5 .ensures) (inside (c .before .before .before .piece-end5 .ensures) (c .before .before .if5 .left))) (c .before .piece-end6 .ensures) (c .if6 .taken))
 
 sub-fields : tie.Need-sub-fields
 sub-fields c = search needs
@@ -121,7 +120,7 @@ fields-requires : tie.Need-fields-requires
 fields-requires c κs = search needs
 
 returns-7 : tie.Need-returns-7
-returns-7 c = c .fields .ensures ∙ finished (pass (pass (pass (pass (pass (passed 9 _) (c .before .before .before .before .before .before .before .before .before .before .before .before .before .before .before .before .before .before .piece-end .ensures) (omega arith)) (c .before .before .before .before .before .before .before .before .before .before .before .before .before .before .before .before .piece-end2 .ensures) (omega arith)) (c .before .before .before .before .before .before .before .before .before .before .before .before .before .before .piece-end3 .ensures) (omega arith)) (c .before .before .before .before .before .before .before .before .before .before .before .before .piece-end4 .ensures) (omega arith)) (c .before .before .before .before .before .before .before .before .before .before .piece-end5 .ensures) (omega arith)) (c .before .before .before .before .before .before .before .before .piece-end6 .ensures) (omega arith)
+returns-7 c = c .fields .ensures ∙ finished (pass (pass (pass (pass (pass (passed 9 _) (c .before .before .before .before .before .before .before .before .before .before .before .before .before .before .before .before .before .before .piece-end .ensures) (inside (c .before .before .before .before .before .before .before .before .before .before .before .before .before .before .before .before .before .before .piece-end .ensures) (c .before .before .before .before .before .before .before .before .before .before .before .before .before .before .before .before .before .if1 .left))) (c .before .before .before .before .before .before .before .before .before .before .before .before .before .before .before .before .piece-end2 .ensures) (inside (c .before .before .before .before .before .before .before .before .before .before .before .before .before .before .before .before .piece-end2 .ensures) (c .before .before .before .before .before .before .before .before .before .before .before .before .before .before .before .if2 .left))) (c .before .before .before .before .before .before .before .before .before .before .before .before .before .before .piece-end3 .ensures) (inside (c .before .before .before .before .before .before .before .before .before .before .before .before .before .before .piece-end3 .ensures) (c .before .before .before .before .before .before .before .before .before .before .before .before .before .if3 .left))) (c .before .before .before .before .before .before .before .before .before .before .before .before .piece-end4 .ensures) (inside (c .before .before .before .before .before .before .before .before .before .before .before .before .piece-end4 .ensures) (c .before .before .before .before .before .before .before .before .before .before .before .if4 .left))) (c .before .before .before .before .before .before .before .before .before .before .piece-end5 .ensures) (inside (c .before .before .before .before .before .before .before .before .before .before .piece-end5 .ensures) (c .before .before .before .before .before .before .before .before .before .if5 .left))) (c .before .before .before .before .before .before .before .before .piece-end6 .ensures) (c .before .before .before .before .before .before .before .if6 .left)
 
 pub read-line-spec : {M : Type 1} → statement M
 read-line-spec =

@@ -1,0 +1,11 @@
+pub mod Equal
+pub mod Tests
+pub mod Chars
+pub mod Ranges
+pub mod Agrees
+pub mod Glyphs
+pub mod Texts
+pub mod Walks
+pub mod Derived
+pub mod Longest
+pub mod Runs
