@@ -8,3 +8,4 @@ pub mod Judging
 pub mod Marks
 pub mod Back
 pub mod Could
+pub mod Wrong
