@@ -2,7 +2,7 @@
 use Prim.Native.Nat.{ℕ, suc, _≤_, _<_}
 use mathlib.Core.Path.{_≡_, refl, sym, ap, ap₂, subst, _∙_}
 use mathlib.Core.List.{List, [], _∷_, _++_}
-use mathlib.Core.Bool.{Bool, true, false, cond, not, _&&_, _||_}
+use mathlib.Core.Bool.{Bool, true, false, cond, not, _&&_}
 use mathlib.Core.Option.{Option, none, some}
 use native.Mathlib.Omega.{arith}
 use borrow.Author.Tests.{eq-eqb, ne-eqb, eqb-true, eqb-false, lt-ltb, ltb-false}
@@ -11,15 +11,15 @@ use Rattle.shapes.specs.Sort as Sort
 use Rattle.listing.specs.Numbers.{decimal}
 use Rattle.listing.specs.Lines.{parted}
 use Rattle.listing.proofs.Lent.{in-parts}
+use Rattle.listing.proofs.Marks.{Free, free-one, free-append, free-decimal, AllFree}
 use Rattle.editions.specs.Words.{equal, plain}
 use Rattle.editions.specs.Fields.{plains, node, error}
 use Rattle.editions.specs.Sorts.{RESULT, ALONE, NODES, KINDS, lettered, sortOf}
 use Rattle.editions.specs.Editions.{opened, field, allowed, right, ends, shed, Step, stray, becomes, headText, from, to, headStep}
-use Rattle.editions.specs.Editions.{upAs, upStep, downAs, downFrom, downStep, stepAt, Made, bad, lines, only, ahead, next, openedBehind, made, madeOf, ended}
+use Rattle.editions.specs.Editions.{upStep, downFrom, downStep, stepAt, Made, bad, lines, only, ahead, next, openedBehind, made, madeOf, ended}
 use Rattle.editions.proofs.Steps.{error-field}
 use Rattle.editions.proofs.Texts.{equal-same}
-use Rattle.editions.proofs.Marks.{Free, Each, free-one, free-append, free-front, free-decimal, pieces-free, parted-ended, ended-parted}
-use Rattle.editions.proofs.Marks.{bare-free, shed-field, shed-sound, both}
+use Rattle.editions.proofs.Marks.{free-front, pieces-free, parted-ended, ended-parted, bare-free, shed-field, shed-sound}
 
 -- LINES ONE AFTER THE OTHER
 
@@ -112,18 +112,14 @@ unfolding allowed
 no-event d s h true e = absurd (let x = ne-eqb s 0 (λ i. omega arith) in let y = lt-ltb 4 s h in let z : _≡_ {A = ℕ} 0 1 = cc in omega arith)
 no-event d s h false e = absurd (let z : _≡_ {A = ℕ} 0 1 = cc in omega arith)
 
+low : (s : ℕ) (t : Bool) → s ≤ 4 → cond t s 0 ≤ 4
+low s true h = h
+low s false h = omega arith
+
 -- what one letter begins is an event, or what another does: never both
 letter-same : {f : List (List ℕ) → ℕ} → Asks f → (fs gs : List (List ℕ)) (d : ℕ) → allowed (f fs) d ≡ true → f gs ≤ 4
-letter-same (of-node from to s h) fs gs d e = low (node from to gs)
-  where
-    low : (t : Bool) → cond t s 0 ≤ 4
-    low true = h
-    low false = omega arith
-letter-same of-error fs gs d e = low (error gs)
-  where
-    low : (t : Bool) → cond t Sort.ERROR 0 ≤ 4
-    low true = omega arith
-    low false = omega arith
+letter-same (of-node from to s h) fs gs d e = low s (node from to gs) h
+letter-same of-error fs gs d e = low Sort.ERROR (error gs) (omega arith)
 letter-same (of-last k s h) fs gs d e = no-event d s h (plains k fs) e
 letter-same of-none fs gs d e = omega arith
 
@@ -368,13 +364,13 @@ step-free up n d l f =
     tt)
     (down-free d l f (shed 9 l) refl)))
 
-goes-free : {up : Bool} {n d : ℕ} {ls ts : List (List ℕ)} → Goes up n d ls ts → Each (Free 10) ls → Each (Free 10) ts
+goes-free : {up : Bool} {n d : ℕ} {ls ts : List (List ℕ)} → Goes up n d ls ts → AllFree 10 ls → AllFree 10 ts
 goes-free (last {up = up} {n = n} {d = d} {l = l} e) f = (subst FreeOf e (step-free up n d l (f .0)), tt)
 goes-free (more {up = up} {n = n} {d = d} {l = l} e g) f = (subst FreeOf e (step-free up n d l (f .0)), goes-free g (f .1))
 
-each-front : (P : List ℕ → Type 0) (ls ks : List (List ℕ)) → Each P (ls ++ ks) → Each P ls
-each-front P [] ks e = tt
-each-front P (l ∷ ls) ks e = (e .0, each-front P ls ks (e .1))
+all-front : (m : ℕ) (ls ks : List (List ℕ)) → AllFree m (ls ++ ks) → AllFree m ls
+all-front m [] ks e = tt
+all-front m (l ∷ ls) ks e = (e .0, all-front m ls ks (e .1))
 
 -- THE WHOLE LISTING
 
@@ -400,7 +396,7 @@ flip-down (more {n = n} {d = d} {k = k} {l = l} {t = t} e g) =
     let r = flip-down g in
     record { all = a .line ∷ r .all; goes = more (a .step) (r .goes); buts = one-more (a .but) (r .buts) }
 
-pub remade : (up : Bool) (ls ts : List (List ℕ)) → Each (Free 10) ls → Goes up 1 0 ls ts → madeOf up (ended ls) ≡ lines ts
+pub remade : (up : Bool) (ls ts : List (List ℕ)) → AllFree 10 ls → Goes up 1 0 ls ts → madeOf up (ended ls) ≡ lines ts
 unfolding madeOf
 remade up ls ts f g = ap (made up 1 0) (parted-ended ls f) ∙ makes g
 
@@ -408,7 +404,7 @@ remade up ls ts f g = ap (made up 1 0) (parted-ended ls f) ∙ makes g
 record Parted (up : Bool) (text : List ℕ) (ts : List (List ℕ)) : Type 0 where
   all : List (List ℕ)
   goes : Goes up 1 0 all ts
-  free : Each (Free 10) ts
+  free : AllFree 10 ts
   is : ended all ≡ text
 
 parts : (up : Bool) (text : List ℕ) (ts : List (List ℕ)) → madeOf up text ≡ lines ts → Parted up text ts
@@ -418,7 +414,7 @@ parts up text ts e =
     record {
       all = c .all;
       goes = c .goes;
-      free = goes-free (c .goes) (each-front (Free 10) (c .all) ([] ∷ []) (subst (Each (Free 10)) (c .is) (pieces-free 10 text)));
+      free = goes-free (c .goes) (all-front 10 (c .all) ([] ∷ []) (subst (AllFree 10) (c .is) (pieces-free 10 text)));
       is = ended-parted text (c .all) (c .is);
     }
 

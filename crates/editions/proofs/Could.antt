@@ -1,11 +1,11 @@
 -- A listing that the program could have written, in either edition, converts; on the way down it becomes what the program writes in edition 1. Assumes nothing.
-use Prim.Native.Nat.{ℕ, zero, suc, _+_, _-_, _/_, _%_, _^_, _≤_, _<_}
+use Prim.Native.Nat.{ℕ, zero, suc, _+_, _-_, _/_, _%_, _≤_, _<_}
 use mathlib.Core.Path.{_≡_, refl, sym, ap, ap₂, subst, _∙_}
 use mathlib.Core.Logic.{⊎-elim}
 use mathlib.Core.List.{List, [], _∷_, _++_, map, append-assoc, append-nil}
 use mathlib.Core.Bool.{Bool, true, false, cond, not, _&&_, _||_}
 use native.Mathlib.Omega.{arith}
-use borrow.Author.Tests.{eq-eqb, ne-eqb, eqb-true, eqb-false, lt-ltb, ltb-true, le-leb, lt-leb}
+use borrow.Author.Tests.{ne-eqb, eqb-true, lt-ltb, ltb-true, le-leb, lt-leb}
 use lib.Dec.{eqb, leb, ltb}
 use lib.ListN.{length, getD, List·getD-append}
 use Rattle.kinds.specs.Spelling.{kindText, nameText, spellings}
@@ -19,16 +19,15 @@ use Rattle.listing.specs.Listing.{led, joined, lineWith, lastField, headLine, n
 use Rattle.listing.specs.Listing.{eventLine, eventLines}
 use Rattle.listing.proofs.Digits.{reads, reads-back, decimal-one, decimal-more}
 use Rattle.listing.proofs.Either.{either}
-use Rattle.listing.proofs.Lent.{in-parts}
+use Rattle.listing.proofs.Marks.{Free, free-one, free-append, both, free-decimal, AllFree, decimals-free, free-led, fields-of}
 use Rattle.listing.proofs.Written.{led-append}
 use Rattle.editions.specs.Words.{equal, unpadded, plain, kindAmong, nameNumber}
-use Rattle.editions.specs.Fields.{plains, node, has, fresh, named, place, placed, formOf, error}
-use Rattle.editions.specs.Sorts.{RESULT, ALONE, NODES, KINDS, lettered, sortOf}
+use Rattle.editions.specs.Fields.{plains, has, fresh, named, place, placed, formOf, error}
+use Rattle.editions.specs.Sorts.{RESULT, ALONE, lettered, sortOf}
 use Rattle.editions.specs.Editions.{allowed, opened, field, right, ends, stray, becomes, stepAt, from, to, headText, lines, madeOf, ended}
 use Rattle.editions.specs.Program.{Small, Distinct, Recorded, Event, begin, token, close, fault, Counted, Events, Could, was-read, was-refused, was-unread}
 use Rattle.editions.proofs.Texts.{is-some}
 use Rattle.editions.proofs.Steps.{result-ends, alone-ends}
-use Rattle.editions.proofs.Marks.{Free, Each, free-one, free-append, free-decimal, both}
 use Rattle.editions.proofs.Back.{Goes, last, more, field-decides, own-right, event-up, end-stays, head-free, head-step, remade, Buts, down-and-back}
 
 -- WORDS
@@ -116,18 +115,6 @@ plain-decimal n h = ap₂ (λ (a b : Bool). a && b) (is-some (decimal n) (reads-
 
 -- FIELDS
 
--- a text and fields behind it, each with the mark in front
-parted-led : (m : ℕ) (t : List ℕ) (fs : List (List ℕ)) → Free m t → Each (Free m) fs → parted m (t ++ led m fs) ≡ t ∷ fs
-parted-led m t [] f g = ap (parted m) (append-nil t) ∙ f
-parted-led m t (u ∷ fs) f g =
-    in-parts m t (u ++ led m fs)
-    ∙ ap (λ (ps : List (List ℕ)). ps ++ parted m (u ++ led m fs)) f
-    ∙ ap (λ (ps : List (List ℕ)). t ∷ ps) (parted-led m u fs (g .0) (g .1))
-
-free-led : (m k : ℕ) → eqb k m ≡ false → (fs : List (List ℕ)) → Each (Free m) fs → Free m (led k fs)
-free-led m k e [] f = refl
-free-led m k e (u ∷ fs) f = free-one m k (u ++ led k fs) e (free-append m u (led k fs) (f .0) (free-led m k e fs (f .1)))
-
 -- what a line has before the field that edition 2 adds, and without its line feed: none inside, and this sort
 record Body (body : List ℕ) (sort : ℕ) : Type 0 where
   free : Free 10 body
@@ -139,12 +126,12 @@ record Line (w : ℕ → List ℕ) (sort n : ℕ) : Type 0 where
   body : Body text sort
   is : (edition : ℕ) → w edition ≡ (text ++ led 9 (lastField edition n)) ++ (10 ∷ [])
 
-a-body : (c : ℕ) (fs : List (List ℕ)) (s : ℕ) → eqb c 9 ≡ false → eqb c 10 ≡ false → Each (Free 9) fs → Each (Free 10) fs → lettered c fs ≡ s → Body (c ∷ led 9 fs) s
+a-body : (c : ℕ) (fs : List (List ℕ)) (s : ℕ) → eqb c 9 ≡ false → eqb c 10 ≡ false → AllFree 9 fs → AllFree 10 fs → lettered c fs ≡ s → Body (c ∷ led 9 fs) s
 unfolding sortOf
 a-body c fs s e f g h i =
     record {
       free = free-one 10 c (led 9 fs) f (free-led 10 9 refl fs h);
-      sorts = ap sortOf (parted-led 9 (c ∷ []) fs (free-one 9 c [] e refl) g) ∙ i;
+      sorts = ap sortOf (fields-of 9 (c ∷ []) fs (free-one 9 c [] e refl) g) ∙ i;
     }
 
 a-line : (c : ℕ) (fs : List (List ℕ)) (s n : ℕ) → Body (c ∷ led 9 fs) s → Line (λ (edition : ℕ). lineWith c (fs ++ lastField edition n)) s n
@@ -154,10 +141,6 @@ a-line c fs s n b =
       body = b;
       is = λ edition. ap (λ (t : List ℕ). c ∷ (t ++ (10 ∷ []))) (led-append 9 fs (lastField edition n));
     }
-
-decimals-free : (m : ℕ) → m < 48 → (ns : List ℕ) → Each (Free m) (map decimal ns)
-decimals-free m h [] = tt
-decimals-free m h (n ∷ ns) = (free-decimal m h n, decimals-free m h ns)
 
 plains-two : (a b : ℕ) → Small a → Small b → plains 2 (decimal a ∷ decimal b ∷ []) ≡ true
 plains-two a b h k = ap₂ (λ (x y : Bool). x && (y && true)) (plain-decimal a h) (plain-decimal b k)
@@ -199,11 +182,11 @@ fresh-names seen (n ∷ ns) (h, f, d) =
     ∙ ap₂ (λ (x y : Bool). x && not y && fresh (n ∷ seen) (map nameText ns)) (lt-ltb n 85 h) f
     ∙ fresh-names (n ∷ seen) ns d
 
-names-free : (m : ℕ) → m ≤ 44 → (m ≡ 32 → ⊥) → (seen ns : List ℕ) → Distinct seen ns → Each (Free m) (map nameText ns)
+names-free : (m : ℕ) → m ≤ 44 → (m ≡ 32 → ⊥) → (seen ns : List ℕ) → Distinct seen ns → AllFree m (map nameText ns)
 names-free m h k seen [] d = tt
 names-free m h k seen (n ∷ ns) (i, f, d) = (bland-free m h k (nameText n) (name-bland n i), names-free m h k (n ∷ seen) ns d)
 
-joined-free : (m : ℕ) → eqb 45 m ≡ false → eqb 44 m ≡ false → (ts : List (List ℕ)) → Each (Free m) ts → Free m (joined ts)
+joined-free : (m : ℕ) → eqb 45 m ≡ false → eqb 44 m ≡ false → (ts : List (List ℕ)) → AllFree m ts → Free m (joined ts)
 joined-free m x y [] f = free-one m 45 [] x refl
 joined-free m x y (t ∷ ts) f = free-append m t (led 44 ts) (f .0) (free-led m 44 y ts (f .1))
 
@@ -220,7 +203,7 @@ names-told form ns s d z = ⊎-elim many few (either 3 form)
     go [] h i = absurd (omega arith)
     go (n ∷ l) h i =
         let f = names-free 44 (omega arith) (λ j. omega arith) [] (n ∷ l) i in
-        ap (fresh []) (parted-led 44 (nameText n) (map nameText l) (f .0) (f .1))
+        ap (fresh []) (fields-of 44 (nameText n) (map nameText l) (f .0) (f .1))
         ∙ fresh-names [] (n ∷ l) i
 
     few : form ≤ 3 → named form (joined (map nameText ns)) ≡ true
@@ -243,14 +226,14 @@ place-told form p h = go (eqb form 9) refl
     go false e = refl
 
 module _ (l : List ℕ) (r : Recorded l) where
-  record-names-free : (m : ℕ) → m ≤ 44 → (m ≡ 32 → ⊥) → Each (Free m) (map nameText (namesOf l))
+  record-names-free : (m : ℕ) → m ≤ 44 → (m ≡ 32 → ⊥) → AllFree m (map nameText (namesOf l))
   record-names-free m h k =
       ⊎-elim
-      (λ i. subst (λ (ns : List ℕ). Each (Free m) (map nameText ns)) (sym (r .no-names i)) tt)
+      (λ i. subst (λ (ns : List ℕ). AllFree m (map nameText ns)) (sym (r .no-names i)) tt)
       (λ i. names-free m h k [] (namesOf l) (r .distinct i))
       (either 3 (getD l FORM 0))
 
-  fields-free : (m : ℕ) → m < 44 → (m ≡ 32 → ⊥) → Each (Free m) (errorFields l)
+  fields-free : (m : ℕ) → m < 44 → (m ≡ 32 → ⊥) → AllFree m (errorFields l)
   unfolding placeOf
   fields-free m h k = (
     free-decimal m (omega arith) (getD l FORM 0),
@@ -266,7 +249,7 @@ module _ (l : List ℕ) (r : Recorded l) where
     ),
   )
     where
-      go : (t : Bool) → Each (Free m) (cond t (decimal (getD l (HEAD + getD l COUNT 0) 0) ∷ []) [])
+      go : (t : Bool) → AllFree m (cond t (decimal (getD l (HEAD + getD l COUNT 0) 0) ∷ []) [])
       go true = (free-decimal m (omega arith) (getD l (HEAD + getD l COUNT 0) 0), tt)
       go false = tt
 
@@ -369,7 +352,7 @@ record Runs (up : Bool) (n d : ℕ) (w : ℕ → List ℕ) : Type 0 where
   all : List (List ℕ)
   written : List (List ℕ)
   is : w (from up) ≡ ended all
-  free : Each (Free 10) all
+  free : AllFree 10 all
   goes : Goes up n d all written
   down : up ≡ false → ended written ≡ w 1
 

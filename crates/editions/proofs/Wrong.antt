@@ -11,13 +11,14 @@ use lib.ListN.{length, length-append}
 use Rattle.shapes.specs.Sort as Sort
 use Rattle.listing.specs.Lines.{parted}
 use Rattle.listing.proofs.Lent.{in-parts}
+use Rattle.listing.proofs.Marks.{Free, free-one, free-append, both, AllFree}
 use Rattle.listing.proofs.Pieces.{one-piece}
 use Rattle.editions.specs.Words.{plain, kindAmong}
-use Rattle.editions.specs.Fields.{plains, node, placed, formOf, error}
+use Rattle.editions.specs.Fields.{plains, node, formOf, error}
 use Rattle.editions.specs.Sorts.{sortOf}
 use Rattle.editions.specs.Editions.{opened, allowed, right, ends, shed, Step, stray, becomes, headText, headStep, upStep, downFrom, downStep, stepAt}
-use Rattle.editions.specs.Editions.{Made, bad, lines, ahead, next, openedBehind, made, madeOf, ended, answered, converted}
-use Rattle.editions.proofs.Marks.{Free, Each, free-one, free-append, both, parted-ended, shed-sound}
+use Rattle.editions.specs.Editions.{Made, bad, lines, ahead, next, openedBehind, made, madeOf, ended, refused, answered, converted}
+use Rattle.editions.proofs.Marks.{parted-ended, shed-sound}
 use Rattle.editions.proofs.Back.{Goes, last, more, came, made-more, Asks, of-node, of-error, of-last, of-none, asks, no-event}
 use Rattle.editions.proofs.Back.{goes-on, event-most, field-decides, head-step, end-stays, head-free}
 
@@ -181,7 +182,7 @@ decides o n d (l ∷ j ∷ ls) (t ∷ ts) h (more {k = k} e g) f =
     go true c ps e = ap (ahead (l ∷ [])) e
     go false c ps e = refl
 
-fielded-free : (o : ℕ → Option (List ℕ)) (n : ℕ) (ls : List (List ℕ)) → Each (Free 10) ls → Fits o n ls → Each (Free 10) (fielded o n ls)
+fielded-free : (o : ℕ → Option (List ℕ)) (n : ℕ) (ls : List (List ℕ)) → AllFree 10 ls → Fits o n ls → AllFree 10 (fielded o n ls)
 fielded-free o n [] e f = tt
 fielded-free o n (l ∷ []) e f = e
 fielded-free o n (l ∷ k ∷ ls) e f = (go (o n) (f .0), fielded-free o (suc n) (k ∷ ls) (e .1) (f .1))
@@ -200,7 +201,7 @@ same-before t (l ∷ ls) (k ∷ ks) e =
     let y : ls ++ (t ∷ []) ≡ ks ++ (t ∷ []) = cc in
     ap₂ (λ (a : List ℕ) (bs : List (List ℕ)). a ∷ bs) x (same-before t ls ks y)
 
-behind-head : (up : Bool) (edition other : ℕ) (ls : List (List ℕ)) → Each (Free 10) ls → stepAt up 1 0 (headText edition) ≡ becomes false 0 (headText other)
+behind-head : (up : Bool) (edition other : ℕ) (ls : List (List ℕ)) → AllFree 10 ls → stepAt up 1 0 (headText edition) ≡ becomes false 0 (headText other)
     → madeOf up (ended (headText edition ∷ ls)) ≡ ahead (headText other ∷ []) (made up 2 0 (ls ++ ([] ∷ [])))
 unfolding madeOf
 behind-head up edition other ls e h =
@@ -210,7 +211,7 @@ behind-head up edition other ls e h =
 
 -- Lines that stand behind the `L` line of a listing of edition 1 which converts, each event with a field behind it or none: in edition 2 they are refused
 -- 16 at the first whose field is not the counted depth, or no item, or left out, and nowhere else; where there is none, they become what they were
-pub fields-decide : (ls ts : List (List ℕ)) → Each (Free 10) ls → madeOf true (ended (headText 1 ∷ ls)) ≡ lines ts → (o : ℕ → Option (List ℕ)) → Fits o 2 ls
+pub fields-decide : (ls ts : List (List ℕ)) → AllFree 10 ls → madeOf true (ended (headText 1 ∷ ls)) ≡ lines ts → (o : ℕ → Option (List ℕ)) → Fits o 2 ls
     → (room : List ℕ) → converted false (ended (headText 2 ∷ fielded o 2 ls)) room ≡ answered (ahead (headText 1 ∷ []) (firstWrong o 2 0 ls)) room
 unfolding converted
 fields-decide ls ts e m o f room = go (made true 2 0 (ls ++ ([] ∷ []))) refl (sym (behind-head true 1 2 ls e (head-step true)) ∙ m)
@@ -224,3 +225,8 @@ fields-decide ls ts e m o f room = go (made true 2 0 (ls ++ ([] ∷ []))) refl (
         ap (λ (k : Made). answered k room)
         (behind-head false 2 1 (fielded o 2 ls) (fielded-free o 2 ls e f) (head-step false)
         ∙ ap (ahead (headText 1 ∷ [])) (decides o 1 0 ls us (λ i. omega arith) g f))
+
+-- the refusal is 16 with exactly that line's number, and the room is as it was lent
+pub wrong-line : (ls ts : List (List ℕ)) → AllFree 10 ls → madeOf true (ended (headText 1 ∷ ls)) ≡ lines ts → (o : ℕ → Option (List ℕ)) → Fits o 2 ls
+    → (n : ℕ) → firstWrong o 2 0 ls ≡ bad n → (room : List ℕ) → converted false (ended (headText 2 ∷ fielded o 2 ls)) room ≡ refused 16 n room
+wrong-line ls ts e m o f n w room = fields-decide ls ts e m o f room ∙ ap (λ (k : Made). answered (ahead (headText 1 ∷ []) k) room) w
