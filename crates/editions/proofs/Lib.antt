@@ -9,3 +9,4 @@ pub mod Marks
 pub mod Back
 pub mod Could
 pub mod Wrong
+pub mod Small
