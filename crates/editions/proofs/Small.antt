@@ -34,10 +34,25 @@ recorded =
 pub could-two : Could 2 (λ (e : ℕ). listed e events errors 0 1 5)
 unfolding allowed opened field lastField decimal
 could-two =
-    was-read events errors 0 1 5
-    (refl, begin {k = k.SOURCE-FILE} {start = 0} {end = 3} (omega arith) (omega arith) (omega arith) (omega arith), λ h. refl,
-    (refl, token {k = k.WHITESPACE} {start = 0} {end = 3} (omega arith) (omega arith) (omega arith), λ h. refl,
-    (refl, fault recorded, λ h. absurd (h refl),
-    (refl, close {k = k.SOURCE-FILE} {start = 0} {end = 3} (omega arith) (omega arith) (omega arith) (omega arith), λ h. refl,
-    refl))))
+    was-read events errors 0 1 5 (
+      refl,
+      begin {k = k.SOURCE-FILE} {start = 0} {end = 3} (omega arith) (omega arith) (omega arith) (omega arith),
+      λ h. refl,
+      (
+        refl,
+        token {k = k.WHITESPACE} {start = 0} {end = 3} (omega arith) (omega arith) (omega arith),
+        λ h. refl,
+        (
+          refl,
+          fault recorded,
+          λ h. absurd (h refl),
+          (
+            refl,
+            close {k = k.SOURCE-FILE} {start = 0} {end = 3} (omega arith) (omega arith) (omega arith) (omega arith),
+            λ h. refl,
+            refl,
+          ),
+        ),
+      ),
+    )
     (omega arith) (omega arith) (omega arith)
