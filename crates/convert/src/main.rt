@@ -7,8 +7,8 @@ use libc::STDOUT_FILENO;
 ghost use Prim.Native.Nat.{_≤_};
 ghost use lib.ListN.{length};
 
-// What `intake` writes has at most 4,096 events of 50 bytes each, and in its error lines at most 16,384 names of 17: half of this. A field more is at most
-// 7 bytes to a line of at least 9, so that twice as much holds every listing that is taken.
+// What `intake` writes in edition 2 has at most 4,096 events of 55 bytes each, and in its error lines at most 16,384 names of 17: less than this. A field
+// more is at most 7 bytes to a line of at least 9, so that twice as much holds every listing that is taken.
 const MOST_BYTES: usize = 524288;
 
 enum Listing {

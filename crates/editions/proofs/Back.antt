@@ -2,7 +2,7 @@
 use Prim.Native.Nat.{ℕ, suc, _≤_, _<_}
 use mathlib.Core.Path.{_≡_, refl, sym, ap, ap₂, subst, _∙_}
 use mathlib.Core.List.{List, [], _∷_, _++_}
-use mathlib.Core.Bool.{Bool, true, false, cond, not, _&&_, _||_}
+use mathlib.Core.Bool.{Bool, true, false, cond, not, _&&_}
 use mathlib.Core.Option.{Option, none, some}
 use native.Mathlib.Omega.{arith}
 use borrow.Author.Tests.{eq-eqb, ne-eqb, eqb-true, eqb-false, lt-ltb, ltb-false}
@@ -11,15 +11,15 @@ use Rattle.shapes.specs.Sort as Sort
 use Rattle.listing.specs.Numbers.{decimal}
 use Rattle.listing.specs.Lines.{parted}
 use Rattle.listing.proofs.Lent.{in-parts}
+use Rattle.listing.proofs.Marks.{Free, free-one, free-append, free-decimal, AllFree}
 use Rattle.editions.specs.Words.{equal, plain}
 use Rattle.editions.specs.Fields.{plains, node, error}
 use Rattle.editions.specs.Sorts.{RESULT, ALONE, NODES, KINDS, lettered, sortOf}
 use Rattle.editions.specs.Editions.{opened, field, allowed, right, ends, shed, Step, stray, becomes, headText, from, to, headStep}
-use Rattle.editions.specs.Editions.{upAs, upStep, downAs, downFrom, downStep, stepAt, Made, bad, lines, only, ahead, next, openedBehind, made, madeOf, ended}
+use Rattle.editions.specs.Editions.{upStep, downFrom, downStep, stepAt, Made, bad, lines, only, ahead, next, openedBehind, made, madeOf, ended}
 use Rattle.editions.proofs.Steps.{error-field}
 use Rattle.editions.proofs.Texts.{equal-same}
-use Rattle.editions.proofs.Marks.{Free, Each, free-one, free-append, free-front, free-decimal, pieces-free, parted-ended, ended-parted}
-use Rattle.editions.proofs.Marks.{bare-free, shed-field, shed-sound, both}
+use Rattle.editions.proofs.Marks.{free-front, pieces-free, parted-ended, ended-parted, bare-free, shed-field, shed-sound}
 
 -- LINES ONE AFTER THE OTHER
 
@@ -69,48 +69,59 @@ came up n d (l ∷ k ∷ ls) ts e = go (stepAt up n d l) refl e (λ c us f. came
               goes = subst (λ (vs : List (List ℕ)). Goes up n d (l ∷ r .all) vs) w (more i (r .goes));
             }
 
+-- a line before others, of which there is one at least
+pub made-more : (up : Bool) (n d : ℕ) (l : List ℕ) (ks : List (List ℕ))
+    → made up n d (l ∷ (ks ++ ([] ∷ []))) ≡ next n (stepAt up n d l) (ks ++ ([] ∷ [])) (made up (suc n) (openedBehind (stepAt up n d l)) (ks ++ ([] ∷ [])))
+made-more up n d l [] = refl
+made-more up n d l (k ∷ ks) = refl
+
 pub makes : {up : Bool} {n d : ℕ} {ls ts : List (List ℕ)} → Goes up n d ls ts → made up n d (ls ++ ([] ∷ [])) ≡ lines ts
 makes {up} {n} {d} (last {t = t} e) =
     ap (λ (s : Step). next n s ([] ∷ []) (made up (suc n) (openedBehind s) ([] ∷ []))) e
 makes {up} {n} {d} (more {k = k} {l = l} {t = t} {ls = ls} e g) =
-    behind ls
+    made-more up n d l ls
     ∙ ap (λ (s : Step). next n s (ls ++ ([] ∷ [])) (made up (suc n) (openedBehind s) (ls ++ ([] ∷ [])))) e
     ∙ ap (ahead (t ∷ [])) (makes g)
-  where
-    behind : (ks : List (List ℕ))
-        → made up n d (l ∷ (ks ++ ([] ∷ []))) ≡ next n (stepAt up n d l) (ks ++ ([] ∷ [])) (made up (suc n) (openedBehind (stepAt up n d l)) (ks ++ ([] ∷ [])))
-    behind [] = refl
-    behind (k ∷ ks) = refl
 
 -- AN EVENT'S LETTER
 
+-- what the fields behind a letter are asked for: a node, an error, numbers of a line that ends the listing, or nothing where it is no letter
+pub data Asks : (List (List ℕ) → ℕ) → Type 0 where
+  of-node : (from to s : ℕ) → s ≤ 4 → Asks (λ (fs : List (List ℕ)). cond (node from to fs) s 0)
+  of-error : Asks (λ (fs : List (List ℕ)). cond (error fs) Sort.ERROR 0)
+  of-last : (k s : ℕ) → 4 < s → Asks (λ (fs : List (List ℕ)). cond (plains k fs) s 0)
+  of-none : Asks (λ (fs : List (List ℕ)). 0)
+
+either-asks : (t : Bool) (f g : List (List ℕ) → ℕ) → Asks f → Asks g → Asks (λ (fs : List (List ℕ)). cond t (f fs) (g fs))
+either-asks true f g a b = a
+either-asks false f g a b = b
+
+pub asks : (c : ℕ) → Asks (lettered c)
+unfolding lettered
+asks c =
+    either-asks (eqb c 66) _ _ (of-node NODES KINDS Sort.BEGIN (omega arith))
+    (either-asks (eqb c 84) _ _ (of-node 0 NODES Sort.TOKEN (omega arith))
+    (either-asks (eqb c 69) _ _ (of-node NODES KINDS Sort.END (omega arith))
+    (either-asks (eqb c 88) _ _ of-error
+    (either-asks (eqb c 82) _ _ (of-last 3 RESULT (omega arith))
+    (either-asks (eqb c 78) _ _ (of-last 1 ALONE (omega arith))
+    (either-asks (eqb c 70) _ _ (of-last 1 ALONE (omega arith)) of-none))))))
+
+pub no-event : (d s : ℕ) → 4 < s → (t : Bool) → {A : Type 0} → allowed (cond t s 0) d ≡ true → A
+unfolding allowed
+no-event d s h true e = absurd (let x = ne-eqb s 0 (λ i. omega arith) in let y = lt-ltb 4 s h in let z : _≡_ {A = ℕ} 0 1 = cc in omega arith)
+no-event d s h false e = absurd (let z : _≡_ {A = ℕ} 0 1 = cc in omega arith)
+
+low : (s : ℕ) (t : Bool) → s ≤ 4 → cond t s 0 ≤ 4
+low s true h = h
+low s false h = omega arith
+
 -- what one letter begins is an event, or what another does: never both
-module _ (c : ℕ) (fs gs : List (List ℕ)) (d : ℕ) where
-  letter-same : allowed (lettered c fs) d ≡ true → lettered c gs ≤ 4
-  unfolding lettered allowed
-  letter-same = go (eqb c 66) (eqb c 84) (eqb c 69) (eqb c 88) (eqb c 82) (eqb c 78) (eqb c 70)
-    where
-      low : (t : Bool) (n : ℕ) → n ≤ 4 → cond t n 0 ≤ 4
-      low true n h = h
-      low false n h = omega arith
-
-      never : (t : Bool) (n : ℕ) → 4 < n → {A : Type 0} → allowed (cond t n 0) d ≡ true → A
-      never true n h e = absurd (let x = ne-eqb n 0 (λ i. omega arith) in let y = lt-ltb 4 n h in let z : _≡_ {A = ℕ} 0 1 = cc in omega arith)
-      never false n h e = absurd (let z : _≡_ {A = ℕ} 0 1 = cc in omega arith)
-
-      go : (b t e x r n f : Bool)
-          → allowed (cond b (cond (node NODES KINDS fs) Sort.BEGIN 0) (cond t (cond (node 0 NODES fs) Sort.TOKEN 0) (cond e (cond (node NODES KINDS fs) Sort.END 0)
-          (cond x (cond (error fs) Sort.ERROR 0) (cond r (cond (plains 3 fs) RESULT 0) (cond n (cond (plains 1 fs) ALONE 0) (cond f (cond (plains 1 fs) ALONE 0) 0))))))) d ≡ true
-          → cond b (cond (node NODES KINDS gs) Sort.BEGIN 0) (cond t (cond (node 0 NODES gs) Sort.TOKEN 0) (cond e (cond (node NODES KINDS gs) Sort.END 0)
-          (cond x (cond (error gs) Sort.ERROR 0) (cond r (cond (plains 3 gs) RESULT 0) (cond n (cond (plains 1 gs) ALONE 0) (cond f (cond (plains 1 gs) ALONE 0) 0)))))) ≤ 4
-      go true t e x r n f h = low (node NODES KINDS gs) 1 (omega arith)
-      go false true e x r n f h = low (node 0 NODES gs) 2 (omega arith)
-      go false false true x r n f h = low (node NODES KINDS gs) 3 (omega arith)
-      go false false false true r n f h = low (error gs) 4 (omega arith)
-      go false false false false true n f h = never (plains 3 fs) 5 (omega arith) h
-      go false false false false false true f h = never (plains 1 fs) 6 (omega arith) h
-      go false false false false false false true h = never (plains 1 fs) 6 (omega arith) h
-      go false false false false false false false h = omega arith
+letter-same : {f : List (List ℕ) → ℕ} → Asks f → (fs gs : List (List ℕ)) (d : ℕ) → allowed (f fs) d ≡ true → f gs ≤ 4
+letter-same (of-node from to s h) fs gs d e = low s (node from to gs) h
+letter-same of-error fs gs d e = low Sort.ERROR (error gs) (omega arith)
+letter-same (of-last k s h) fs gs d e = no-event d s h (plains k fs) e
+letter-same of-none fs gs d e = omega arith
 
 no-zero : (d : ℕ) → {A : Type 0} → allowed 0 d ≡ true → A
 unfolding allowed
@@ -121,10 +132,10 @@ sort-same : (fs gs : List (List ℕ)) (d : ℕ) → allowed (sortOf fs) d ≡ tr
 unfolding sortOf
 sort-same [] gs d e = no-zero d e
 sort-same ([] ∷ fs) gs d e = no-zero d e
-sort-same ((c ∷ []) ∷ fs) gs d e = letter-same c fs (fs ++ gs) d e
+sort-same ((c ∷ []) ∷ fs) gs d e = letter-same (asks c) fs (fs ++ gs) d e
 sort-same ((c ∷ b ∷ l) ∷ fs) gs d e = no-zero d e
 
-goes-on : (s n d : ℕ) → s ≤ 4 → ends s n d ≡ false
+pub goes-on : (s n d : ℕ) → s ≤ 4 → ends s n d ≡ false
 unfolding ends
 goes-on s n d h = rw (ne-eqb s RESULT (λ i. omega arith), ne-eqb s ALONE (λ i. omega arith)) (go (eqb d 0))
   where
@@ -132,7 +143,7 @@ goes-on s n d h = rw (ne-eqb s RESULT (λ i. omega arith), ne-eqb s ALONE (λ i.
     go true = refl
     go false = refl
 
-event-most : (s d : ℕ) → allowed s d ≡ true → s ≤ 4
+pub event-most : (s d : ℕ) → allowed s d ≡ true → s ≤ 4
 unfolding allowed
 event-most s d e = go (eqb s 0) (ltb Sort.ERROR s) refl e
   where
@@ -168,7 +179,7 @@ module _ (n d : ℕ) (l f : List ℕ) (event : allowed (sortOf (parted 9 l)) d �
       ∙ field-down)
 
 -- the field that is written is the right one
-own-right : (s d : ℕ) → right s d (decimal (field s d)) ≡ true
+pub own-right : (s d : ℕ) → right s d (decimal (field s d)) ≡ true
 unfolding right field plain decimal
 own-right s d = go (eqb s Sort.ERROR) refl
   where
@@ -237,12 +248,18 @@ event-up n d a h u =
     ∙ ap (λ (x : Bool). cond x (becomes true 0 a) (upStep d a)) (goes-on (sortOf (parted 9 a)) n d (event-most (sortOf (parted 9 a)) d u))
     ∙ ap (λ (x : Bool). cond x (becomes false (opened (sortOf (parted 9 a)) d) (a ++ (9 ∷ decimal (field (sortOf (parted 9 a)) d)))) stray) u
 
+-- the `L` line
+pub head-step : (up : Bool) → stepAt up 1 0 (headText (from up)) ≡ becomes false 0 (headText (to up))
+unfolding decimal stepAt headStep
+head-step true = refl
+head-step false = refl
+
 -- a line that ends the listing stays as it is
-pub end-up : (n d : ℕ) (l : List ℕ) → (n ≡ 1 → ⊥) → ends (sortOf (parted 9 l)) n d ≡ true → stepAt true n d l ≡ becomes true 0 l
+pub end-stays : (up : Bool) (n d : ℕ) (l : List ℕ) → (n ≡ 1 → ⊥) → ends (sortOf (parted 9 l)) n d ≡ true → stepAt up n d l ≡ becomes true 0 l
 unfolding stepAt
-end-up n d l h i =
-    ap (λ (x : Bool). cond x (headStep true l) (cond (ends (sortOf (parted 9 l)) n d) (becomes true 0 l) (upStep d l))) (ne-eqb n 1 h)
-    ∙ ap (λ (x : Bool). cond x (becomes true 0 l) (upStep d l)) i
+end-stays up n d l h i =
+    ap (λ (x : Bool). cond x (headStep up l) (cond (ends (sortOf (parted 9 l)) n d) (becomes true 0 l) (cond up (upStep d l) (downStep d l)))) (ne-eqb n 1 h)
+    ∙ ap (λ (x : Bool). cond x (becomes true 0 l) (cond up (upStep d l) (downStep d l))) i
 
 -- the same line, but for the item of an error, which is then 0
 pub data But : List ℕ → List ℕ → Type 0 where
@@ -296,7 +313,7 @@ down-up n d l t b k e = go (eqb n 1) refl e
         let z : becomes true 0 l ≡ becomes b k l = cc in
         record {
           line = l;
-          step = ap (stepAt true n d) w ∙ end-up n d l h i ∙ z;
+          step = ap (stepAt true n d) w ∙ end-stays true n d l h i ∙ z;
           but = same;
         }
     rest h false i e = tabs h (shed 9 l) refl e
@@ -323,10 +340,8 @@ either-free : (t : Bool) (a b : Step) → FreeOf a → FreeOf b → FreeOf (cond
 either-free true a b f g = f
 either-free false a b f g = g
 
-head-free : (up : Bool) → Free 10 (headText (to up))
-unfolding decimal
-head-free true = refl
-head-free false = refl
+pub head-free : (edition : ℕ) → Free 10 (headText edition)
+head-free edition = free-one 10 76 (9 ∷ decimal edition) refl (free-one 10 9 (decimal edition) refl (free-decimal 10 (omega arith) edition))
 
 down-free : (d : ℕ) (l : List ℕ) → Free 10 l → (o : Option (List ℕ × List ℕ)) → shed 9 l ≡ o → FreeOf (downFrom d o)
 down-free d l f none i = tt
@@ -339,7 +354,7 @@ step-free : (up : Bool) (n d : ℕ) (l : List ℕ) → Free 10 l → FreeOf (ste
 unfolding stepAt headStep upStep downStep
 step-free up n d l f =
     either-free (eqb n 1) (headStep up l) (cond (ends (sortOf (parted 9 l)) n d) (becomes true 0 l) (cond up (upStep d l) (downStep d l)))
-    (either-free (equal l (headText (from up))) (becomes false 0 (headText (to up))) stray (head-free up) tt)
+    (either-free (equal l (headText (from up))) (becomes false 0 (headText (to up))) stray (head-free (to up)) tt)
     (either-free (ends (sortOf (parted 9 l)) n d) (becomes true 0 l) (cond up (upStep d l) (downStep d l)) f
     (either-free up (upStep d l) (downStep d l)
     (either-free (allowed (sortOf (parted 9 l)) d)
@@ -349,13 +364,13 @@ step-free up n d l f =
     tt)
     (down-free d l f (shed 9 l) refl)))
 
-goes-free : {up : Bool} {n d : ℕ} {ls ts : List (List ℕ)} → Goes up n d ls ts → Each (Free 10) ls → Each (Free 10) ts
+goes-free : {up : Bool} {n d : ℕ} {ls ts : List (List ℕ)} → Goes up n d ls ts → AllFree 10 ls → AllFree 10 ts
 goes-free (last {up = up} {n = n} {d = d} {l = l} e) f = (subst FreeOf e (step-free up n d l (f .0)), tt)
 goes-free (more {up = up} {n = n} {d = d} {l = l} e g) f = (subst FreeOf e (step-free up n d l (f .0)), goes-free g (f .1))
 
-each-front : (P : List ℕ → Type 0) (ls ks : List (List ℕ)) → Each P (ls ++ ks) → Each P ls
-each-front P [] ks e = tt
-each-front P (l ∷ ls) ks e = (e .0, each-front P ls ks (e .1))
+all-front : (m : ℕ) (ls ks : List (List ℕ)) → AllFree m (ls ++ ks) → AllFree m ls
+all-front m [] ks e = tt
+all-front m (l ∷ ls) ks e = (e .0, all-front m ls ks (e .1))
 
 -- THE WHOLE LISTING
 
@@ -381,7 +396,7 @@ flip-down (more {n = n} {d = d} {k = k} {l = l} {t = t} e g) =
     let r = flip-down g in
     record { all = a .line ∷ r .all; goes = more (a .step) (r .goes); buts = one-more (a .but) (r .buts) }
 
-pub remade : (up : Bool) (ls ts : List (List ℕ)) → Each (Free 10) ls → Goes up 1 0 ls ts → madeOf up (ended ls) ≡ lines ts
+pub remade : (up : Bool) (ls ts : List (List ℕ)) → AllFree 10 ls → Goes up 1 0 ls ts → madeOf up (ended ls) ≡ lines ts
 unfolding madeOf
 remade up ls ts f g = ap (made up 1 0) (parted-ended ls f) ∙ makes g
 
@@ -389,7 +404,7 @@ remade up ls ts f g = ap (made up 1 0) (parted-ended ls f) ∙ makes g
 record Parted (up : Bool) (text : List ℕ) (ts : List (List ℕ)) : Type 0 where
   all : List (List ℕ)
   goes : Goes up 1 0 all ts
-  free : Each (Free 10) ts
+  free : AllFree 10 ts
   is : ended all ≡ text
 
 parts : (up : Bool) (text : List ℕ) (ts : List (List ℕ)) → madeOf up text ≡ lines ts → Parted up text ts
@@ -399,7 +414,7 @@ parts up text ts e =
     record {
       all = c .all;
       goes = c .goes;
-      free = goes-free (c .goes) (each-front (Free 10) (c .all) ([] ∷ []) (subst (Each (Free 10)) (c .is) (pieces-free 10 text)));
+      free = goes-free (c .goes) (all-front 10 (c .all) ([] ∷ []) (subst (AllFree 10) (c .is) (pieces-free 10 text)));
       is = ended-parted text (c .all) (c .is);
     }
 

@@ -1,11 +1,11 @@
--- A listing that the program could have written converts. Assumes nothing.
-use Prim.Native.Nat.{ℕ, zero, suc, _+_, _-_, _/_, _%_, _^_, _≤_, _<_}
+-- A listing that the program could have written, in either edition, converts; on the way down it becomes what the program writes in edition 1. Assumes nothing.
+use Prim.Native.Nat.{ℕ, zero, suc, _+_, _-_, _/_, _%_, _≤_, _<_}
 use mathlib.Core.Path.{_≡_, refl, sym, ap, ap₂, subst, _∙_}
 use mathlib.Core.Logic.{⊎-elim}
 use mathlib.Core.List.{List, [], _∷_, _++_, map, append-assoc, append-nil}
 use mathlib.Core.Bool.{Bool, true, false, cond, not, _&&_, _||_}
 use native.Mathlib.Omega.{arith}
-use borrow.Author.Tests.{eq-eqb, ne-eqb, eqb-true, eqb-false, lt-ltb, ltb-true, le-leb, lt-leb}
+use borrow.Author.Tests.{ne-eqb, eqb-true, lt-ltb, ltb-true, le-leb, lt-leb}
 use lib.Dec.{eqb, leb, ltb}
 use lib.ListN.{length, getD, List·getD-append}
 use Rattle.kinds.specs.Spelling.{kindText, nameText, spellings}
@@ -15,19 +15,20 @@ use Rattle.shapes.specs.Sort as Sort
 use Rattle.shapes.specs.Shapes.{HEAD, FORM, COUNT}
 use Rattle.listing.specs.Numbers.{value, decimal}
 use Rattle.listing.specs.Lines.{parted}
-use Rattle.listing.specs.Listing.{led, joined, lineWith, headLine, nodeLine, namesOf, placeOf, errorLine, recordsFrom, eventLine, eventLines, resultLine}
+use Rattle.listing.specs.Listing.{led, joined, lineWith, lastField, headLine, nodeLine, namesOf, placeOf, itemOf, errorFields, errorLine, recordsFrom}
+use Rattle.listing.specs.Listing.{eventLine, eventLines}
 use Rattle.listing.proofs.Digits.{reads, reads-back, decimal-one, decimal-more}
 use Rattle.listing.proofs.Either.{either}
-use Rattle.listing.proofs.Lent.{in-parts}
+use Rattle.listing.proofs.Marks.{Free, free-one, free-append, both, free-decimal, AllFree, decimals-free, free-led, fields-of}
+use Rattle.listing.proofs.Written.{led-append}
 use Rattle.editions.specs.Words.{equal, unpadded, plain, kindAmong, nameNumber}
-use Rattle.editions.specs.Fields.{plains, node, has, fresh, named, place, placed, formOf, error}
-use Rattle.editions.specs.Sorts.{RESULT, ALONE, NODES, KINDS, lettered, sortOf}
-use Rattle.editions.specs.Editions.{allowed, opened, field, ends, stepAt, headText, headStep, lines, madeOf, ended}
-use Rattle.editions.specs.Program.{Small, Distinct, Recorded, Event, begin, token, close, fault, Events, Could, was-read, was-refused, was-unread}
+use Rattle.editions.specs.Fields.{plains, has, fresh, named, place, placed, formOf, error}
+use Rattle.editions.specs.Sorts.{RESULT, ALONE, lettered, sortOf}
+use Rattle.editions.specs.Editions.{allowed, opened, field, right, ends, stray, becomes, stepAt, from, to, headText, lines, madeOf, ended}
+use Rattle.editions.specs.Program.{Small, Distinct, Recorded, Event, begin, token, close, fault, Counted, Events, Could, was-read, was-refused, was-unread}
 use Rattle.editions.proofs.Texts.{is-some}
 use Rattle.editions.proofs.Steps.{result-ends, alone-ends}
-use Rattle.editions.proofs.Marks.{Free, Each, free-one, free-append, free-decimal, both}
-use Rattle.editions.proofs.Back.{Goes, last, more, event-up, end-up, remade}
+use Rattle.editions.proofs.Back.{Goes, last, more, field-decides, own-right, event-up, end-stays, head-free, head-step, remade, Buts, down-and-back}
 
 -- WORDS
 
@@ -114,60 +115,55 @@ plain-decimal n h = ap₂ (λ (a b : Bool). a && b) (is-some (decimal n) (reads-
 
 -- FIELDS
 
--- a text and fields behind it, each with the mark in front
-parted-led : (m : ℕ) (t : List ℕ) (fs : List (List ℕ)) → Free m t → Each (Free m) fs → parted m (t ++ led m fs) ≡ t ∷ fs
-parted-led m t [] f g = ap (parted m) (append-nil t) ∙ f
-parted-led m t (u ∷ fs) f g =
-    in-parts m t (u ++ led m fs)
-    ∙ ap (λ (ps : List (List ℕ)). ps ++ parted m (u ++ led m fs)) f
-    ∙ ap (λ (ps : List (List ℕ)). t ∷ ps) (parted-led m u fs (g .0) (g .1))
-
-free-led : (m k : ℕ) → eqb k m ≡ false → (fs : List (List ℕ)) → Each (Free m) fs → Free m (led k fs)
-free-led m k e [] f = refl
-free-led m k e (u ∷ fs) f = free-one m k (u ++ led k fs) e (free-append m u (led k fs) (f .0) (free-led m k e fs (f .1)))
-
--- a line's text without its line feed: it has none inside, and this sort
-record Line (text : List ℕ) (sort : ℕ) : Type 0 where
-  body : List ℕ
-  is : text ≡ body ++ (10 ∷ [])
+-- what a line has before the field that edition 2 adds, and without its line feed: none inside, and this sort
+record Body (body : List ℕ) (sort : ℕ) : Type 0 where
   free : Free 10 body
   sorts : sortOf (parted 9 body) ≡ sort
 
-a-line : (c : ℕ) (fs : List (List ℕ)) (s : ℕ) → eqb c 9 ≡ false → eqb c 10 ≡ false → Each (Free 9) fs → Each (Free 10) fs → lettered c fs ≡ s → Line (lineWith c fs) s
+-- an event's line in each edition, with the number that edition 2 adds
+record Line (w : ℕ → List ℕ) (sort n : ℕ) : Type 0 where
+  text : List ℕ
+  body : Body text sort
+  is : (edition : ℕ) → w edition ≡ (text ++ led 9 (lastField edition n)) ++ (10 ∷ [])
+
+a-body : (c : ℕ) (fs : List (List ℕ)) (s : ℕ) → eqb c 9 ≡ false → eqb c 10 ≡ false → AllFree 9 fs → AllFree 10 fs → lettered c fs ≡ s → Body (c ∷ led 9 fs) s
 unfolding sortOf
-a-line c fs s e f g h i =
+a-body c fs s e f g h i =
     record {
-      body = c ∷ led 9 fs;
-      is = refl;
       free = free-one 10 c (led 9 fs) f (free-led 10 9 refl fs h);
-      sorts = ap sortOf (parted-led 9 (c ∷ []) fs (free-one 9 c [] e refl) g) ∙ i;
+      sorts = ap sortOf (fields-of 9 (c ∷ []) fs (free-one 9 c [] e refl) g) ∙ i;
     }
 
-decimals-free : (m : ℕ) → m < 48 → (ns : List ℕ) → Each (Free m) (map decimal ns)
-decimals-free m h [] = tt
-decimals-free m h (n ∷ ns) = (free-decimal m h n, decimals-free m h ns)
+a-line : (c : ℕ) (fs : List (List ℕ)) (s n : ℕ) → Body (c ∷ led 9 fs) s → Line (λ (edition : ℕ). lineWith c (fs ++ lastField edition n)) s n
+a-line c fs s n b =
+    record {
+      text = c ∷ led 9 fs;
+      body = b;
+      is = λ edition. ap (λ (t : List ℕ). c ∷ (t ++ (10 ∷ []))) (led-append 9 fs (lastField edition n));
+    }
 
 plains-two : (a b : ℕ) → Small a → Small b → plains 2 (decimal a ∷ decimal b ∷ []) ≡ true
 plains-two a b h k = ap₂ (λ (x y : Bool). x && (y && true)) (plain-decimal a h) (plain-decimal b k)
 
 -- the letter and the sort of a node's lines
-node-line : (c k s e sort : ℕ) → eqb c 9 ≡ false → eqb c 10 ≡ false → k < 122
-    → lettered c (kindText k ∷ decimal s ∷ decimal e ∷ []) ≡ sort → Line (nodeLine c k s e) sort
-node-line c k s e sort x y h i =
-    a-line c (kindText k ∷ decimal s ∷ decimal e ∷ []) sort x y
+node-line : (c k s e sort depth : ℕ) → eqb c 9 ≡ false → eqb c 10 ≡ false → k < 122
+    → lettered c (kindText k ∷ decimal s ∷ decimal e ∷ []) ≡ sort → Line (λ (edition : ℕ). nodeLine edition c k s e depth) sort depth
+node-line c k s e sort depth x y h i =
+    a-line c (kindText k ∷ decimal s ∷ decimal e ∷ []) sort depth
+    (a-body c (kindText k ∷ decimal s ∷ decimal e ∷ []) sort x y
     (bland-free 9 (omega arith) (λ j. omega arith) (kindText k) (kind-bland k h), decimals-free 9 (omega arith) (s ∷ e ∷ []))
     (bland-free 10 (omega arith) (λ j. omega arith) (kindText k) (kind-bland k h), decimals-free 10 (omega arith) (s ∷ e ∷ []))
-    i
+    i)
 
-result : (a b c : ℕ) → Small a → Small b → Small c → Line (resultLine a b c) RESULT
+result : (a b c : ℕ) → Small a → Small b → Small c → Body (82 ∷ led 9 (map decimal (a ∷ b ∷ c ∷ []))) RESULT
 unfolding lettered
 result a b c h i j =
-    a-line 82 (map decimal (a ∷ b ∷ c ∷ [])) RESULT refl refl (decimals-free 9 (omega arith) (a ∷ b ∷ c ∷ [])) (decimals-free 10 (omega arith) (a ∷ b ∷ c ∷ []))
+    a-body 82 (map decimal (a ∷ b ∷ c ∷ [])) RESULT refl refl (decimals-free 9 (omega arith) (a ∷ b ∷ c ∷ [])) (decimals-free 10 (omega arith) (a ∷ b ∷ c ∷ []))
     (ap (λ (t : Bool). cond t RESULT 0)
     (ap₂ (λ (x y : Bool). x && y) (plain-decimal a h) (plains-two b c i j)))
 
-alone : (c n : ℕ) → eqb c 9 ≡ false → eqb c 10 ≡ false → lettered c (decimal n ∷ []) ≡ ALONE → Line (lineWith c (map decimal (n ∷ []))) ALONE
-alone c n x y i = a-line c (decimal n ∷ []) ALONE x y (decimals-free 9 (omega arith) (n ∷ [])) (decimals-free 10 (omega arith) (n ∷ [])) i
+alone : (c n : ℕ) → eqb c 9 ≡ false → eqb c 10 ≡ false → lettered c (decimal n ∷ []) ≡ ALONE → Body (c ∷ led 9 (decimal n ∷ [])) ALONE
+alone c n x y i = a-body c (decimal n ∷ []) ALONE x y (decimals-free 9 (omega arith) (n ∷ [])) (decimals-free 10 (omega arith) (n ∷ [])) i
 
 refusal-sort : (n : ℕ) → Small n → lettered 70 (decimal n ∷ []) ≡ ALONE
 unfolding lettered
@@ -186,11 +182,11 @@ fresh-names seen (n ∷ ns) (h, f, d) =
     ∙ ap₂ (λ (x y : Bool). x && not y && fresh (n ∷ seen) (map nameText ns)) (lt-ltb n 85 h) f
     ∙ fresh-names (n ∷ seen) ns d
 
-names-free : (m : ℕ) → m ≤ 44 → (m ≡ 32 → ⊥) → (seen ns : List ℕ) → Distinct seen ns → Each (Free m) (map nameText ns)
+names-free : (m : ℕ) → m ≤ 44 → (m ≡ 32 → ⊥) → (seen ns : List ℕ) → Distinct seen ns → AllFree m (map nameText ns)
 names-free m h k seen [] d = tt
 names-free m h k seen (n ∷ ns) (i, f, d) = (bland-free m h k (nameText n) (name-bland n i), names-free m h k (n ∷ seen) ns d)
 
-joined-free : (m : ℕ) → eqb 45 m ≡ false → eqb 44 m ≡ false → (ts : List (List ℕ)) → Each (Free m) ts → Free m (joined ts)
+joined-free : (m : ℕ) → eqb 45 m ≡ false → eqb 44 m ≡ false → (ts : List (List ℕ)) → AllFree m ts → Free m (joined ts)
 joined-free m x y [] f = free-one m 45 [] x refl
 joined-free m x y (t ∷ ts) f = free-append m t (led 44 ts) (f .0) (free-led m 44 y ts (f .1))
 
@@ -207,7 +203,7 @@ names-told form ns s d z = ⊎-elim many few (either 3 form)
     go [] h i = absurd (omega arith)
     go (n ∷ l) h i =
         let f = names-free 44 (omega arith) (λ j. omega arith) [] (n ∷ l) i in
-        ap (fresh []) (parted-led 44 (nameText n) (map nameText l) (f .0) (f .1))
+        ap (fresh []) (fields-of 44 (nameText n) (map nameText l) (f .0) (f .1))
         ∙ fresh-names [] (n ∷ l) i
 
     few : form ≤ 3 → named form (joined (map nameText ns)) ≡ true
@@ -230,14 +226,14 @@ place-told form p h = go (eqb form 9) refl
     go false e = refl
 
 module _ (l : List ℕ) (r : Recorded l) where
-  record-names-free : (m : ℕ) → m ≤ 44 → (m ≡ 32 → ⊥) → Each (Free m) (map nameText (namesOf l))
+  record-names-free : (m : ℕ) → m ≤ 44 → (m ≡ 32 → ⊥) → AllFree m (map nameText (namesOf l))
   record-names-free m h k =
       ⊎-elim
-      (λ i. subst (λ (ns : List ℕ). Each (Free m) (map nameText ns)) (sym (r .no-names i)) tt)
+      (λ i. subst (λ (ns : List ℕ). AllFree m (map nameText ns)) (sym (r .no-names i)) tt)
       (λ i. names-free m h k [] (namesOf l) (r .distinct i))
       (either 3 (getD l FORM 0))
 
-  fields-free : (m : ℕ) → m < 44 → (m ≡ 32 → ⊥) → Each (Free m) (map decimal (getD l FORM 0 ∷ getD l 0 0 ∷ getD l 1 0 ∷ []) ++ (joined (map nameText (namesOf l)) ∷ placeOf l))
+  fields-free : (m : ℕ) → m < 44 → (m ≡ 32 → ⊥) → AllFree m (errorFields l)
   unfolding placeOf
   fields-free m h k = (
     free-decimal m (omega arith) (getD l FORM 0),
@@ -253,11 +249,11 @@ module _ (l : List ℕ) (r : Recorded l) where
     ),
   )
     where
-      go : (t : Bool) → Each (Free m) (cond t (decimal (getD l (HEAD + getD l COUNT 0) 0) ∷ []) [])
+      go : (t : Bool) → AllFree m (cond t (decimal (getD l (HEAD + getD l COUNT 0) 0) ∷ []) [])
       go true = (free-decimal m (omega arith) (getD l (HEAD + getD l COUNT 0) 0), tt)
       go false = tt
 
-  error-reads : error (map decimal (getD l FORM 0 ∷ getD l 0 0 ∷ getD l 1 0 ∷ []) ++ (joined (map nameText (namesOf l)) ∷ placeOf l)) ≡ true
+  error-reads : error (errorFields l) ≡ true
   unfolding placeOf
   error-reads =
       ap (λ (n : ℕ). not (eqb n 0) && plain (decimal (getD l 0 0)) && plain (decimal (getD l 1 0)) && placed n (joined (map nameText (namesOf l)) ∷ placeOf l)) (form-back (getD l FORM 0) (r .form-most))
@@ -265,90 +261,228 @@ module _ (l : List ℕ) (r : Recorded l) where
       ∙ ap₂ (λ (x y : Bool). x && (y && place (getD l FORM 0) (placeOf l))) (plain-decimal (getD l 1 0) (r .end)) (names-told (getD l FORM 0) (namesOf l) (r .some-names) (r .distinct) (r .no-names))
       ∙ place-told (getD l FORM 0) (getD l (HEAD + getD l COUNT 0) 0) (r .place)
 
-  error-line : Line (errorLine l) Sort.ERROR
+  error-line : Line (λ (edition : ℕ). errorLine edition l) Sort.ERROR (itemOf l)
   unfolding errorLine lettered
   error-line =
-      a-line 88 (map decimal (getD l FORM 0 ∷ getD l 0 0 ∷ getD l 1 0 ∷ []) ++ (joined (map nameText (namesOf l)) ∷ placeOf l)) Sort.ERROR refl refl
+      a-line 88 (errorFields l) Sort.ERROR (itemOf l)
+      (a-body 88 (errorFields l) Sort.ERROR refl refl
       (fields-free 9 (omega arith) (λ i. omega arith)) (fields-free 10 (omega arith) (λ i. omega arith))
-      (ap (λ (t : Bool). cond t Sort.ERROR 0) error-reads)
+      (ap (λ (t : Bool). cond t Sort.ERROR 0) error-reads))
 
 -- EVENTS, AND THE WHOLE
 
-event-line : {errors : List ℕ} {a b c d : ℕ} → Event errors a b c d → Line (eventLine errors a b c d) a
-unfolding eventLine lettered
-event-line (begin {k = k} {start = s} {end = e} h i j m) =
-    node-line 66 k s e Sort.BEGIN refl refl i
-    (ap (λ (t : Bool). cond t Sort.BEGIN 0) (ap₂ (λ (x y : Bool). x && y) (plains-two s e j m) (node-kind k h i)))
-event-line (token {k = k} {start = s} {end = e} i j m) =
-    node-line 84 k s e Sort.TOKEN refl refl (omega arith)
-    (ap (λ (t : Bool). cond t Sort.TOKEN 0) (ap₂ (λ (x y : Bool). x && y) (plains-two s e j m) (row-kind k i)))
-event-line (close {k = k} {start = s} {end = e} h i j m) =
-    node-line 69 k s e Sort.END refl refl i
-    (ap (λ (t : Bool). cond t Sort.END 0) (ap₂ (λ (x y : Bool). x && y) (plains-two s e j m) (node-kind k h i)))
-event-line (fault {errors = errors} {i = i} r) = error-line (recordsFrom i errors) r
+-- an event's line where d nodes are open: on the way down its field is the right one
+record Shown (up : Bool) (d : ℕ) (w : ℕ → List ℕ) (sort : ℕ) : Type 0 where
+  number : ℕ
+  line : Line w sort number
+  reads : up ≡ false → right sort d (decimal number) ≡ true
 
--- text that is lines, which go up from line n on
-record Runs (n d : ℕ) (text : List ℕ) : Type 0 where
+counted-right : (up : Bool) (s d depth : ℕ) → (s ≡ Sort.ERROR → ⊥) → Counted (from up) s d depth → up ≡ false → right s d (decimal depth) ≡ true
+unfolding lastField
+counted-right true s d depth h c e = absurd (let z : _≡_ {A = ℕ} 0 1 = cc in omega arith)
+counted-right false s d depth h c e =
+    let same : decimal depth ≡ decimal (field s d) = ap (λ (fs : List (List ℕ)). getD fs 0 []) (c h) in
+    ap (right s d) same ∙ own-right s d
+
+item-right : (d n : ℕ) → Small n → right Sort.ERROR d (decimal n) ≡ true
+unfolding right
+item-right d n h = plain-decimal n h
+
+module _ (up : Bool) (d depth : ℕ) where
+  event-line : {errors : List ℕ} {a b c e : ℕ} → Event errors a b c e → Counted (from up) a d depth → Shown up d (λ (edition : ℕ). eventLine edition errors a b c e depth) a
+  unfolding eventLine lettered
+  event-line (begin {k = k} {start = s} {end = e} h i j m) x =
+      record {
+        number = depth;
+        line =
+            node-line 66 k s e Sort.BEGIN depth refl refl i
+            (ap (λ (t : Bool). cond t Sort.BEGIN 0) (ap₂ (λ (x y : Bool). x && y) (plains-two s e j m) (node-kind k h i)));
+        reads = counted-right up Sort.BEGIN d depth (λ q. omega arith) x;
+      }
+  event-line (token {k = k} {start = s} {end = e} i j m) x =
+      record {
+        number = depth;
+        line =
+            node-line 84 k s e Sort.TOKEN depth refl refl (omega arith)
+            (ap (λ (t : Bool). cond t Sort.TOKEN 0) (ap₂ (λ (x y : Bool). x && y) (plains-two s e j m) (row-kind k i)));
+        reads = counted-right up Sort.TOKEN d depth (λ q. omega arith) x;
+      }
+  event-line (close {k = k} {start = s} {end = e} h i j m) x =
+      record {
+        number = depth;
+        line =
+            node-line 69 k s e Sort.END depth refl refl i
+            (ap (λ (t : Bool). cond t Sort.END 0) (ap₂ (λ (x y : Bool). x && y) (plains-two s e j m) (node-kind k h i)));
+        reads = counted-right up Sort.END d depth (λ q. omega arith) x;
+      }
+  event-line (fault {errors = errors} {i = i} r) x =
+      record {
+        number = itemOf (recordsFrom i errors);
+        line = error-line (recordsFrom i errors) r;
+        reads = λ q. item-right d (itemOf (recordsFrom i errors)) (r .item);
+      }
+
+-- what an event's line becomes; on the way down it loses its field
+record Stepped (up : Bool) (n d : ℕ) (text field : List ℕ) : Type 0 where
+  line : List ℕ
+  step : stepAt up n d (text ++ field) ≡ becomes false (opened (sortOf (parted 9 text)) d) line
+  down : up ≡ false → line ≡ text
+
+stepped : (up : Bool) (n d : ℕ) (text : List ℕ) (f : ℕ) → (n ≡ 1 → ⊥) → allowed (sortOf (parted 9 text)) d ≡ true
+    → (up ≡ false → right (sortOf (parted 9 text)) d (decimal f) ≡ true) → Stepped up n d text (led 9 (lastField (from up) f))
+unfolding lastField
+stepped true n d text f h e r =
+    record {
+      line = text ++ (9 ∷ decimal (field (sortOf (parted 9 text)) d));
+      step = ap (stepAt true n d) (append-nil text) ∙ event-up n d text h e;
+      down = λ i. absurd (let z : _≡_ {A = ℕ} 0 1 = cc in omega arith);
+    }
+stepped false n d text f h e r =
+    record {
+      line = text;
+      step =
+          ap (λ (t : List ℕ). stepAt false n d (text ++ (9 ∷ t))) (append-nil (decimal f))
+          ∙ field-decides n d text (decimal f) e (free-decimal 9 (omega arith) f) h
+          ∙ ap (λ (t : Bool). cond t (becomes false (opened (sortOf (parted 9 text)) d) text) stray) (r refl);
+      down = λ i. refl;
+    }
+
+-- text that is lines, which convert from line n on; on the way down they become the text of edition 1
+record Runs (up : Bool) (n d : ℕ) (w : ℕ → List ℕ) : Type 0 where
   all : List (List ℕ)
   written : List (List ℕ)
-  is : text ≡ ended all
-  free : Each (Free 10) all
-  goes : Goes true n d all written
+  is : w (from up) ≡ ended all
+  free : AllFree 10 all
+  goes : Goes up n d all written
+  down : up ≡ false → ended written ≡ w 1
 
 -- the last line, and a line before others
-runs-last : (n d s : ℕ) {text : List ℕ} → (n ≡ 1 → ⊥) → Line text s → ends s n d ≡ true → Runs n d text
-runs-last n d s h l e =
+runs-last : (up : Bool) (n d s : ℕ) (text : List ℕ) → (n ≡ 1 → ⊥) → Body text s → ends s n d ≡ true → Runs up n d (λ (edition : ℕ). text ++ (10 ∷ []))
+runs-last up n d s text h b e =
     record {
-      all = l .body ∷ [];
-      written = l .body ∷ [];
-      is = l .is;
-      free = (l .free, tt);
-      goes = last (end-up n d (l .body) h (ap (λ (s : ℕ). ends s n d) (l .sorts) ∙ e));
+      all = text ∷ [];
+      written = text ∷ [];
+      is = refl;
+      free = (b .free, tt);
+      goes = last (end-stays up n d text h (ap (λ (s : ℕ). ends s n d) (b .sorts) ∙ e));
+      down = λ i. refl;
     }
 
-runs-more : (n d s : ℕ) {text rest : List ℕ} → (n ≡ 1 → ⊥) → Line text s → allowed s d ≡ true → Runs (suc n) (opened s d) rest → Runs n d (text ++ rest)
-runs-more n d s {text} {rest} h l e r =
+field-free : (m edition n : ℕ) → m < 48 → eqb 9 m ≡ false → Free m (led 9 (lastField edition n))
+unfolding lastField
+field-free m edition n h e = go (ltb edition 2)
+  where
+    go : (t : Bool) → Free m (led 9 (cond t [] (decimal n ∷ [])))
+    go true = refl
+    go false = free-led m 9 e (decimal n ∷ []) (free-decimal m h n, tt)
+
+no-last : (text : List ℕ) (n : ℕ) → text ++ led 9 (lastField 1 n) ≡ text
+unfolding lastField
+no-last text n = append-nil text
+
+runs-more : (up : Bool) (n d s : ℕ) {w rest : ℕ → List ℕ} → (n ≡ 1 → ⊥) → Shown up d w s → allowed s d ≡ true → Runs up (suc n) (opened s d) rest
+    → Runs up n d (λ (edition : ℕ). w edition ++ rest edition)
+runs-more up n d s {w} {rest} h v e r =
+    let l = v .line in
+    let b = l .body in
+    let t = stepped up n d (l .text) (v .number) h (ap (λ (s : ℕ). allowed s d) (b .sorts) ∙ e)
+    (λ i. ap (λ (s : ℕ). right s d (decimal (v .number))) (b .sorts) ∙ v .reads i) in
     record {
-      all = l .body ∷ r .all;
-      written = (l .body ++ (9 ∷ decimal (field (sortOf (parted 9 (l .body))) d))) ∷ r .written;
+      all = (l .text ++ led 9 (lastField (from up) (v .number))) ∷ r .all;
+      written = t .line ∷ r .written;
       is =
-          ap₂ (λ (x y : List ℕ). x ++ y) (l .is) (r .is)
-          ∙ append-assoc (l .body) (10 ∷ []) (ended (r .all));
-      free = (l .free, r .free);
-      goes =
-          more (event-up n d (l .body) h (ap (λ (s : ℕ). allowed s d) (l .sorts) ∙ e))
-          (subst (λ (s : ℕ). Goes true (suc n) (opened s d) (r .all) (r .written)) (sym (l .sorts)) (r .goes));
+          ap₂ (λ (x y : List ℕ). x ++ y) (l .is (from up)) (r .is)
+          ∙ append-assoc (l .text ++ led 9 (lastField (from up) (v .number))) (10 ∷ []) (ended (r .all));
+      free = (free-append 10 (l .text) (led 9 (lastField (from up) (v .number))) (b .free) (field-free 10 (from up) (v .number) (omega arith) refl), r .free);
+      goes = more (t .step) (subst (λ (s : ℕ). Goes up (suc n) (opened s d) (r .all) (r .written)) (sym (b .sorts)) (r .goes));
+      down =
+          λ i.
+          ap₂ (λ (x y : List ℕ). x ++ (10 ∷ y)) (t .down i ∙ sym (no-last (l .text) (v .number))) (r .down i)
+          ∙ sym (append-assoc (l .text ++ led 9 (lastField 1 (v .number))) (10 ∷ []) (rest 1))
+          ∙ ap (λ (x : List ℕ). x ++ rest 1) (sym (l .is 1));
     }
 
-runs : (errors : List ℕ) (m d : ℕ) (events : List ℕ) → Events errors d events → {text : List ℕ} → Line text RESULT → Runs (suc (suc m)) d (eventLines errors events ++ text)
-runs errors m d [] e l = runs-last (suc (suc m)) d RESULT (λ i. omega arith) l (sym (result-ends RESULT d (suc (suc m)) e refl))
-runs errors m d (a ∷ []) e l = absurd e
-runs errors m d (a ∷ b ∷ []) e l = absurd e
-runs errors m d (a ∷ b ∷ c ∷ []) e l = absurd e
-runs errors m d (a ∷ b ∷ c ∷ f ∷ []) e l = absurd e
-runs errors m d (a ∷ b ∷ c ∷ f ∷ depth ∷ events) (x, v, w) {text} l =
-    subst (Runs (suc (suc m)) d) (sym (append-assoc (eventLine errors a b c f) (eventLines errors events) text))
-    (runs-more (suc (suc m)) d a (λ i. omega arith) (event-line v) x (runs errors (suc m) (opened a d) events w l))
+behind-events : {up : Bool} {n d : ℕ} (w x y : ℕ → List ℕ) → Runs up n d (λ (edition : ℕ). w edition ++ (x edition ++ y edition))
+    → Runs up n d (λ (edition : ℕ). (w edition ++ x edition) ++ y edition)
+behind-events {up} {n} {d} w x y r =
+    record {
+      all = r .all;
+      written = r .written;
+      is = append-assoc (w (from up)) (x (from up)) (y (from up)) ∙ r .is;
+      free = r .free;
+      goes = r .goes;
+      down = λ i. r .down i ∙ sym (append-assoc (w 1) (x 1) (y 1));
+    }
 
-pub record Converts (text : List ℕ) : Type 0 where
+runs : (up : Bool) (errors : List ℕ) (m d : ℕ) (events : List ℕ) → Events (from up) errors d events → (text : List ℕ) → Body text RESULT
+    → Runs up (suc (suc m)) d (λ (edition : ℕ). eventLines edition errors events ++ (text ++ (10 ∷ [])))
+runs up errors m d [] e text l = runs-last up (suc (suc m)) d RESULT text (λ i. omega arith) l (sym (result-ends RESULT d (suc (suc m)) e refl))
+runs up errors m d (a ∷ []) e text l = absurd e
+runs up errors m d (a ∷ b ∷ []) e text l = absurd e
+runs up errors m d (a ∷ b ∷ c ∷ []) e text l = absurd e
+runs up errors m d (a ∷ b ∷ c ∷ f ∷ []) e text l = absurd e
+runs up errors m d (a ∷ b ∷ c ∷ f ∷ depth ∷ events) (x, v, u, w) text l =
+    behind-events (λ edition. eventLine edition errors a b c f depth) (λ edition. eventLines edition errors events) (λ edition. text ++ (10 ∷ []))
+    (runs-more up (suc (suc m)) d a (λ i. omega arith) (event-line up d depth v u) x (runs up errors (suc m) (opened a d) events w text l))
+
+pub record Converts (up : Bool) (w : ℕ → List ℕ) : Type 0 where
   pub written : List (List ℕ)
-  pub is : madeOf true text ≡ lines written
+  pub is : madeOf up (w (from up)) ≡ lines written
+  -- on the way down it becomes what the program writes in edition 1
+  pub down : up ≡ false → ended written ≡ w 1
 
 -- behind the `L` line
-headed : {text : List ℕ} → Runs 2 0 text → Converts (headLine ++ text)
-unfolding decimal stepAt headStep
-headed {text} r =
+head-ended : (edition : ℕ) (t : List ℕ) → headLine edition ++ t ≡ headText edition ++ (10 ∷ t)
+head-ended edition t =
+    ap (λ (u : List ℕ). 76 ∷ (9 ∷ ((u ++ (10 ∷ [])) ++ t))) (append-nil (decimal edition))
+    ∙ ap (λ (u : List ℕ). 76 ∷ (9 ∷ u)) (append-assoc (decimal edition) (10 ∷ []) t)
+
+headed : (up : Bool) {w : ℕ → List ℕ} → Runs up 2 0 w → Converts up (λ (edition : ℕ). headLine edition ++ w edition)
+headed up {w} r =
     record {
-      written = headText 2 ∷ r .written;
+      written = headText (to up) ∷ r .written;
       is =
-          ap (λ (t : List ℕ). madeOf true (headText 1 ++ (10 ∷ t))) (r .is)
-          ∙ remade true (headText 1 ∷ r .all) (headText 2 ∷ r .written) (refl, r .free) (more {k = 0} refl (r .goes));
+          ap (λ (t : List ℕ). madeOf up (headLine (from up) ++ t)) (r .is)
+          ∙ ap (madeOf up) (head-ended (from up) (ended (r .all)))
+          ∙ remade up (headText (from up) ∷ r .all) (headText (to up) ∷ r .written) (head-free (from up), r .free) (more {k = 0} (head-step up) (r .goes));
+      down = λ i. go up i (r .down i);
     }
+  where
+    go : (up : Bool) → up ≡ false → {t u : List ℕ} → t ≡ u → headText (to up) ++ (10 ∷ t) ≡ headLine 1 ++ u
+    go true i e = absurd (let z : _≡_ {A = ℕ} 0 1 = cc in omega arith)
+    go false i {t} {u} e = ap (λ (t : List ℕ). headText 1 ++ (10 ∷ t)) e ∙ sym (head-ended 1 u)
 
-stands : (c n : ℕ) → eqb c 9 ≡ false → eqb c 10 ≡ false → lettered c (decimal n ∷ []) ≡ ALONE → Runs 2 0 (lineWith c (map decimal (n ∷ [])))
-stands c n x y i = runs-last 2 0 ALONE (λ i. omega arith) (alone c n x y i) (sym (alone-ends ALONE 0 2 refl (λ i. omega arith) refl))
+stands : (up : Bool) (c n : ℕ) → eqb c 9 ≡ false → eqb c 10 ≡ false → lettered c (decimal n ∷ []) ≡ ALONE → Runs up 2 0 (λ (edition : ℕ). lineWith c (map decimal (n ∷ [])))
+stands up c n x y i = runs-last up 2 0 ALONE (c ∷ led 9 (decimal n ∷ [])) (λ i. omega arith) (alone c n x y i) (sym (alone-ends ALONE 0 2 refl (λ i. omega arith) refl))
 
-pub could-convert : {text : List ℕ} → Could text → Converts text
-could-convert (was-read events errors a b c e h i j) = headed (runs errors 0 0 events e (result a b c h i j))
-could-convert (was-refused n h) = headed (stands 70 n refl refl (refusal-sort n h))
-could-convert (was-unread n h) = headed (stands 78 n refl refl (unread-sort n h))
+pub could-convert : (up : Bool) {w : ℕ → List ℕ} → Could (from up) w → Converts up w
+could-convert up (was-read events errors a b c e h i j) = headed up (runs up errors 0 0 events e (82 ∷ led 9 (map decimal (a ∷ b ∷ c ∷ []))) (result a b c h i j))
+could-convert up (was-refused n h) = headed up (stands up 70 n refl refl (refusal-sort n h))
+could-convert up (was-unread n h) = headed up (stands up 78 n refl refl (unread-sort n h))
+
+-- "from 2 to 1 and back": down it is the program's own text of edition 1, and back the same bytes but for the items
+pub record Program-returns (w : ℕ → List ℕ) : Type 0 where
+  pub before : List (List ℕ)
+  pub after : List (List ℕ)
+  pub written : List (List ℕ)
+  pub down : madeOf false (w 2) ≡ lines written
+  pub one : ended written ≡ w 1
+  pub two : ended before ≡ w 2
+  pub up : madeOf true (w 1) ≡ lines after
+  pub but : Buts before after
+
+pub could-return : {w : ℕ → List ℕ} → Could 2 w → Program-returns w
+could-return {w} h =
+    let c = could-convert false h in
+    let one : ended (c .written) ≡ w 1 = c .down refl in
+    let r = down-and-back (w 2) (c .written) (c .is) in
+    record {
+      before = r .before;
+      after = r .after;
+      written = c .written;
+      down = c .is;
+      one = one;
+      two = r .bytes;
+      up = ap (madeOf true) (sym one) ∙ r .converts;
+      but = r .but;
+    }

@@ -8,3 +8,5 @@ pub mod Judging
 pub mod Marks
 pub mod Back
 pub mod Could
+pub mod Wrong
+pub mod Small

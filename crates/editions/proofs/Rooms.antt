@@ -1,7 +1,7 @@
 -- How much of a room is taken, and what is written for a line. Assumes nothing.
-use Prim.Native.Nat.{ℕ, zero, suc, _+_, _-_, _≤_, _<_}
+use Prim.Native.Nat.{ℕ, _+_, _-_, _≤_, _<_}
 use mathlib.Core.Path.{_≡_, refl, sym, ap, _∙_}
-use mathlib.Core.List.{List, [], _∷_, _++_, append-assoc, append-nil}
+use mathlib.Core.List.{List, [], _∷_, _++_, append-nil}
 use mathlib.Core.Bool.{Bool, true, false, cond}
 use native.Mathlib.Omega.{arith}
 use borrow.Author.Tests.{leb-true, leb-false, le-leb, lt-leb, eq-eqb, ne-eqb}
@@ -14,7 +14,6 @@ use Rattle.editions.specs.Answer.{shownText, outText, takenOf, lastOf}
 use Rattle.editions.specs.declared.step.Out.{Out}
 use Rattle.editions.specs.declared.convert.Taken.{Taken}
 use Rattle.editions.specs.declared.convert.Taken.the-variants as taken
-use Rattle.editions.specs.declared.convert.Judged.{Judged}
 use Rattle.editions.specs.declared.convert.Judged.the-variants as judged
 
 -- TAKEN

@@ -7,8 +7,6 @@ use listing::piece_end;
 use shapes::sort;
 ghost use mathlib.Core.Path.{_≡_};
 ghost use mathlib.Core.Bool.{cond};
-ghost use Prim.Native.Nat.{_≤_};
-ghost use lib.ListN.{length, getD, drop};
 ghost use Rattle.listing.specs.Lines.{parted};
 ghost use Rattle.editions.specs.Sorts.{lettered, sortOf};
 

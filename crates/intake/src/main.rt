@@ -1,5 +1,5 @@
 // Reads the rows of one file from standard input, and writes what the reader and the merger make of them (document 01, "Small files"), by edition 1 or by
-// the edition that the arguments name: --settings FILE --edition N.
+// the edition that the arguments name: --settings FILE --edition N. The listing is of edition 1, or of the edition that --listing names, 1 or 2.
 use desk::read::Reading;
 use libc::STDERR_FILENO;
 use libc::STDIN_FILENO;
@@ -10,6 +10,7 @@ use listing::Number;
 use merger::Merged;
 use reading::Named;
 use settings::Chosen;
+use shapes::event::DEPTH;
 use shapes::event::END;
 use shapes::event::EVENT;
 use shapes::event::KIND;
@@ -45,10 +46,11 @@ enum Source {
     Unreadable,
 }
 
-// The settings edition by which the file is read, and how long the settings text is.
+// The settings edition by which the file is read, how long the settings text is, and the edition of the listing.
 struct Edition {
     number: u32,
     size: usize,
+    listing: u32,
 }
 
 enum Asked {
@@ -250,9 +252,9 @@ fn take_input(
     Step::Unread(next_number(t))
 }
 
-fn write_head() {
+fn write_head(edition: u32) {
     let mut room = [0u8; 4096];
-    let k = listing::head_line(&mut room);
+    let k = listing::head_line(edition, &mut room);
     io::write_all(STDOUT_FILENO, &room[..k]);
 }
 
@@ -286,21 +288,31 @@ fn write_result(outcome: u32, rows: u32, fuel: u32) {
     io::write_all(STDOUT_FILENO, &room[..k]);
 }
 
-fn write_event(sort: u32, second: u32, start: u32, end: u32, errors: &[u32]) {
+fn write_event(
+    edition: u32,
+    sort: u32,
+    second: u32,
+    start: u32,
+    end: u32,
+    depth: u32,
+    errors: &[u32],
+) {
     let mut room = [0u8; 4096];
-    let k = listing::event_line(sort, second, start, end, errors, &mut room);
+    let k = listing::event_line(edition, sort, second, start, end, depth, errors, &mut room);
     io::write_all(STDOUT_FILENO, &room[..k]);
 }
 
-fn write_events(events: &[u32], errors: &[u32]) {
+fn write_events(edition: u32, events: &[u32], errors: &[u32]) {
     let mut i = 0;
     while i < events.len() / EVENT {
         let at = i * EVENT;
         write_event(
+            edition,
             events[at],
             events[at + KIND],
             events[at + START],
             events[at + END],
+            events[at + DEPTH],
             errors,
         );
         i += 1;
@@ -317,7 +329,7 @@ fn first_events(list: &[u32], count: usize) -> &[u32] {
 }
 
 // The reader's list is merged and written. Whether it was, so that the result can follow.
-fn write_merged(events: &[u32], errors: &[u32]) -> bool {
+fn write_merged(edition: u32, events: &[u32], errors: &[u32]) -> bool {
     let mut room = [0u32; 16384];
     match merger::merge(events, &mut room) {
         Merged::Malformed => {
@@ -333,7 +345,7 @@ fn write_merged(events: &[u32], errors: &[u32]) -> bool {
             false
         }
         Merged::Events(n) => {
-            write_events(first_events(&room, n), errors);
+            write_events(edition, first_events(&room, n), errors);
             true
         }
     }
@@ -347,7 +359,7 @@ fn row_count(covered: usize) -> u32 {
     covered as u32
 }
 
-fn write_reading(reading: Reading, events: &[u32], errors: &[u32]) {
+fn write_reading(edition: u32, reading: Reading, events: &[u32], errors: &[u32]) {
     match reading {
         Reading::Refused(n) => write_refusal(n),
         Reading::Answered {
@@ -357,7 +369,7 @@ fn write_reading(reading: Reading, events: &[u32], errors: &[u32]) {
             errors: _,
             left,
         } => {
-            if write_merged(first_events(events, count), errors) {
+            if write_merged(edition, first_events(events, count), errors) {
                 write_result(outcome, row_count(covered), left);
             }
         }
@@ -367,7 +379,7 @@ fn write_reading(reading: Reading, events: &[u32], errors: &[u32]) {
 // "It .. has room for 4,096 events and 16,384 numbers of error records." 129 words of scratch are what 4,096 rows ask for.
 fn answer(
     text: &[u8],
-    edition: u32,
+    edition: Edition,
     source: &[u8],
     ids: &[u32],
     starts: &[u32],
@@ -379,7 +391,7 @@ fn answer(
     let mut errors = [0u32; 16384];
     let named = reading::read(
         text,
-        edition,
+        edition.number,
         source,
         ids,
         starts,
@@ -391,14 +403,14 @@ fn answer(
     );
     match named {
         Named::BadLine(line) => write_bad_line(line),
-        Named::Read(reading) => write_reading(reading, &events, &errors),
+        Named::Read(reading) => write_reading(edition.listing, reading, &events, &errors),
     }
 }
 
 fn answer_within(
     t: Taken,
     text: &[u8],
-    edition: u32,
+    edition: Edition,
     source: &[u8],
     ids: &[u32],
     starts: &[u32],
@@ -431,13 +443,13 @@ fn answer_within(
 fn answer_taken(
     t: Taken,
     text: &[u8],
-    edition: u32,
+    edition: Edition,
     source: &[u8; 65537],
     ids: &[u32; 4096],
     starts: &[u32; 4096],
     ends: &[u32; 4096],
 ) {
-    match settings::choose(text, edition, t.fuel) {
+    match settings::choose(text, edition.number, t.fuel) {
         Chosen::BadLine(line) => write_bad_line(line),
         Chosen::Unknown => answer_within(t, text, edition, source, ids, starts, ends),
         Chosen::Named(_) => answer_within(t, text, edition, source, ids, starts, ends),
@@ -460,21 +472,39 @@ fn same(word: &[u8], wanted: &[u8]) -> bool {
     true
 }
 
-fn take_settings(name: &[u8], number: u32, room: &mut [u8; 65537]) -> Asked {
+fn take_settings(name: &[u8], e: Edition, room: &mut [u8; 65537]) -> Asked {
     let Source::Bytes(size) = open_source(name, room) else {
         return Asked::Wrong;
     };
     if MOST_BYTES < size {
         return Asked::Wrong;
     }
-    Asked::By(Edition { number, size })
+    let mut next = e;
+    next.size = size;
+    Asked::By(next)
 }
 
-fn take_edition(digits: &[u8], size: usize) -> Asked {
+fn take_edition(digits: &[u8], e: Edition) -> Asked {
     let Number::Is(number) = listing::read_number(digits) else {
         return Asked::Wrong;
     };
-    Asked::By(Edition { number, size })
+    let mut next = e;
+    next.number = number;
+    Asked::By(next)
+}
+
+// The edition of the listing: there are two.
+fn take_listing(word: &[u8], e: Edition) -> Asked {
+    let mut next = e;
+    if same(word, b"1") {
+        next.listing = 1;
+        return Asked::By(next);
+    }
+    if same(word, b"2") {
+        next.listing = 2;
+        return Asked::By(next);
+    }
+    Asked::Wrong
 }
 
 // A word and its value, where they are there.
@@ -487,10 +517,13 @@ fn take_pair(at: usize, next: usize, e: Edition, room: &mut [u8; 65537]) -> Aske
     let mut value = [0u8; 4096];
     let m = os::arg(next, &mut value);
     if same(&word[..n], b"--settings") {
-        return take_settings(&value[..m], e.number, room);
+        return take_settings(&value[..m], e, room);
     }
     if same(&word[..n], b"--edition") {
-        return take_edition(&value[..m], e.size);
+        return take_edition(&value[..m], e);
+    }
+    if same(&word[..n], b"--listing") {
+        return take_listing(&value[..m], e);
     }
     Asked::Wrong
 }
@@ -505,15 +538,26 @@ fn text_of(e: Edition, room: &[u8; 65537]) -> &[u8] {
     &all[..n]
 }
 
+// Up to three arguments with their values, in any order.
+fn take_arguments(room: &mut [u8; 65537]) -> Asked {
+    let first = Edition {
+        number: 1,
+        size: 0,
+        listing: 1,
+    };
+    let Asked::By(one) = take_pair(1, 2, first, room) else {
+        return Asked::Wrong;
+    };
+    let Asked::By(two) = take_pair(3, 4, one, room) else {
+        return Asked::Wrong;
+    };
+    take_pair(5, 6, two, room)
+}
+
 fn main() {
     let mut room = [0u8; 65537];
-    let first = Edition { number: 1, size: 0 };
-    let Asked::By(one) = take_pair(1, 2, first, &mut room) else {
-        say(b"intake: the arguments are --settings FILE and --edition N\n");
-        return;
-    };
-    let Asked::By(edition) = take_pair(3, 4, one, &mut room) else {
-        say(b"intake: the arguments are --settings FILE and --edition N\n");
+    let Asked::By(edition) = take_arguments(&mut room) else {
+        say(b"intake: the arguments are --settings FILE, --edition N and --listing 1 or 2\n");
         return;
     };
     let mut buffer = [0u8; 16384];
@@ -521,14 +565,14 @@ fn main() {
     let mut ids = [0u32; 4096];
     let mut starts = [0u32; 4096];
     let mut ends = [0u32; 4096];
-    write_head();
+    write_head(edition.listing);
     let step = take_input(&mut buffer, &mut source, &mut ids, &mut starts, &mut ends);
     match step {
         Step::Unread(number) => write_unread(number),
         Step::On(t) => answer_taken(
             t,
             text_of(edition, &room),
-            edition.number,
+            edition,
             &source,
             &ids,
             &starts,

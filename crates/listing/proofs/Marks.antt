@@ -22,11 +22,11 @@ pub free-one : (m c : ℕ) (b : List ℕ) → eqb c m ≡ false → Free m b →
 free-one m c b e f = ap (λ (t : Bool). cond t ([] ∷ parted m b) (onto (c ∷ []) (parted m b))) e ∙ ap (onto (c ∷ [])) f
 
 -- the first byte of a text without marks is none, and neither are the others
-record Unmarked (m c : ℕ) (b : List ℕ) : Type 0 where
-  here : eqb c m ≡ false
-  rest : Free m b
+pub record Unmarked (m c : ℕ) (b : List ℕ) : Type 0 where
+  pub here : eqb c m ≡ false
+  pub rest : Free m b
 
-free-apart : (m c : ℕ) (b : List ℕ) → Free m (c ∷ b) → Unmarked m c b
+pub free-apart : (m c : ℕ) (b : List ℕ) → Free m (c ∷ b) → Unmarked m c b
 free-apart m c b f = go (eqb c m) refl f
   where
     led-by : (ps : List (List ℕ)) → onto (c ∷ []) ps ≡ (c ∷ b) ∷ [] → (ps ≡ [] → ⊥) → ps ≡ b ∷ []
@@ -46,7 +46,7 @@ free-append m (c ∷ a) b f g =
     let u = free-apart m c a f in
     free-one m c (a ++ b) (u .here) (free-append m a b (u .rest) g)
 
-both : (a b : Bool) → (a && b) ≡ true → (a ≡ true) × (b ≡ true)
+pub both : (a b : Bool) → (a && b) ≡ true → (a ≡ true) × (b ≡ true)
 both true b e = (refl, e)
 both false b e = absurd (let z : _≡_ {A = ℕ} 0 1 = cc in omega arith)
 
@@ -64,6 +64,10 @@ free-decimal m h n = free-digits m h (decimal n) (reads n .digits)
 abbrev pub AllFree : ℕ → List (List ℕ) → Type 0
 AllFree m [] = Unit
 AllFree m (t ∷ ts) = Free m t × AllFree m ts
+
+pub decimals-free : (m : ℕ) → m < 48 → (ns : List ℕ) → AllFree m (map decimal ns)
+decimals-free m h [] = tt
+decimals-free m h (n ∷ ns) = (free-decimal m h n, decimals-free m h ns)
 
 -- what stands behind other marks has none of this one
 pub free-led : (m n : ℕ) → eqb n m ≡ false → (ts : List (List ℕ)) → AllFree m ts → Free m (led n ts)

@@ -2,15 +2,15 @@
 use Prim.Native.Nat.{ℕ, suc, _+_, _-_, _≤_, _<_, min}
 use mathlib.Core.Path.{_≡_, sym, ap, _∙_}
 use mathlib.Core.Logic.{⊎-elim}
-use mathlib.Core.List.{List, [], _∷_, _++_, map, append-nil}
+use mathlib.Core.List.{List, [], _∷_, _++_, map, append-assoc, append-nil}
 use mathlib.Core.Bool.{Bool, cond}
 use native.Mathlib.Nat.{sub-zero, min-le-left, min-eq-left, min-eq-right, le-of-lt}
 use native.Mathlib.Omega.{arith}
-use borrow.Author.Tests.{eq-eqb, ne-eqb}
+use borrow.Author.Tests.{eq-eqb, ne-eqb, lt-ltb, le-ltb}
 use lib.Dec.{eqb}
 use lib.ListN.{length, getD, take, drop, length-drop, length-take, drop-of-length-le}
 use lib.Seq.{drop-length, take-all, take-length, take-take}
-use Rattle.kinds.specs.Spelling.{nameText}
+use Rattle.kinds.specs.Spelling.{kindText, nameText}
 use Rattle.shapes.specs.Sort as Sort
 use Rattle.shapes.proofs.Laws.{next-within, next-rest}
 use Rattle.shapes.specs.Shapes.{HEAD, FORM, COUNT, next-record}
@@ -18,7 +18,7 @@ use Rattle.listing.proofs.Either.{either}
 use Rattle.listing.proofs.Rest.{rest, rest-is}
 use Rattle.listing.proofs.Written.{led-append}
 use Rattle.listing.specs.Numbers.{decimal}
-use Rattle.listing.specs.Listing.{led, joined, namesOf, placeOf, errorLine, recordsFrom, eventLine}
+use Rattle.listing.specs.Listing.{led, joined, lastField, nodeLine, namesOf, placeOf, itemOf, errorFields, errorLine, recordsFrom, eventLine}
 use Rattle.listing.specs.Written.{Stands}
 
 -- taking or dropping more than there is takes or drops all
@@ -103,16 +103,37 @@ a-place l {f} {c} {n} e h p q =
 
 -- the pieces of an error line are those of the record
 pub error-text : (l : List ℕ) {form start end : ℕ} {ns : List ℕ} → form ≡ getD l FORM 0 → start ≡ getD l 0 0 → end ≡ getD l 1 0 → ns ≡ namesOf l
-    → 88 ∷ ((led 9 (map decimal (form ∷ start ∷ end ∷ [])) ++ (9 ∷ (joined (map nameText ns) ++ led 9 (placeOf l)))) ++ (10 ∷ [])) ≡ errorLine l
-unfolding errorLine
+    → led 9 (map decimal (form ∷ start ∷ end ∷ [])) ++ (9 ∷ (joined (map nameText ns) ++ led 9 (placeOf l))) ≡ led 9 (errorFields l)
 error-text l {form} {start} {end} {ns} f s e n =
-    ap (λ (t : List ℕ). 88 ∷ (t ++ (10 ∷ []))) (sym (led-append 9 (map decimal (form ∷ start ∷ end ∷ [])) (joined (map nameText ns) ∷ placeOf l)))
-    ∙ rw (f, s, e, n)
+    sym (led-append 9 (map decimal (form ∷ start ∷ end ∷ [])) (joined (map nameText ns) ∷ placeOf l)) ∙ rw (f, s, e, n)
+
+pub behind-error : (edition : ℕ) (l : List ℕ) {item : ℕ} → item ≡ itemOf l
+    → 88 ∷ ((led 9 (errorFields l) ++ led 9 (lastField edition item)) ++ (10 ∷ [])) ≡ errorLine edition l
+unfolding errorLine
+behind-error edition l {item} i =
+    ap (λ (t : List ℕ). 88 ∷ (t ++ (10 ∷ []))) (sym (led-append 9 (errorFields l) (lastField edition item)) ∙ ap (λ (n : ℕ). led 9 (errorFields l ++ lastField edition n)) i)
+
+-- the field of edition 2
+pub no-field : (edition n : ℕ) → edition < 2 → [] ≡ led 9 (lastField edition n)
+unfolding lastField
+no-field edition n h = rw (lt-ltb edition 2 h)
+
+pub a-field : (edition n : ℕ) → 2 ≤ edition → 9 ∷ decimal n ≡ led 9 (lastField edition n)
+unfolding lastField
+a-field edition n h = rw (le-ltb edition 2 h) (ap (λ (t : List ℕ). 9 ∷ t) (sym (append-nil (decimal n))))
+
+-- it stands behind the others
+pub behind-kind : (edition letter kind start end depth : ℕ)
+    → letter ∷ (9 ∷ (((kindText kind ++ led 9 (map decimal (start ∷ end ∷ []))) ++ led 9 (lastField edition depth)) ++ (10 ∷ []))) ≡ nodeLine edition letter kind start end depth
+behind-kind edition letter kind start end depth =
+    ap (λ (t : List ℕ). letter ∷ (9 ∷ (t ++ (10 ∷ []))))
+    (append-assoc (kindText kind) (led 9 (map decimal (start ∷ end ∷ []))) (led 9 (lastField edition depth))
+    ∙ ap (λ (t : List ℕ). kindText kind ++ t) (sym (led-append 9 (map decimal (start ∷ end ∷ [])) (lastField edition depth))))
 
 -- the line of an event by its sort
-module _ (errors : List ℕ) (sort second start end : ℕ) where
+module _ (edition : ℕ) (errors : List ℕ) (sort second start end depth : ℕ) where
   abbrev pub as-sort : ℕ → List ℕ
-  as-sort x = eventLine errors x second start end
+  as-sort x = eventLine edition errors x second start end depth
 
   pub of-sort : (x : ℕ) → sort ≡ x → as-sort x ≡ as-sort sort
   of-sort x e = ap as-sort (sym e)
@@ -121,6 +142,6 @@ module _ (errors : List ℕ) (sort second start end : ℕ) where
   unfolding eventLine
   no-sort a b c d = rw (ne-eqb sort Sort.BEGIN a, ne-eqb sort Sort.TOKEN b, ne-eqb sort Sort.END c, ne-eqb sort Sort.ERROR d)
 
-  pub of-record : {at : ℕ} → Stands errors second at → sort ≡ Sort.ERROR → errorLine (rest errors at) ≡ as-sort sort
+  pub of-record : {at : ℕ} → Stands errors second at → sort ≡ Sort.ERROR → errorLine edition (rest errors at) ≡ as-sort sort
   unfolding eventLine
-  of-record {at} s e = ap errorLine (rest-is errors at ∙ s .is) ∙ of-sort Sort.ERROR e
+  of-record {at} s e = ap (errorLine edition) (rest-is errors at ∙ s .is) ∙ of-sort Sort.ERROR e

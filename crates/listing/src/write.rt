@@ -1,9 +1,10 @@
-// The lines of the listing, each written at the front of a room. A room of 4,096 bytes holds any line:
+// The lines of the listing in edition 1 or 2, each written at the front of a room. A room of 4,096 bytes holds any line:
 // 85 names of at most 32 bytes, each with a comma, and the other fields.
 use shapes::record::COUNT;
 use shapes::record::END;
 use shapes::record::FORM;
 use shapes::record::HEAD;
+use shapes::record::ITEM;
 use shapes::record::START;
 use shapes::record::next_record;
 use shapes::sort;
@@ -14,7 +15,7 @@ ghost use lib.ListN.{length, getD};
 ghost use Rattle.kinds.specs.Spelling.{kindText, nameText, Spelled};
 ghost use Rattle.listing.specs.Numbers.{decimal};
 ghost use Rattle.listing.specs.Listing.{led, joined, lineWith, headLine, refusalLine, unreadLine, resultLine, nodeLine};
-ghost use Rattle.listing.specs.Listing.{namesOf, placeOf, errorLine, eventLine};
+ghost use Rattle.listing.specs.Listing.{lastField, namesOf, placeOf, errorFields, errorLine, eventLine};
 ghost use Rattle.listing.specs.Written.{Put, Stands};
 
 pub fn put_byte(b: u8, room: &mut [u8], at: usize) -> usize
@@ -131,10 +132,10 @@ pub fn numbers_line(letter: u8, numbers: &[u64], room: &mut [u8]) -> usize
     put_byte(b'\n', room, end)
 }
 
-pub fn head_line(room: &mut [u8; 4096]) -> usize
-    ensures { λ r. ⌜ Spelled headLine (now (room .entry)) (now (room .exit)) r ⌝ }
+pub fn head_line(edition: u32, room: &mut [u8; 4096]) -> usize
+    ensures { λ r. ⌜ Spelled (headLine edition) (now (room .entry)) (now (room .exit)) r ⌝ }
 {
-    numbers_line(b'L', &[1], room)
+    numbers_line(b'L', &[edition as u64], room)
 }
 
 pub fn refusal_line(refusal: u32, room: &mut [u8; 4096]) -> usize
@@ -155,15 +156,36 @@ pub fn result_line(outcome: u32, rows: u32, fuel: u32, room: &mut [u8; 4096]) ->
     numbers_line(b'R', &[outcome as u64, rows as u64, fuel as u64], room)
 }
 
-fn node_line(letter: u8, kind: u32, start: u32, end: u32, room: &mut [u8]) -> usize
+// The field that edition 2 adds to the line of an event, behind its others.
+fn put_last(edition: u32, n: u32, room: &mut [u8], at: usize) -> usize
+    requires { ⌜ at + 21 ≤ length (now room) ⌝ }
+    ensures { λ r. ⌜ Put (led 9 (lastField edition n)) at (now (room .entry)) (now (room .exit)) r ⌝ }
+    ensures { λ r. ⌜ r ≤ at + 21 ⌝ }
+{
+    if edition < 2 {
+        return at;
+    }
+    put_number(n as u64, room, at)
+}
+
+fn node_line(
+    edition: u32,
+    letter: u8,
+    kind: u32,
+    start: u32,
+    end: u32,
+    depth: u32,
+    room: &mut [u8],
+) -> usize
     requires { ⌜ 4096 ≤ length (now room) ⌝ }
-    ensures { λ r. ⌜ Spelled (nodeLine letter kind start end) (now (room .entry)) (now (room .exit)) r ⌝ }
+    ensures { λ r. ⌜ Spelled (nodeLine edition letter kind start end depth) (now (room .entry)) (now (room .exit)) r ⌝ }
 {
     let letter_end = put_byte(letter, room, 0);
     let tab_end = put_byte(b'\t', room, letter_end);
     let kind_end = put_kind(kind, room, tab_end);
     let numbers_end = put_numbers(&[start as u64, end as u64], room, kind_end);
-    put_byte(b'\n', room, numbers_end)
+    let depth_end = put_last(edition, depth, room, numbers_end);
+    put_byte(b'\n', room, depth_end)
 }
 
 // The number at a place of the list, or 0 past its end.
@@ -206,20 +228,30 @@ fn put_place(list: &[u32], room: &mut [u8], at: usize) -> usize
     put_number(number_at(list, HEAD + names) as u64, room, at)
 }
 
-// The line of the error record that the list begins with.
-fn error_line(list: &[u32], room: &mut [u8]) -> usize
-    requires { ⌜ 4096 ≤ length (now room) ⌝ }
-    ensures { λ r. ⌜ Spelled (errorLine (now (list .entry))) (now (room .entry)) (now (room .exit)) r ⌝ }
+// What both editions show of the error record that the list begins with.
+fn put_error(list: &[u32], room: &mut [u8], at: usize) -> usize
+    requires { ⌜ at + 2891 ≤ length (now room) ⌝ }
+    ensures { λ r. ⌜ Put (led 9 (errorFields (now (list .entry)))) at (now (room .entry)) (now (room .exit)) r ⌝ }
+    ensures { λ r. ⌜ r ≤ at + 2891 ⌝ }
 {
     let start = number_at(list, START) as u64;
     let end = number_at(list, END) as u64;
     let form = number_at(list, FORM) as u64;
-    let letter_end = put_byte(b'X', room, 0);
-    let numbers_end = put_numbers(&[form, start, end], room, letter_end);
+    let numbers_end = put_numbers(&[form, start, end], room, at);
     let tab_end = put_byte(b'\t', room, numbers_end);
     let names_end = put_names(names_of(list), room, tab_end);
-    let place_end = put_place(list, room, names_end);
-    put_byte(b'\n', room, place_end)
+    put_place(list, room, names_end)
+}
+
+// The line of the error record that the list begins with. Its item stands behind form 9's place.
+fn error_line(edition: u32, list: &[u32], room: &mut [u8]) -> usize
+    requires { ⌜ 4096 ≤ length (now room) ⌝ }
+    ensures { λ r. ⌜ Spelled (errorLine edition (now (list .entry))) (now (room .entry)) (now (room .exit)) r ⌝ }
+{
+    let letter_end = put_byte(b'X', room, 0);
+    let fields_end = put_error(list, room, letter_end);
+    let item_end = put_last(edition, number_at(list, ITEM), room, fields_end);
+    put_byte(b'\n', room, item_end)
 }
 
 // Where the error record with the given number, from 0, stands in the list.
@@ -235,32 +267,43 @@ fn record_place(list: &[u32], number: u32) -> usize
     at
 }
 
-fn put_event(sort: u32, second: u32, start: u32, end: u32, errors: &[u32], room: &mut [u8]) -> usize
+fn put_event(
+    edition: u32,
+    sort: u32,
+    second: u32,
+    start: u32,
+    end: u32,
+    depth: u32,
+    errors: &[u32],
+    room: &mut [u8],
+) -> usize
     requires { ⌜ 4096 ≤ length (now room) ⌝ }
-    ensures { λ r. ⌜ Spelled (eventLine (now (errors .entry)) sort second start end) (now (room .entry)) (now (room .exit)) r ⌝ }
+    ensures { λ r. ⌜ Spelled (eventLine edition (now (errors .entry)) sort second start end depth) (now (room .entry)) (now (room .exit)) r ⌝ }
 {
     match sort {
-        sort::BEGIN => node_line(b'B', second, start, end, room),
-        sort::TOKEN => node_line(b'T', second, start, end, room),
-        sort::END => node_line(b'E', second, start, end, room),
+        sort::BEGIN => node_line(edition, b'B', second, start, end, depth, room),
+        sort::TOKEN => node_line(edition, b'T', second, start, end, depth, room),
+        sort::END => node_line(edition, b'E', second, start, end, depth, room),
         sort::ERROR => {
             let at = record_place(errors, second);
-            error_line(&errors[at..], room)
+            error_line(edition, &errors[at..], room)
         }
         _ => 0,
     }
 }
 
-// The line of an event, given with the error records. A sort that is none has no line.
+// The line of an event in the edition, given with the error records. A sort that is none has no line.
 pub fn event_line(
+    edition: u32,
     sort: u32,
     second: u32,
     start: u32,
     end: u32,
+    depth: u32,
     errors: &[u32],
     room: &mut [u8; 4096],
 ) -> usize
-    ensures { λ r. ⌜ Spelled (eventLine (now (errors .entry)) sort second start end) (now (room .entry)) (now (room .exit)) r ⌝ }
+    ensures { λ r. ⌜ Spelled (eventLine edition (now (errors .entry)) sort second start end depth) (now (room .entry)) (now (room .exit)) r ⌝ }
 {
-    put_event(sort, second, start, end, errors, room)
+    put_event(edition, sort, second, start, end, depth, errors, room)
 }

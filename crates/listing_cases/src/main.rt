@@ -109,19 +109,27 @@ fn tell_nexts() {
     tell_next(b"", 0);
 }
 
-fn write_event(sort: u32, second: u32, start: u32, end: u32, errors: &[u32]) {
+fn write_event(
+    edition: u32,
+    sort: u32,
+    second: u32,
+    start: u32,
+    end: u32,
+    depth: u32,
+    errors: &[u32],
+) {
     let mut room = [0u8; 4096];
-    let k = listing::event_line(sort, second, start, end, errors, &mut room);
+    let k = listing::event_line(edition, sort, second, start, end, depth, errors, &mut room);
     write(&room[..k]);
 }
 
-fn write_node(sort: u32, kind: u32, start: u32, end: u32) {
-    write_event(sort, kind, start, end, &[]);
+fn write_node(edition: u32, sort: u32, kind: u32, start: u32, end: u32, depth: u32) {
+    write_event(edition, sort, kind, start, end, depth, &[]);
 }
 
-fn write_head() {
+fn write_head(edition: u32) {
     let mut room = [0u8; 4096];
-    let k = listing::head_line(&mut room);
+    let k = listing::head_line(edition, &mut room);
     write(&room[..k]);
 }
 
@@ -144,28 +152,28 @@ fn write_unread(n: u64) {
 }
 
 // P4 of document 01.
-fn write_stopped() {
-    write_head();
-    write_node(1, kind::SOURCE_FILE, 0, 22);
-    write_node(1, kind::ERROR, 0, 0);
-    write_node(1, kind::ERROR, 0, 0);
-    write_node(3, kind::ERROR, 0, 0);
-    write_node(3, kind::ERROR, 0, 0);
-    write_node(3, kind::SOURCE_FILE, 0, 22);
+fn write_stopped(edition: u32) {
+    write_head(edition);
+    write_node(edition, 1, kind::SOURCE_FILE, 0, 22, 0);
+    write_node(edition, 1, kind::ERROR, 0, 0, 1);
+    write_node(edition, 1, kind::ERROR, 0, 0, 2);
+    write_node(edition, 3, kind::ERROR, 0, 0, 2);
+    write_node(edition, 3, kind::ERROR, 0, 0, 1);
+    write_node(edition, 3, kind::SOURCE_FILE, 0, 22, 0);
     write_result(1, 0, 0);
 }
 
 // Tokens, and a kind and sorts that are none.
-fn write_others() {
-    write_node(2, kind::RULE_KW, 0, 4);
-    write_node(2, kind::WHITESPACE, 4, 5);
-    write_node(2, kind::PATTERN_IDENT_TUPLE, 4294967295, 10);
-    write_node(1, 122, 1, 2);
-    write_node(0, kind::RULE_KW, 1, 2);
-    write_node(5, kind::RULE_KW, 1, 2);
+fn write_others(edition: u32) {
+    write_node(edition, 2, kind::RULE_KW, 0, 4, 2);
+    write_node(edition, 2, kind::WHITESPACE, 4, 5, 4294967295);
+    write_node(edition, 2, kind::PATTERN_IDENT_TUPLE, 4294967295, 10, 10);
+    write_node(edition, 1, 122, 1, 2, 3);
+    write_node(edition, 0, kind::RULE_KW, 1, 2, 3);
+    write_node(edition, 5, kind::RULE_KW, 1, 2, 3);
 }
 
-fn write_error(number: u32) {
+fn write_error(edition: u32, number: u32) {
     let errors = [
         7,
         16,
@@ -202,17 +210,23 @@ fn write_error(number: u32) {
         85,
         kind::BITWISE_AND,
     ];
-    write_event(4, number, 0, 0, &errors);
+    write_event(edition, 4, number, 0, 0, 1, &errors);
 }
 
 // Records with names and without, with a place, with a name that is none, and a record that is not there. Edition 1 does not show their items.
-fn write_errors() {
-    write_error(0);
-    write_error(1);
-    write_error(2);
-    write_error(3);
-    write_error(4);
-    write_error(5);
+fn write_errors(edition: u32) {
+    write_error(edition, 0);
+    write_error(edition, 1);
+    write_error(edition, 2);
+    write_error(edition, 3);
+    write_error(edition, 4);
+    write_error(edition, 5);
+}
+
+fn write_edition(edition: u32) {
+    write_stopped(edition);
+    write_others(edition);
+    write_errors(edition);
 }
 
 fn main() {
@@ -220,12 +234,11 @@ fn main() {
     tell_bad_lines();
     tell_long_lines();
     tell_nexts();
-    write_stopped();
-    write_others();
-    write_errors();
+    write_edition(1);
     write_refusal(1);
     write_refusal(10);
     write_unread(1);
     write_unread(18446744073709551615);
     write_result(0, 65536, 4294967295);
+    write_edition(2);
 }

@@ -14,7 +14,7 @@ use Rattle.listing.specs.Lines.{onto, parted}
 use Rattle.listing.specs.Listing.{led}
 use Rattle.listing.proofs.Digits.{reads-back}
 use Rattle.listing.proofs.Lent.{in-parts}
-use Rattle.listing.proofs.Marks.{Free, free-one, free-append, free-decimal, AllFree, free-led, fields-of}
+use Rattle.listing.proofs.Marks.{Free, free-one, free-append, both, free-decimal, AllFree, free-led, fields-of}
 use Rattle.listing.proofs.Pieces.{one-piece}
 use Rattle.replay.specs.Tally.{amountOf, replayed}
 use Rattle.replay.specs.Day.{Entry, entry, shownOf, entryFields, written, single, writable, answerOf, withAnswer, entryOf, Day, following, linesOf, dayOf, filesOf, totalsOf}
@@ -38,10 +38,6 @@ single-free m (b ∷ bs) h = go (eqb b m) (single-free m bs) h
     go : (t : Bool) → (single (parted m bs) ≡ true → Free m bs) → single (cond t ([] ∷ parted m bs) (onto (b ∷ []) (parted m bs))) ≡ true → cond t ([] ∷ parted m bs) (onto (b ∷ []) (parted m bs)) ≡ (b ∷ bs) ∷ []
     go true f h = absurd (two h)
     go false f h = ap (onto (b ∷ [])) (f (one-piece (λ (ps : List (List ℕ)). single (onto (b ∷ []) ps) ≡ true → single ps ≡ true) same m bs h))
-
-both : (a b : Bool) → (a && b) ≡ true → (a ≡ true) × (b ≡ true)
-both true b e = (refl, e)
-both false b e = absurd (let z : _≡_ {A = ℕ} 0 1 = cc in omega arith)
 
 -- what can be recorded: a name without tab and line feed, and numbers of 32 bits
 pub record Good (e : Entry) : Type 0 where

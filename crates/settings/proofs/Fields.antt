@@ -1,7 +1,7 @@
 -- The fields of a line one after another, by the places where they end; what they read to. Assumes nothing.
 use Prim.Native.Nat.{ℕ, _+_, _^_, _≤_, _<_}
 use mathlib.Core.Path.{_≡_, refl, sym, ap, _∙_}
-use mathlib.Core.List.{List, [], _∷_, _++_, append-assoc}
+use mathlib.Core.List.{List, [], _∷_, _++_}
 use mathlib.Core.Bool.{Bool, true, false, cond, _&&_}
 use mathlib.Core.Option.{Option, none, some}
 use native.Mathlib.Omega.{arith}
@@ -10,35 +10,21 @@ use lib.Dec.{leb}
 use lib.ListN.{length, drop}
 use Rattle.listing.specs.Numbers.{number}
 use Rattle.listing.specs.Lines.{parted, Piece}
-use Rattle.listing.proofs.Pieces.{part, marked, unmarked, one-piece}
+use Rattle.listing.proofs.Pieces.{part, one-piece}
+use Rattle.listing.proofs.Marks as marks
+use Rattle.listing.proofs.Marks.{Passed}
 use Rattle.settings.specs.Settings.{inRange, ranged, editionOf, lineOf}
 use Rattle.settings.specs.Answer.{lineFrom}
 use Rattle.settings.specs.declared.lines.Values.{Values}
 use Rattle.settings.specs.declared.lines.Line.{Line}
 use Rattle.settings.specs.declared.lines.Line.the-variants as line
 
--- the fields fs stand before the place
-pub record Passed (s : List ℕ) (fs : List (List ℕ)) (at : ℕ) : Type 0 where
-  pub is : parted 9 s ≡ fs ++ parted 9 (drop at s)
+-- the line that has no other field
+pub finish : {s : List ℕ} {fs : List (List ℕ)} {at to : ℕ} → Passed 9 s fs at → Piece 9 s at to → length s ≤ to
+    → lineFrom (lineOf (fs ++ (part at to s ∷ []))) ≡ lineFrom (lineOf (parted 9 s))
+finish g p h = ap (λ (ps : List (List ℕ)). lineFrom (lineOf ps)) (marks.finish g p h)
 
-pub passed : (s : List ℕ) → Passed s [] 0
-passed s = record { is = refl }
-
-module _ {s : List ℕ} {fs : List (List ℕ)} {at to : ℕ} (g : Passed s fs at) (p : Piece 9 s at to) where
-  pub pass : to < length s → Passed s (fs ++ (part at to s ∷ [])) (to + 1)
-  pass h =
-      record {
-        is =
-            g .is
-            ∙ ap (λ (ps : List (List ℕ)). fs ++ ps) (marked p h)
-            ∙ sym (append-assoc fs (part at to s ∷ []) (parted 9 (drop (to + 1) s)));
-      }
-
-  -- the line that has no other field
-  pub finish : length s ≤ to → lineFrom (lineOf (fs ++ (part at to s ∷ []))) ≡ lineFrom (lineOf (parted 9 s))
-  finish h = sym (ap (λ (ps : List (List ℕ)). lineFrom (lineOf ps)) (g .is ∙ ap (λ (ps : List (List ℕ)). fs ++ ps) (unmarked p h)))
-
-pub too-many : {s e f d q p : List ℕ} {at : ℕ} → Passed s (e ∷ f ∷ d ∷ q ∷ p ∷ []) at → line.Unread ≡ lineFrom (lineOf (parted 9 s))
+pub too-many : {s e f d q p : List ℕ} {at : ℕ} → Passed 9 s (e ∷ f ∷ d ∷ q ∷ p ∷ []) at → line.Unread ≡ lineFrom (lineOf (parted 9 s))
 too-many {s} {e} {f} {d} {q} {p} {at} g =
     sym (ap (λ (ps : List (List ℕ)). lineFrom (lineOf ps)) (g .is)
     ∙ one-piece (λ (ps : List (List ℕ)). lineFrom (lineOf (e ∷ f ∷ d ∷ q ∷ p ∷ ps)) ≡ line.Unread) (λ r ps. refl) 9 (drop at s))

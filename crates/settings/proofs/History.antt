@@ -14,7 +14,8 @@ use Rattle.listing.specs.Lines.{onto, parted}
 use Rattle.settings.specs.Settings.{inRange, ranged, editionOf, lineOf, inTurn, Settings, bad, editions, from, behindLast, linesOf, settingsOf, today, Reply, named, numbered, choiceIn, choice, written}
 use Rattle.settings.specs.declared.lines.Values.{Values}
 use Rattle.settings.proofs.Scanning.{before}
-use Rattle.settings.proofs.Written.{glue, onto-none, parted-append, both, body, one-line, body-reads}
+use Rattle.listing.proofs.Marks.{both}
+use Rattle.settings.proofs.Written.{glue, onto-none, parted-append, body, one-line, body-reads}
 
 -- lines that read, taken apart
 record Taken (o : Option Values) (s : Settings) (vs : List Values) : Type 0 where

@@ -4,7 +4,8 @@ use mathlib.Core.Path.{_∙_}
 use mathlib.Core.Option.{none, some}
 use native.Mathlib.Omega.{arith}
 use Rattle.listing.proofs.Fields.{told}
-use Rattle.settings.proofs.Fields.{passed, pass, finish, too-many, fourth-is, fourth-none}
+use Rattle.listing.proofs.Marks.{passed, pass}
+use Rattle.settings.proofs.Fields.{finish, too-many, fourth-is, fourth-none}
 """
 
 
@@ -14,7 +15,7 @@ def end(i):
 
 def gone(n):
     """The first n fields are passed."""
-    return "(passed _)" if n == 0 else f"(pass {gone(n - 1)} {end(n)} (omega arith))"
+    return "(passed 9 _)" if n == 0 else f"(pass {gone(n - 1)} {end(n)} (omega arith))"
 
 
 ANS = {f"returns{'-' + str(n + 1) if n else ''}": f"finish {gone(n)} {end(n + 1)} (omega arith)" for n in range(3)}

@@ -7,10 +7,10 @@ use Rattle.intake.proofs.write_events.Statement.{statement}
 use Rattle.intake.proofs.write_events.Tie as tie
 
 abbrev Inv-loop : tie.InvT-loop
-Inv-loop events errors i₀ i = i ≤ length events / EVENT
+Inv-loop edition events errors i₀ i = i ≤ length events / EVENT
 
 abbrev μ-loop : tie.MeasureT-loop
-μ-loop events errors i₀ i = length events / EVENT - i
+μ-loop edition events errors i₀ i = length events / EVENT - i
 
 loop-holds : tie.Need-loop-holds Inv-loop μ-loop
 loop-holds c = search needs
@@ -51,6 +51,15 @@ mul-write-event-4 c = search needs
 shared-slice-read-write-event-4 : tie.Need-shared-slice-read-write-event-4 Inv-loop μ-loop
 shared-slice-read-write-event-4 c = search needs
 
+add-write-event-4 : tie.Need-add-write-event-4 Inv-loop μ-loop
+add-write-event-4 c = search needs
+
+mul-write-event-5 : tie.Need-mul-write-event-5 Inv-loop μ-loop
+mul-write-event-5 c = search needs
+
+shared-slice-read-write-event-5 : tie.Need-shared-slice-read-write-event-5 Inv-loop μ-loop
+shared-slice-read-write-event-5 c = search needs
+
 write-event-requires : tie.Need-write-event-requires Inv-loop μ-loop
 write-event-requires c κs = search needs
 
@@ -85,6 +94,9 @@ write-events-spec =
     add-write-event-3
     mul-write-event-4
     shared-slice-read-write-event-4
+    add-write-event-4
+    mul-write-event-5
+    shared-slice-read-write-event-5
     write-event-requires
     add-i
     loop-less

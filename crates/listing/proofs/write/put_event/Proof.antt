@@ -1,11 +1,17 @@
+-- Written from tools/answers/listing/put_event.py, digest 2b82baabe0a4.
 -- `listing::write::put_event` meets its contract: the sort picks the line.
-use borrow.Author.Needs.{needs}
 use Rattle.kinds.proofs.Spelt.{spelled-as, spelled-none}
 use Rattle.shapes.specs.Sort as Sort
 use Rattle.listing.specs.Listing.{eventLine}
 use Rattle.listing.proofs.Records.{of-sort, of-record, no-sort}
+use borrow.Author.Needs.{needs}
 use Rattle.listing.proofs.write.put_event.Statement.{statement}
 use Rattle.listing.proofs.write.put_event.Tie as tie
+use Rattle.listing.proofs.write.put_event.Reads as reads
+use Rattle.listing.proofs.write.put_event.Lts as lts
+use Rattle.listing.proofs.write.error_line.Reads as error-line-reads
+use Rattle.listing.proofs.write.node_line.Reads as node-line-reads
+use Rattle.listing.proofs.write.record_place.Reads as record-place-reads
 
 node-line-requires : tie.Need-node-line-requires
 node-line-requires c κs = search needs
@@ -39,49 +45,30 @@ same-length c = search needs
 
 returns : tie.Need-returns
 unfolding eventLine
-returns c =
-    let at-node-line = c .before .before in
-    let at-match = at-node-line .before .before in
-    let entry = at-match .before .before .before in
-    spelled-as (of-sort (entry .args .errors .now) (entry .args .sort) (entry .args .second) (entry .args .start) (entry .args .end) Sort.BEGIN (at-match .match .keys1)) (at-node-line .node-line .ensures)
+returns c = spelled-as (of-sort (c .before .before .before .before .before .before .before .args .edition) (c .before .before .before .before .before .before .before .args .errors .now) (c .before .before .before .before .before .before .before .args .sort) (c .before .before .before .before .before .before .before .args .second) (c .before .before .before .before .before .before .before .args .start) (c .before .before .before .before .before .before .before .args .end) (c .before .before .before .before .before .before .before .args .depth) Sort.BEGIN (c .before .before .before .before .match .keys1)) (c .before .before .node-line .ensures)
 
 same-length-2 : tie.Need-same-length-2
 same-length-2 c = search needs
 
 returns-2 : tie.Need-returns-2
 unfolding eventLine
-returns-2 c =
-    let at-node-line2 = c .before .before in
-    let at-match = at-node-line2 .before .before in
-    let entry = at-match .before .before .before in
-    spelled-as (of-sort (entry .args .errors .now) (entry .args .sort) (entry .args .second) (entry .args .start) (entry .args .end) Sort.TOKEN (at-match .match .keys2)) (at-node-line2 .node-line2 .ensures)
+returns-2 c = spelled-as (of-sort (c .before .before .before .before .before .before .before .args .edition) (c .before .before .before .before .before .before .before .args .errors .now) (c .before .before .before .before .before .before .before .args .sort) (c .before .before .before .before .before .before .before .args .second) (c .before .before .before .before .before .before .before .args .start) (c .before .before .before .before .before .before .before .args .end) (c .before .before .before .before .before .before .before .args .depth) Sort.TOKEN (c .before .before .before .before .match .keys2)) (c .before .before .node-line2 .ensures)
 
 same-length-3 : tie.Need-same-length-3
 same-length-3 c = search needs
 
 returns-3 : tie.Need-returns-3
 unfolding eventLine
-returns-3 c =
-    let at-node-line3 = c .before .before in
-    let at-match = at-node-line3 .before .before in
-    let entry = at-match .before .before .before in
-    spelled-as (of-sort (entry .args .errors .now) (entry .args .sort) (entry .args .second) (entry .args .start) (entry .args .end) Sort.END (at-match .match .keys3)) (at-node-line3 .node-line3 .ensures)
+returns-3 c = spelled-as (of-sort (c .before .before .before .before .before .before .before .args .edition) (c .before .before .before .before .before .before .before .args .errors .now) (c .before .before .before .before .before .before .before .args .sort) (c .before .before .before .before .before .before .before .args .second) (c .before .before .before .before .before .before .before .args .start) (c .before .before .before .before .before .before .before .args .end) (c .before .before .before .before .before .before .before .args .depth) Sort.END (c .before .before .before .before .match .keys3)) (c .before .before .node-line3 .ensures)
 
 same-length-4 : tie.Need-same-length-4
 same-length-4 c = search needs
 
 returns-4 : tie.Need-returns-4
-returns-4 c =
-    let at-error-line = c .before .before in
-    let at-record-place = at-error-line .before .before .before in
-    let at-match = at-record-place .before in
-    let entry = at-match .before .before .before in
-    spelled-as (of-record (entry .args .errors .now) (entry .args .sort) (entry .args .second) (entry .args .start) (entry .args .end) (at-record-place .record-place .ensures) (at-match .match .keys4)) (at-error-line .error-line .ensures)
+returns-4 c = spelled-as (of-record (c .before .before .before .before .before .before .before .before .before .args .edition) (c .before .before .before .before .before .before .before .before .before .args .errors .now) (c .before .before .before .before .before .before .before .before .before .args .sort) (c .before .before .before .before .before .before .before .before .before .args .second) (c .before .before .before .before .before .before .before .before .before .args .start) (c .before .before .before .before .before .before .before .before .before .args .end) (c .before .before .before .before .before .before .before .before .before .args .depth) (c .before .before .before .before .before .record-place .ensures) (c .before .before .before .before .before .before .match .keys4)) (c .before .before .error-line .ensures)
 
 returns-5 : tie.Need-returns-5
-returns-5 c =
-    let entry = c .before .before .before in
-    spelled-none _ _ (no-sort (entry .args .errors .now) (entry .args .sort) (entry .args .second) (entry .args .start) (entry .args .end) (c .match .rest .0 .0 .0 .1) (c .match .rest .0 .0 .1) (c .match .rest .0 .1) (c .match .rest .1))
+returns-5 c = spelled-none _ _ (no-sort (c .before .before .before .args .edition) (c .before .before .before .args .errors .now) (c .before .before .before .args .sort) (c .before .before .before .args .second) (c .before .before .before .args .start) (c .before .before .before .args .end) (c .before .before .before .args .depth) (c .match .rest .0 .0 .0 .1) (c .match .rest .0 .0 .1) (c .match .rest .0 .1) (c .match .rest .1))
 
 pub put-event-spec : {M : Type 1} → statement M
 put-event-spec =
