@@ -4,7 +4,7 @@ use mathlib.Core.Path.{_≡_, refl, sym, ap, _∙_}
 use mathlib.Core.List.{List, [], _∷_}
 use native.Mathlib.Omega.{arith}
 use lib.ListN.{length, getD}
-use Rattle.settings.specs.Settings.{Settings, bad, editions, settingsOf, today, Reply, badLine, unknown, named, numbered, choiceIn, choice}
+use Rattle.settings.specs.Settings.{Settings, bad, editions, settingsOf, today, badLine, unknown, named, numbered, choiceIn, choice}
 use Rattle.settings.specs.Answer.{scanOf}
 use Rattle.settings.specs.declared.lines.Values.{Values}
 use Rattle.settings.specs.declared.lines.Scan.{Scan}

@@ -1,7 +1,7 @@
 -- Settings text with a line more, in a room. Assumes nothing.
-use Prim.Native.Nat.{ℕ, suc, _+_, _-_, _^_, _≤_, _<_}
+use Prim.Native.Nat.{ℕ, suc, _+_, _-_, _^_, _<_}
 use mathlib.Core.Path.{_≡_, refl, sym, ap, ap₂, subst, _∙_}
-use mathlib.Core.List.{List, [], _∷_, _++_}
+use mathlib.Core.List.{List, _++_}
 use mathlib.Core.Bool.{Bool, true, false, cond, _&&_}
 use native.Mathlib.Numerals.{add-one}
 use native.Mathlib.Omega.{arith}
@@ -14,13 +14,13 @@ use Rattle.kinds.specs.Spelling.{Spelled}
 use Rattle.cells.proofs.Zeros.{cleared}
 use Rattle.listing.specs.Written.{Put}
 use Rattle.listing.proofs.Written.{kept, joins, put-as}
-use Rattle.settings.specs.Settings.{inRange, Settings, bad, editions, settingsOf, written, Grown, refusing, fitted, addedAt, addedTo, added}
+use Rattle.settings.specs.Settings.{inRange, Settings, settingsOf, written, refusing, fitted, addedAt, addedTo, added}
 use Rattle.settings.specs.Answer.{scanOf, grownOf}
 use Rattle.settings.specs.declared.lines.Values.{Values}
 use Rattle.settings.specs.declared.lines.Scan.{Scan}
 use Rattle.settings.specs.declared.lines.Scan.the-variants as scan
 use Rattle.settings.specs.declared.adding.Added.the-variants as result
-use Rattle.settings.proofs.Choosing.{told-bad, Told, told}
+use Rattle.settings.proofs.Choosing.{told-bad, told}
 
 -- what stands at the room's front
 spelt : {text before after : List ℕ} {k : ℕ} → Spelled text before after k → take k after ≡ text

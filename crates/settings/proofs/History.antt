@@ -2,7 +2,7 @@
 -- edition 1 is today's values; a later edition has its own fuel. Assumes nothing.
 use Prim.Native.Nat.{ℕ, zero, suc, _+_, _-_, _^_, _≤_, _<_}
 use mathlib.Core.Path.{_≡_, refl, sym, ap, subst, _∙_}
-use mathlib.Core.List.{List, [], _∷_, _++_, append-nil}
+use mathlib.Core.List.{List, [], _∷_, _++_}
 use mathlib.Core.Bool.{Bool, true, false, cond, _&&_}
 use mathlib.Core.Option.{Option, none, some}
 use native.Mathlib.Omega.{arith}
@@ -11,11 +11,11 @@ use lib.Dec.{eqb, leb, ltb}
 use lib.ListN.{length}
 use Rattle.listing.specs.Numbers.{number}
 use Rattle.listing.specs.Lines.{onto, parted}
-use Rattle.settings.specs.Settings.{inRange, ranged, editionOf, lineOf, inTurn, Settings, bad, editions, from, behindLast, linesOf, settingsOf, today, Reply, named, numbered, choiceIn, choice, written}
+use Rattle.settings.specs.Settings.{inRange, ranged, editionOf, lineOf, inTurn, Settings, bad, editions, from, linesOf, settingsOf, today, Reply, named, numbered, choiceIn, choice, written}
 use Rattle.settings.specs.declared.lines.Values.{Values}
 use Rattle.settings.proofs.Scanning.{before}
 use Rattle.listing.proofs.Marks.{both}
-use Rattle.settings.proofs.Written.{glue, onto-none, parted-append, body, one-line, body-reads}
+use Rattle.settings.proofs.Written.{glue, onto-none, parted-append, one-line, body-reads}
 
 -- lines that read, taken apart
 record Taken (o : Option Values) (s : Settings) (vs : List Values) : Type 0 where

@@ -16,7 +16,6 @@ use Rattle.settings.specs.Answer.{lineFrom, scanOf}
 use Rattle.settings.specs.declared.lines.Values.{Values}
 use Rattle.settings.specs.declared.lines.Line.{Line}
 use Rattle.settings.specs.declared.lines.Line.the-variants as line
-use Rattle.settings.specs.declared.lines.Scan.{Scan}
 use Rattle.settings.specs.declared.lines.Scan.the-variants as scan
 use Rattle.settings.proofs.Fields.{unread, reads}
 

@@ -1,7 +1,7 @@
 -- Parts that begin with a row of a set, and are left out where it does not stand there. Assumes nothing.
-use Prim.Native.Nat.{ℕ, zero, suc, _≤_, _<_}
-use mathlib.Core.Path.{_≡_, refl, sym, ap, subst, _∙_}
-use mathlib.Core.List.{List, [], _∷_}
+use Prim.Native.Nat.{ℕ, zero, suc, _<_}
+use mathlib.Core.Path.{_≡_, refl, sym, ap, _∙_}
+use mathlib.Core.List.{List}
 use mathlib.Core.Bool.{Bool, true, false}
 use native.Mathlib.Omega.{arith}
 use native.Mathlib.Decide.{decLt}
@@ -17,7 +17,7 @@ use Rattle.definition.specs.Run.{Mode, ok, failed, stopped, Next, end, other, h
 use Rattle.definition.specs.Render.{Source}
 use Rattle.notes.specs.Whole.{Whole}
 use Rattle.notes.specs.Bits.{ifb}
-use Rattle.notes.specs.Means.{Bufs, bufs, Past, Means, Stands, modeOf}
+use Rattle.notes.specs.Means.{Bufs, Past, modeOf}
 use Rattle.notes.specs.Did.{Ok, Wf, Did, Plain, Peeked, ahead, hits}
 use Rattle.notes.proofs.Core.{like-same, like-at, idle}
 use Rattle.notes.proofs.Sticky.{Sticks, sticky, sticky-past, sticky-expected}

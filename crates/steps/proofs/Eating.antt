@@ -1,28 +1,27 @@
 -- Rows that are expected: taken up, or the state fails. Assumes nothing.
 use Prim.Native.Nat.{ℕ, suc, _+_, _≤_, _<_}
 use mathlib.Core.Path.{_≡_, refl, sym, ap, subst, _∙_}
-use mathlib.Core.List.{List, [], _∷_}
-use mathlib.Core.Bool.{Bool, true, false}
+use mathlib.Core.List.{List, _∷_}
+use mathlib.Core.Bool.{true, false}
 use native.Mathlib.Nat.{le-refl}
 use native.Mathlib.Omega.{arith}
 use lib.ListN.{length, getD, take, drop}
 use lib.Seq.{take-take}
-use Rattle.kinds.specs.Sets.{setOf, pick}
 use Rattle.shapes.specs.Sort as Sort
 use Rattle.definition.specs.Buffer.{placed}
 use Rattle.definition.specs.Run as P
-use Rattle.definition.specs.Run.{Mode, ok, failed, stopped, Next, end, other, hit}
+use Rattle.definition.specs.Run.{ok, failed, Next, end, other, hit}
 use Rattle.definition.specs.Render.{Source}
 use Rattle.notes.specs.Whole.{Whole}
 use Rattle.notes.specs.Change.{withPos, withMode, markOf, gone}
-use Rattle.notes.specs.Means.{Bufs, bufs, Past, source, Means, Stands, Lines, modeOf}
+use Rattle.notes.specs.Means.{Bufs, bufs, Past, Means, Lines, modeOf}
 use Rattle.notes.specs.Did.{Ok, Wf, Did, Events, Plain, Put, Peeked, hits, ahead}
-use Rattle.notes.proofs.Core.{Like, like-same, like-at, alike, idle, then, ok-put, wf-put, caps-put}
+use Rattle.notes.proofs.Core.{like-same, like-at, alike, idle, then, wf-put, caps-put}
 use Rattle.notes.proofs.Sticky.{Sticks, sticky, sticky-trans, sticky-trivia, sticky-take, sticky-fail, sticky-returned, sticky-refused}
 use Rattle.steps.proofs.Taken.{took, ok-took}
 use Rattle.steps.proofs.Next.{if-ok-yes}
 use Rattle.steps.proofs.Branch.{ahead-is}
-use Rattle.steps.proofs.Parts.{retold, not-ok, turned, gone-ok, returned, opt-on, opt-back}
+use Rattle.steps.proofs.Parts.{retold, not-ok, turned, gone-ok, returned}
 
 -- steps on events alone, from laws on any step
 pub not-okE : (f : P.Reader) {x : Source} {s : Whole} {ev : List ℕ} → ((p : Past) → Sticks p x (P.if-ok f)) → Ok (length (x .ids)) s → s .evcap ≤ length ev → (s .mode ≡ 0 → ⊥) → Events (P.if-ok f) x s s ev ev

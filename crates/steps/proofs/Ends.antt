@@ -1,29 +1,29 @@
 -- Nodes ended, errors chosen, recovery. Assumes nothing.
-use Prim.Native.Nat.{ℕ, zero, suc, _+_, _-_, _*_, _≤_, _<_}
+use Prim.Native.Nat.{ℕ, zero, suc, _+_, _-_, _≤_, _<_}
 use mathlib.Core.Path.{_≡_, refl, sym, ap, ap₂, subst, _∙_}
 use mathlib.Core.List.{List, [], _∷_}
 use mathlib.Core.Bool.{Bool, true, false}
-use native.Mathlib.Nat.{le-refl, le-trans}
+use native.Mathlib.Nat.{le-trans}
 use native.Mathlib.Omega.{arith}
 use native.Mathlib.Decide.{ℕ-discrete}
 use borrow.Author.Tests.{eq-eqb, ne-eqb}
 use lib.Dec.{eqb}
-use lib.ListN.{length, take, drop, replicate, length-replicate}
+use lib.ListN.{length, drop, replicate, length-replicate}
 use Rattle.kinds.specs.Kinds as k
 use Rattle.kinds.specs.Sets.{idsOf}
 use Rattle.shapes.specs.Shapes.{EVENT}
 use Rattle.definition.specs.Run as P
-use Rattle.definition.specs.Run.{Mode, ok, failed, stopped, Stop, spent, deep, Next, end, other, hit, Choice}
-use Rattle.definition.specs.Open.{Adds, Open}
-use Rattle.definition.specs.Render.{Source, said, held, records}
+use Rattle.definition.specs.Run.{Mode, ok, failed, stopped, Next, end, other, hit, Choice}
+use Rattle.definition.specs.Open.{Open}
+use Rattle.definition.specs.Render.{Source, held, records}
 use Rattle.definition.proofs.Buffer.{adding}
 use Rattle.notes.specs.Whole.{Whole}
 use Rattle.notes.specs.Bits.{ifb}
 use Rattle.notes.specs.Change.{withMode}
-use Rattle.notes.specs.Means.{Bufs, bufs, Past, Means, Stands, modeOf, overOf}
+use Rattle.notes.specs.Means.{Bufs, bufs, Past, Means, modeOf}
 use Rattle.notes.specs.Did.{Ok, Wf, Did, Events, Errors, Plain, Began, Both, Shuts, shutA}
 use Rattle.notes.proofs.Rooms.{er-count, said-is, lengths, flat-lengths}
-use Rattle.notes.proofs.Core.{Like, like-same, like-at, Sticky, alike, idle, then}
+use Rattle.notes.proofs.Core.{like-same, like-at, Sticky, alike, idle, then}
 use Rattle.notes.proofs.Sticky.{Sticks, sticky, sticky-trans, sticky-shut, sticky-finish, sticky-choose, sticky-skip, sticky-expected, sticky-names, sticky-turn, sticky-since, sticky-swallowed}
 use Rattle.steps.specs.Steps.{tells}
 use Rattle.steps.proofs.Parts.{retold, turned, node}

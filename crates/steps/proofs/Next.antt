@@ -1,16 +1,15 @@
 -- A step that only a state in good order takes, and what stands next past trivia. Assumes nothing.
 use Prim.Native.Nat.{ℕ, zero, suc, _≤_, _<_}
 use mathlib.Core.Path.{_≡_, refl, sym, ap, _∙_}
-use mathlib.Core.List.{List, [], _∷_}
-use mathlib.Core.Bool.{Bool, true, false}
+use mathlib.Core.List.{List}
+use mathlib.Core.Bool.{true, false}
 use mathlib.Core.Option.{Option, none, some}
-use native.Mathlib.Omega.{arith}
 use lib.ListN.{length, getD, drop, drop-of-length-le}
 use lib.Seq.{drop-cons}
 use Rattle.kinds.specs.Sets.{pick}
 use Rattle.kinds.specs.Answers.{isSome}
 use Rattle.definition.specs.Run as P
-use Rattle.definition.specs.Run.{Mode, ok, failed, stopped, Next, end, other, hit}
+use Rattle.definition.specs.Run.{Mode, ok, failed, stopped, end, other, hit}
 use Rattle.notes.specs.Means.{modeOf}
 use Rattle.notes.specs.Did.{Peeked}
 

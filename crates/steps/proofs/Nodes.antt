@@ -1,20 +1,20 @@
 -- Nodes: fuel taken, begun, closed. Assumes nothing.
 use Prim.Native.Nat.{ℕ, zero, suc, _+_, _-_, _*_, _≤_, _<_}
 use mathlib.Core.Path.{_≡_, refl, sym, ap, ap₂, subst, _∙_}
-use mathlib.Core.List.{List, [], _∷_, _++_}
+use mathlib.Core.List.{List, _∷_, _++_}
 use mathlib.Core.Bool.{Bool, true, false}
-use native.Mathlib.Nat.{le-refl, le-trans}
+use native.Mathlib.Nat.{le-refl}
 use native.Mathlib.Omega.{arith}
 use native.Mathlib.Numerals.{sub-one}
 use native.Mathlib.Decide.{ℕ-discrete}
 use borrow.Author.Tests.{ne-eqb, eq-eqb}
 use lib.Dec.{eqb}
-use lib.ListN.{length, getD, take, drop, set, length-set, length-drop}
+use lib.ListN.{length, getD, take, set, length-set, length-drop}
 use lib.Seq.{take-take, take-set-lt, take-set-le}
 use Rattle.shapes.specs.Sort as Sort
 use Rattle.shapes.specs.Shapes.{EVENT, KIND, END, DEPTH, event}
 use Rattle.definition.specs.Run as P
-use Rattle.definition.specs.Run.{Event, opened, leaf, closed, bad, Mode, ok, failed, stopped, Stop, spent, deep}
+use Rattle.definition.specs.Run.{opened, closed, Mode, ok, stopped, Stop, spent, deep}
 use Rattle.definition.specs.Render.{Source, starts-at, ends-at, span-end}
 use Rattle.definition.specs.Buffer.{height, cell, placed, patch, buffer}
 use Rattle.definition.specs.Open.{Open}
@@ -22,8 +22,8 @@ use Rattle.definition.proofs.Buffer.{buffer-opened, buffer-shut, begin-depth}
 use Rattle.notes.proofs.Rooms.{ev-count}
 use Rattle.notes.specs.Whole.{Whole}
 use Rattle.notes.specs.Change.{withMode, withFuel}
-use Rattle.notes.specs.Means.{Bufs, bufs, Past, Means, Stands, Lines, modeOf, overOf}
-use Rattle.notes.specs.Did.{Ok, Wf, Did, Events, Plain, Put, Began, Shuts, shutA}
+use Rattle.notes.specs.Means.{Bufs, bufs, Past, Means, Lines, modeOf, overOf}
+use Rattle.notes.specs.Did.{Ok, Wf, Events, Plain, Put, Began, Shuts, shutA}
 use Rattle.notes.proofs.Lists.{getD-any, getD-cons}
 use Rattle.notes.proofs.Core.{sticky-mark, bare, Like, does-like, then, depth-is, writes, emitted, over-drafts, ok-put, wf-put, caps-put}
 use Rattle.steps.proofs.Taken.{row, start-is}

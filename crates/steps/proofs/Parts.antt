@@ -1,8 +1,7 @@
 -- Laws on any step: going back, optional parts, alternatives, repetitions, nodes. Assumes nothing.
-use Prim.Native.Nat.{ℕ, zero, suc, _+_, _-_, _*_, _≤_, _<_}
+use Prim.Native.Nat.{ℕ, zero, suc, _+_, _-_, _≤_, _<_}
 use mathlib.Core.Path.{_≡_, refl, sym, ap, subst, _∙_}
-use mathlib.Core.List.{List, [], _∷_, _++_}
-use mathlib.Core.Bool.{Bool, true, false}
+use mathlib.Core.Bool.{Bool}
 use mathlib.Core.Logic.{_⊎_, inl, inr}
 use native.Mathlib.Nat.{le-refl, le-trans, le-of-eq}
 use native.Mathlib.Omega.{arith}
@@ -12,17 +11,17 @@ use lib.ListN.{length, take, drop, length-drop}
 use lib.Seq.{take-take}
 use Rattle.shapes.specs.Shapes.{EVENT}
 use Rattle.definition.specs.Run as P
-use Rattle.definition.specs.Run.{Mode, ok, failed, stopped, Stop, spent, deep}
+use Rattle.definition.specs.Run.{Mode, ok, failed, stopped}
 use Rattle.definition.specs.Open.{Adds, Open}
 use Rattle.definition.specs.Render.{Source}
 use Rattle.definition.proofs.Buffer.{begun-open}
 use Rattle.notes.specs.Whole.{Whole}
 use Rattle.notes.specs.Change.{withMode, markOf, gone}
-use Rattle.notes.specs.Means.{Bufs, bufs, Past, Means, Stands, modeOf, overOf}
-use Rattle.notes.specs.Did.{Ok, Wf, Did, Events, Shuts}
+use Rattle.notes.specs.Means.{Bufs, Past, Means, Stands, modeOf, overOf}
+use Rattle.notes.specs.Did.{Ok, Wf, Did, Shuts}
 use Rattle.notes.proofs.Rooms.{ev-count}
 use Rattle.notes.proofs.Core.{Like, like-same, like-trans, like-at, Sticky, alike, idle, then}
-use Rattle.notes.proofs.Sticky.{Sticks, sticky-trans, sticky, sticky-or-else, sticky-go-on, sticky-past, sticky-back, back-over, sticky-begin, sticky-finish}
+use Rattle.notes.proofs.Sticky.{Sticks, sticky-trans, sticky, sticky-or-else, sticky-go-on, sticky-past, sticky-back, back-over, sticky-finish}
 use Rattle.steps.proofs.Next.{if-ok-yes, if-ok-no}
 
 -- a step in two parts is f: wherever the state between them is meant, and a room that was exceeded before stays the one

@@ -1,23 +1,23 @@
 -- Skipping: rows are taken up until one of the set stands past trivia. Assumes nothing.
-use Prim.Native.Nat.{ℕ, zero, suc, _+_, _*_, _≤_, _<_}
+use Prim.Native.Nat.{ℕ, suc, _+_, _≤_, _<_}
 use mathlib.Core.Path.{_≡_, refl, sym, ap, _∙_}
 use mathlib.Core.List.{List, [], _∷_}
 use mathlib.Core.Bool.{Bool, true, false}
 use native.Mathlib.Nat.{le-refl}
 use native.Mathlib.Omega.{arith}
-use lib.ListN.{length, getD, drop, drop-of-length-le}
+use lib.ListN.{length, getD, drop}
 use lib.Seq.{drop-cons}
 use Rattle.shapes.specs.Sort as Sort
 use Rattle.definition.specs.Buffer.{placed}
 use Rattle.definition.specs.Run as P
-use Rattle.definition.specs.Run.{Event, leaf, Next, end, other, hit}
+use Rattle.definition.specs.Run.{Event, leaf, Next, other}
 use Rattle.definition.specs.Render.{Source, used}
 use Rattle.notes.specs.Whole.{Whole}
 use Rattle.notes.specs.Change.{withPos}
-use Rattle.notes.specs.Means.{Bufs, bufs, Past, Stands, overOf}
+use Rattle.notes.specs.Means.{Bufs, Past, Stands, overOf}
 use Rattle.notes.specs.Did.{Wf, Events, Put}
 use Rattle.notes.proofs.Rooms.{fits, still, thin}
-use Rattle.notes.proofs.Core.{bare, Like, like-same, like-at}
+use Rattle.notes.proofs.Core.{bare, Like, like-at}
 use Rattle.notes.proofs.Sticky.{sticky-trans, sticky-take, sticky-skip}
 use Rattle.steps.proofs.Taken.{Taking, takes, taken}
 

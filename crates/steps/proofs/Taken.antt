@@ -1,33 +1,33 @@
 -- Rows taken, trivia skipped, nodes begun and closed: from what the code wrote to what it means. Assumes nothing.
-use Prim.Native.Nat.{ℕ, zero, suc, _+_, _-_, _*_, _%_, _≤_, _<_}
+use Prim.Native.Nat.{ℕ, zero, suc, _+_, _-_, _≤_, _<_}
 use mathlib.Core.Path.{_≡_, refl, sym, ap, ap₂, subst, _∙_}
 use mathlib.Core.List.{List, [], _∷_, _++_}
 use mathlib.Core.Bool.{Bool, true, false}
-use native.Mathlib.Nat.{le-refl, le-trans, le-of-eq}
+use native.Mathlib.Nat.{le-refl}
 use native.Mathlib.Omega.{arith}
-use native.Mathlib.Numerals.{add-one, sub-one}
+use native.Mathlib.Numerals.{add-one}
 use borrow.Author.Tests.{lt-ltb, le-ltb, eq-eqb, ne-eqb}
 use lib.Dec.{eqb}
-use lib.ListN.{length, getD, take, drop, set, length-set, length-append, length-drop, drop-of-length-le, replicate}
-use lib.Seq.{take-take, drop-cons, length-take-le}
+use lib.ListN.{length, getD, take, drop, length-drop, drop-of-length-le, replicate}
+use lib.Seq.{take-take, drop-cons}
 use Rattle.kinds.specs.Sets.{trivial}
 use Rattle.shapes.specs.Sort as Sort
 use Rattle.shapes.specs.Shapes.{EVENT, DEPTH, event}
 use Rattle.definition.specs.Run as P
-use Rattle.definition.specs.Run.{Event, opened, leaf, closed, bad, Mode, ok, failed, stopped, Stop, spent, deep}
-use Rattle.definition.specs.Render.{Source, starts-at, ends-at, span-end, said, held, used}
+use Rattle.definition.specs.Run.{Event, leaf, ok}
+use Rattle.definition.specs.Render.{Source, starts-at, ends-at, used}
 use Rattle.definition.specs.Buffer.{height, cell, next-depth, placed, buffer}
-use Rattle.definition.proofs.Buffer.{buffer-leaf, buffer-opened}
+use Rattle.definition.proofs.Buffer.{buffer-leaf}
 use Rattle.definition.proofs.Gap.{gap, gap-out}
 use Rattle.notes.specs.Whole.{Whole}
 use Rattle.notes.specs.Change.{withPos}
-use Rattle.notes.specs.Means.{Bufs, bufs, Past, source, Means, Stands, Lines, modeOf, overOf}
-use Rattle.notes.specs.Did.{Ok, Wf, Did, Events, Put}
+use Rattle.notes.specs.Means.{Bufs, bufs, Past, source, Stands, Lines, modeOf, overOf}
+use Rattle.notes.specs.Did.{Ok, Wf, Events, Put}
 use Rattle.notes.proofs.Lists.{getD-any}
 use Rattle.notes.proofs.Peeks.{skip-yes, skip-no}
-use Rattle.notes.proofs.Rooms.{fits, marked, still, thin, first-of, spill}
+use Rattle.notes.proofs.Rooms.{fits, still, thin}
 use Rattle.notes.proofs.Sticky.{sticky-trans, sticky-trivia, sticky-take}
-use Rattle.notes.proofs.Core.{bare, Like, like-same, like-trans, like-at, alike, idle, then, depth-is, emitted, moved, ok-put, wf-put, caps-put}
+use Rattle.notes.proofs.Core.{bare, Like, like-same, like-trans, like-at, alike, idle, depth-is, emitted, moved, ok-put, wf-put, caps-put}
 use Rattle.notes.proofs.Naming.{none-named}
 use Rattle.steps.specs.declared.state.State.{State}
 use Rattle.steps.specs.Steps.{whole, onTo, Fits}

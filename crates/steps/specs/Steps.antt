@@ -1,14 +1,14 @@
 -- What the steps' contracts are stated with: the state with its notes, and steps that touch some of the lent lists.
-use Prim.Native.Nat.{ℕ, _-_, _≤_, _<_}
+use Prim.Native.Nat.{ℕ, _-_, _≤_}
 use mathlib.Core.Path.{_≡_}
-use mathlib.Core.List.{List, []}
+use mathlib.Core.List.{List}
 use mathlib.Core.Bool.{Bool}
 use lib.ListN.{length, getD, drop}
 use Rattle.kinds.specs.Answers.{words}
 use Rattle.definition.specs.Run as P
 use Rattle.notes.specs.Whole.{Whole}
-use Rattle.notes.specs.Means.{source, bufs, Lines, Rows}
-use Rattle.notes.specs.Did.{Ok, Wf, Events, Began, Shuts, Both, shutA}
+use Rattle.notes.specs.Means.{source, Lines, Rows}
+use Rattle.notes.specs.Did.{Ok, Events}
 use Rattle.steps.specs.declared.state.State.{State}
 
 -- the state with what the list notes

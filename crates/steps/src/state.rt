@@ -12,7 +12,6 @@ use shapes::sort;
 ghost use mathlib.Core.Path.{_≡_};
 ghost use mathlib.Core.List.{List};
 ghost use Prim.Native.Nat.{ℕ, _+_, _-_, _≤_};
-ghost use lib.Dec.{eqb};
 ghost use lib.ListN.{length};
 ghost use Rattle.shapes.specs.Shapes.{EVENT, event};
 ghost use Rattle.definition.specs.Buffer.{cell, next-depth, placed};
