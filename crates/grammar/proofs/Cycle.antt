@@ -1,39 +1,34 @@
 -- Lines that touch all lists: steps one after another, alternatives, optional parts, repetitions, remembered failures. Assumes nothing.
-use Prim.Native.Nat.{ℕ, zero, suc, _+_, _-_, _*_, _≤_, _<_}
+use Prim.Native.Nat.{ℕ, _+_, _-_, _≤_, _<_}
 use mathlib.Core.Path.{_≡_, refl, sym, ap, subst, _∙_}
-use mathlib.Core.List.{List, [], _∷_}
+use mathlib.Core.List.{List}
 use mathlib.Core.Bool.{Bool, true, false}
-use mathlib.Core.Logic.{_⊎_, inl, inr}
-use native.Mathlib.Nat.{le-refl, le-trans}
 use native.Mathlib.Omega.{arith}
 use native.Mathlib.Decide.{ℕ-discrete}
 use borrow.Author.Tests.{eq-eqb, ne-eqb}
 use lib.Dec.{eqb, T}
 use lib.ListN.{length}
 use Rattle.kinds.specs.Kinds as k
-use Rattle.kinds.specs.Sets.{idsOf}
 use Rattle.shapes.specs.Shapes.{EVENT}
-use Rattle.definition.specs.Prog.{Production, Prog, eat, unless, ifnext, opt, many, then, _⨟_, _/_, last, recover, node, memo, EXPR, TERM}
+use Rattle.definition.specs.Prog.{Production, Prog, ifnext, opt, many, then, _/_, last}
 use Rattle.definition.specs.Grammar.{grammar, kind}
 use Rattle.definition.specs.Run as P
-use Rattle.definition.specs.Run.{Mode, ok, failed, stopped, Stop, spent, deep}
+use Rattle.definition.specs.Run.{ok, failed}
 use Rattle.definition.specs.Render.{Source}
 use Rattle.notes.specs.Whole.{Whole}
-use Rattle.notes.specs.Bits.{ifb, bitAt, Kept}
-use Rattle.notes.specs.Change.{withMode, withFar, markOf, gone, undoneTo}
-use Rattle.notes.specs.Means.{Bufs, bufs, Past, Lines, Rows, Stands, modeOf}
+use Rattle.notes.specs.Bits.{ifb}
+use Rattle.notes.specs.Change.{withMode, markOf, gone, undoneTo}
+use Rattle.notes.specs.Means.{Bufs, bufs, Past, Lines, Rows, modeOf}
 use Rattle.notes.specs.Did.{Ok, Wf, Did, Events, Plain, Both, Began, Shuts, ahead}
-use Rattle.notes.proofs.Core.{like-same, like-at, idle, does-as}
+use Rattle.notes.proofs.Core.{like-same, like-at, idle}
 use Rattle.notes.proofs.Core as core
-use Rattle.notes.proofs.Sticky.{Sticks, sticky, sticky-past, sticky-exec, sticky-run, sticky-turn}
+use Rattle.notes.proofs.Sticky.{Sticks, sticky, sticky-past, sticky-exec, sticky-turn}
 use Rattle.steps.proofs.Next.{if-ok-yes}
 use Rattle.steps.proofs.Parts.{Turning, turning, turns-on, turns-back, turns-end, repeats, gone-wf, alt-on, alt-next, opt-on, opt-back, retold}
-use Rattle.steps.proofs.Memo.{likened, turned-failed, memo-idle, memo-hit, memo-through, memo-failed}
-use Rattle.notes.proofs.Bits.{Memo, kindOf, bitOf}
-use Rattle.notes.proofs.Bits as bits
+use Rattle.steps.proofs.Memo.{likened, turned-failed}
 use Rattle.steps.proofs.Branch as branch
-use Rattle.grammar.specs.Table.{reads, Bit}
-use Rattle.grammar.proofs.Exec.{body, produced, empty, guarded, guarded-idle, undone-mode}
+use Rattle.grammar.specs.Table.{reads}
+use Rattle.grammar.proofs.Exec.{produced, empty, guarded, guarded-idle, undone-mode}
 
 -- where the last alternative, or an optional part, came to s
 abbrev pub lostTo : ℕ × ℕ → Whole → Whole

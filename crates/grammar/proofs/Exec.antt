@@ -1,34 +1,29 @@
 -- Productions: a node around the grammar's line for it, and what is left of a line once the state is not in good order. Assumes nothing.
-use Prim.Native.Nat.{ℕ, zero, suc, _+_, _-_, _*_, _≤_, _<_}
-use mathlib.Core.Path.{_≡_, refl, sym, ap, subst, _∙_}
-use mathlib.Core.List.{List, [], _∷_}
+use Prim.Native.Nat.{ℕ, zero, suc, _-_, _≤_}
+use mathlib.Core.Path.{_≡_, refl, sym, ap, _∙_}
+use mathlib.Core.List.{List}
 use mathlib.Core.Bool.{Bool, true, false, _&&_}
 use mathlib.Core.Logic.{_⊎_, inl, inr}
-use native.Mathlib.Nat.{le-refl, le-trans}
 use native.Mathlib.Omega.{arith}
 use native.Mathlib.Numerals.{sub-one}
 use native.Mathlib.Decide.{ℕ-discrete}
 use borrow.Author.Tests.{eq-eqb, ne-eqb}
 use lib.Dec.{eqb, T}
-use lib.ListN.{length, take, drop}
+use lib.ListN.{length}
 use Rattle.definition.specs.Prog.{Production, Prog, eat, unless, ifnext, opt, many, then, _⨟_, _/_, last, recover, node, memo}
 use Rattle.definition.specs.Grammar.{grammar, kind}
 use Rattle.definition.specs.Run as P
-use Rattle.definition.specs.Run.{Mode, ok, failed, stopped}
 use Rattle.definition.specs.Render.{Source}
 use Rattle.definition.proofs.Buffer.{exec-adds, none-added}
 use Rattle.notes.specs.Whole.{Whole}
 use Rattle.notes.specs.Bits.{ifb}
-use Rattle.notes.specs.Change.{withMode, markOf, gone, undoneTo}
-use Rattle.notes.specs.Means.{Bufs, bufs, Past, Means, Stands, modeOf}
-use Rattle.notes.specs.Did.{Ok, Wf, Did, Events, Plain, Both, Began, Shuts}
+use Rattle.notes.specs.Means.{Bufs, bufs, modeOf}
+use Rattle.notes.specs.Did.{Wf, Did, Began, Shuts}
 use Rattle.notes.proofs.Core.{does-as}
 use Rattle.notes.proofs.Core as core
-use Rattle.notes.proofs.Sticky.{Sticks, sticky, sticky-exec}
+use Rattle.notes.proofs.Sticky.{sticky-exec}
 use Rattle.steps.proofs.Next.{if-ok-no}
 use Rattle.steps.proofs.Parts as parts
-use Rattle.steps.proofs.Parts.{Turning, turning, turns-on, turns-back, turns-end, repeats, halts}
-use Rattle.steps.proofs.Ends.{both-of}
 
 -- the grammar's line for a production, where d more nodes may be opened below it
 abbrev pub body : Bool → ℕ → Bool → Production → P.Reader

@@ -1,9 +1,9 @@
 -- A production that remembers its failures, by its kind and bit: the ways through it. Assumes nothing.
-use Prim.Native.Nat.{ℕ, zero, suc, _+_, _-_, _*_, _/_, _≤_, _<_, max}
-use mathlib.Core.Path.{_≡_, refl, sym, ap, subst, _∙_}
-use mathlib.Core.List.{List, [], _∷_}
+use Prim.Native.Nat.{ℕ, _+_, _-_, _*_, _/_, _<_, max}
+use mathlib.Core.Path.{_≡_, sym, ap, subst, _∙_}
+use mathlib.Core.List.{List}
 use mathlib.Core.Bool.{Bool, true, false}
-use mathlib.Core.Logic.{_⊎_, inl, inr}
+use mathlib.Core.Logic.{inl, inr}
 use native.Mathlib.Omega.{arith}
 use lib.ListN.{length}
 use Rattle.definition.specs.Prog.{Production}
@@ -13,8 +13,8 @@ use Rattle.definition.specs.Render.{Source}
 use Rattle.notes.specs.Whole.{Whole}
 use Rattle.notes.specs.Bits.{ifb, bitAt, Kept}
 use Rattle.notes.specs.Change.{withMode, withFar}
-use Rattle.notes.specs.Means.{Bufs, bufs, Past}
-use Rattle.notes.specs.Did.{Wf, Did}
+use Rattle.notes.specs.Means.{Bufs, bufs}
+use Rattle.notes.specs.Did.{Did}
 use Rattle.notes.proofs.Sticky.{sticky-run}
 use Rattle.steps.proofs.Memo.{memo-idle, memo-hit, memo-through, memo-failed}
 use Rattle.notes.proofs.Bits.{Memo, kindOf, bitOf}

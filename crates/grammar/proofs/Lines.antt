@@ -27,7 +27,7 @@ use Rattle.notes.specs.Means.{Bufs, bufs, namesOf}
 use Rattle.notes.specs.Did.{Wf, Did, Events, Peeked, hits, ahead}
 use Rattle.notes.proofs.Core as core
 use Rattle.grammar.proofs.Exec.{guarded}
-use Rattle.grammar.proofs.Cycle.{from, plus, plusE, stops, thence, Tries, tries, tried, again, tried-last, lost-back, lost-on, waives, waived-back, waived-on, enters, passes}
+use Rattle.grammar.proofs.Cycle.{from, plus, plusE, stops, thence, tries, tried, again, tried-last, lost-back, lost-on, waives, waived-back, waived-on, enters, passes}
 use Rattle.notes.specs.Bits.{ifb}
 use Rattle.grammar.specs.declared.parts.Part.{Part}
 use Rattle.grammar.specs.declared.parts.Part.the-variants.{Eat, Step, Node, Memo, Seq, Then, When, Many, Try}

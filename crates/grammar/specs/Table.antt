@@ -19,7 +19,7 @@ use Rattle.steps.specs.Steps.{Tabled}
 use Rattle.grammar.specs.declared.parts.Part.{Part}
 use Rattle.grammar.specs.declared.parts.Part.the-variants.{Eat, Step, Node, Memo, Seq, Then, When, Many, Try}
 use Rattle.grammar.specs.declared.parts.First.{First}
-use Rattle.grammar.specs.declared.parts.First.the-variants.{Unknown, Missed}
+use Rattle.grammar.specs.declared.parts.First.the-variants.{Missed}
 use Rattle.grammar.specs.Rows.{rows, size, literal, literal-row}
 
 -- the combinator's number and its operands

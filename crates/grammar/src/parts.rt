@@ -14,11 +14,9 @@ use notes::rows::peek;
 use steps::state::State;
 ghost use mathlib.Core.Path.{_≡_};
 ghost use mathlib.Core.Bool.{Bool, true, false};
-ghost use mathlib.Core.Logic.{_⊎_};
 ghost use Prim.Native.Nat.{_≤_, _<_};
 ghost use lib.ListN.{length};
-ghost use Rattle.kinds.specs.Sets.{setOf};
-ghost use Rattle.definition.specs.Prog.{ifnext, _/_};
+ghost use Rattle.definition.specs.Prog.{_/_};
 ghost use Rattle.definition.specs.Prog as G;
 ghost use Rattle.definition.specs.Grammar as K;
 ghost use Rattle.definition.specs.Run as P;
@@ -26,7 +24,8 @@ ghost use Rattle.notes.specs.Means.{source, bufs, Rows};
 ghost use Rattle.notes.specs.Did.{Wf, Did, Both};
 ghost use Rattle.steps.specs.Steps.{whole, Whence, Tabled};
 ghost use Rattle.grammar.specs.Rows.{size, literal-row};
-ghost use Rattle.grammar.specs.Table.{allowed, reach, Lent, Lends, Row, Foretold, missedOf, partOf, stepOf, prog, production, reads, Line, Begins, Cached, Bit};
+ghost use Rattle.grammar.specs.Table.{allowed, reach, Lent, Lends, Row, Foretold, missedOf, partOf};
+ghost use Rattle.grammar.specs.Table.{stepOf, prog, production, reads, Line, Begins, Cached, Bit};
 
 // The row LITERAL of the table by whether entrypoint is allowed.
 pub fn literal(entrypoint: bool) -> u32
@@ -209,7 +208,8 @@ fn exec(
         × Row i
         × Lends (now table) (now sets) ⌝ }
     ensures { λ r. ⌜
-        Did (reads (allowed (now (table .entry))) d optional (prog (allowed (now (table .entry))) i)) (source (now (src .entry)) (now (ids .entry)) (now (ends .entry))) (whole s (now (notes .entry)))
+        Did (reads (allowed (now (table .entry))) d optional (prog (allowed (now (table .entry))) i))
+        (source (now (src .entry)) (now (ids .entry)) (now (ends .entry))) (whole s (now (notes .entry)))
         (whole r (now (notes .exit))) (bufs (now (events .entry)) (now (errors .entry)) (now (scratch .entry)))
         (bufs (now (events .exit)) (now (errors .exit)) (now (scratch .exit))) ⌝ }
 {
@@ -399,7 +399,8 @@ fn node(
         × Line (allowed (now table)) kind line
         × Lends (now table) (now sets) ⌝ }
     ensures { λ r. ⌜
-        Did (P.run (allowed (now (table .entry))) d optional (production kind)) (source (now (src .entry)) (now (ids .entry)) (now (ends .entry))) (whole s (now (notes .entry)))
+        Did (P.run (allowed (now (table .entry))) d optional (production kind))
+        (source (now (src .entry)) (now (ids .entry)) (now (ends .entry))) (whole s (now (notes .entry)))
         (whole r (now (notes .exit))) (bufs (now (events .entry)) (now (errors .entry)) (now (scratch .entry)))
         (bufs (now (events .exit)) (now (errors .exit)) (now (scratch .exit))) ⌝ }
 {
@@ -534,7 +535,8 @@ fn many(
         × Row p
         × Lends (now table) (now sets) ⌝ }
     ensures { λ r. ⌜
-        Did (reads (allowed (now (table .entry))) d true (G.many (prog (allowed (now (table .entry))) p))) (source (now (src .entry)) (now (ids .entry)) (now (ends .entry))) (whole s (now (notes .entry)))
+        Did (reads (allowed (now (table .entry))) d true (G.many (prog (allowed (now (table .entry))) p)))
+        (source (now (src .entry)) (now (ids .entry)) (now (ends .entry))) (whole s (now (notes .entry)))
         (whole r (now (notes .exit))) (bufs (now (events .entry)) (now (errors .entry)) (now (scratch .entry)))
         (bufs (now (events .exit)) (now (errors .exit)) (now (scratch .exit))) ⌝ }
 {

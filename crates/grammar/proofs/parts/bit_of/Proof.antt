@@ -1,7 +1,7 @@
 -- `bit_of` meets its contract.
 use Prim.Native.Nat.{ℕ}
 use mathlib.Core.Path.{_≡_, refl}
-use mathlib.Core.Logic.{_⊎_, inl, inr}
+use mathlib.Core.Logic.{inl, inr}
 use borrow.Author.Needs.{needs}
 use Rattle.kinds.specs.Kinds as k
 use Rattle.grammar.specs.Table.{Cached}
