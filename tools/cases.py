@@ -19,7 +19,7 @@ use mathlib.Core.List.{List, [], _∷_}
 use mathlib.Core.Bool.{Bool, true, _&&_}
 use Rattle.kinds.specs.Kinds as k
 use Rattle.definition.specs.Run.{base}
-use Rattle.definition.specs.Answer.{After, after, filled}
+use Rattle.definition.specs.Answer.{after, filled}
 use Rattle.definition.specs.Table.{same, Case, desk, agrees}
 
 -- a case, and its events
