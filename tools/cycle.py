@@ -20,11 +20,11 @@ def lines_of(crate, folder):
     where = next(folder.glob("*proofs/proofs/*/+*/"))
     proof = ROOT / "crates" / crate / "proofs" / where.parent.name / where.name / "Proof.antt"
     log = dev(crate)
-    return re.sub(r" :\n +\(t : ℕ\) →\n +", " : (t : ℕ) → ", printed(log)[str(proof)]), where, proof
+    return re.sub(r" :\n +\(t : ℕ\) →\s+", " : (t : ℕ) → ", printed(log)[str(proof)]), where, proof
 
 
 def need_text(block, answers, records, callees, out):
-    m = re.search(r"^(\S+) : \(t : ℕ\) → (\S+)-lts\.Need-(\S+) (\(.*?\)) \(\S+ t\) (\S+\.Post)((?: \S+)*)$", block, flags=re.M | re.S)
+    m = re.search(r"^(\S+) : \(t : ℕ\) → (\S+)-lts\.Need-(\S+)\s+(\(.*?\))\s+\(\S+ t\)\s+(\S+\.Post)((?: \S+)*)$", block, flags=re.M | re.S)
     if not m:
         return None
     name, member, need, callee, post, invariants = m.groups()

@@ -1,0 +1,4 @@
+pub mod Exec
+pub mod Cycle
+pub mod Known
+pub mod Lines
