@@ -30,8 +30,8 @@ condition = then (node CONDITION-BLK ⨟ recover (k.R-BRACE ∷ []))
 abbrev pub head : Prog
 head = any-rule-mods ⨟ one k.RULE-KW ⨟ one k.IDENT ⨟ tags ⨟ one k.L-BRACE
 
-abbrev pub blocks : Prog
-blocks = metas ⨟ patterns ⨟ condition ⨟ one k.R-BRACE
+abbrev pub sections : Prog
+sections = metas ⨟ patterns ⨟ condition ⨟ one k.R-BRACE
 
 -- of RULE_TAGS, META_BLK, META_DEF and CONDITION_BLK
 abbrev pub more-idents : Prog

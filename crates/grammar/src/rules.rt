@@ -15,7 +15,7 @@ ghost use Rattle.steps.specs.Steps.{whole};
 ghost use Rattle.definition.specs.Grammar.{grammar, item-of};
 ghost use Rattle.notes.specs.Means.{source, bufs};
 ghost use Rattle.expressions.specs.Reads.{Asks, Reads};
-ghost use Rattle.grammar.specs.Parts.{head, blocks, any-rule-mods, tags, idents, more-idents, metas, meta-defs, more-metas, meta-value, patterns, condition, boolean};
+ghost use Rattle.grammar.specs.Parts.{reach, head, sections, any-rule-mods, tags, idents, more-idents, metas, meta-defs, more-metas, meta-value, patterns, condition, boolean};
 
 // RULE_DECL <- RULE_MODS? RULE_KW IDENT if COLON (RULE_TAGS recover L_BRACE) L_BRACE if META_KW (META_BLK recover (STRINGS_KW | CONDITION_KW)) if
 // STRINGS_KW (PATTERNS_BLK recover CONDITION_KW) (CONDITION_BLK recover R_BRACE) R_BRACE
@@ -70,7 +70,7 @@ fn rule_decl(
         notes,
         sets,
     );
-    s = blocks(
+    s = sections(
         s,
         below,
         optional,
@@ -153,7 +153,7 @@ fn head(
 }
 
 // if META_KW (META_BLK recover (STRINGS_KW | CONDITION_KW)) if STRINGS_KW (PATTERNS_BLK recover CONDITION_KW) (CONDITION_BLK recover R_BRACE) R_BRACE
-fn blocks(
+fn sections(
     mut s: State,
     d: usize,
     optional: bool,
@@ -169,7 +169,7 @@ fn blocks(
 ) -> State
     requires { ⌜ Asks (now src) (now ids) (now ends) s (now notes) (now events) (now errors) (now scratch) (now sets) ⌝ }
     ensures { λ r. ⌜
-        Reads entrypoint d optional blocks (source (now (src .entry)) (now (ids .entry)) (now (ends .entry))) s (now (notes .entry)) r (now (notes .exit))
+        Reads entrypoint d optional sections (source (now (src .entry)) (now (ids .entry)) (now (ends .entry))) s (now (notes .entry)) r (now (notes .exit))
         (bufs (now (events .entry)) (now (errors .entry)) (now (scratch .entry))) (bufs (now (events .exit)) (now (errors .exit)) (now (scratch .exit))) ⌝ }
 {
     s = metas(

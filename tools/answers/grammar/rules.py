@@ -13,4 +13,4 @@ MORE = {
     "condition": {"whole": "(then (node G.CONDITION-BLK ⨟ recover (k.R-BRACE ∷ [])))"},
     "boolean": {"grouped": ("(node G.BOOLEAN-EXPR)", "(recover (k.R-BRACE ∷ []))")},
 }
-FUNCTIONS = module("grammar", "rules", "head, blocks, any-rule-mods, tags, idents, more-idents, metas, meta-defs, more-metas, meta-value, patterns, condition, boolean", MORE, [("grammar", "patterns"), ("expressions", "expressions"), ("expressions", "tuples")])
+FUNCTIONS = module("grammar", "rules", "head, sections, any-rule-mods, tags, idents, more-idents, metas, meta-defs, more-metas, meta-value, patterns, condition, boolean", MORE, [("grammar", "patterns"), ("expressions", "expressions"), ("expressions", "tuples")])

@@ -1,4 +1,4 @@
--- Written from tools/answers/grammar/rules.py, digest c6e621689ed7.
+-- Written from tools/answers/grammar/rules.py, digest 42703ec0f9df.
 -- By its shape.
 use borrow.Author.Needs.{needs}
 use native.Mathlib.Omega.{arith}
@@ -20,7 +20,7 @@ use Rattle.notes.proofs.Sticky.{sticky-exec}
 use Rattle.steps.specs.Steps.{whole}
 use Rattle.steps.proofs.Branch as branch
 use Rattle.expressions.specs.Reads.{reads}
-use Rattle.grammar.specs.Parts.{head, blocks, any-rule-mods, tags, idents, more-idents, metas, meta-defs, more-metas, meta-value, patterns, condition, boolean}
+use Rattle.grammar.specs.Parts.{head, sections, any-rule-mods, tags, idents, more-idents, metas, meta-defs, more-metas, meta-value, patterns, condition, boolean}
 use Rattle.expressions.proofs.Cycle.{from, here, plus, plusE, plusB, plusP, asksE, asksS, stops, tries, lost-on, lost-back, waives, waived-on, waived-back, enters, passes, Turns, turns, turns-more, turns-undone, turns-over}
 use Rattle.expressions.proofs.Known.{bit-in, bit-in-still, known-hit, known-through, known-failed}
 use Rattle.expressions.proofs.Lines.{past-then, then-past, regroups, regrouped, begins, closes, makes, makes-none, plusT, goes, else, at-last}
@@ -28,9 +28,6 @@ use Rattle.grammar.proofs.rules.head.Statement.{statement}
 use Rattle.grammar.proofs.rules.head.Tie as tie
 use Rattle.grammar.proofs.rules.head.Reads as reads
 use Rattle.grammar.proofs.rules.head.Lts as lts
-use Rattle.grammar.proofs.rules.any_rule_mods.Reads as any-rule-mods-reads
-use Rattle.grammar.proofs.rules.tags.Reads as tags-reads
-use Rattle.steps.proofs.state.State.expect.Reads as expect-reads
 
 any-rule-mods-requires : tie.Need-any-rule-mods-requires
 any-rule-mods-requires c κs = ((c .before .before .before .before .before .before .before .before .before .before .pre .0), (from (source (c .before .before .before .before .before .before .before .before .before .before .args .src .now) (c .before .before .before .before .before .before .before .before .before .before .args .ids .now) (c .before .before .before .before .before .before .before .before .before .before .args .ends .now)) (whole (c .before .before .before .before .before .before .before .before .before .before .args .s) (c .before .before .before .before .before .before .before .before .before .before .args .notes .now)) (c .before .before .before .before .before .before .before .before .before .before .args .events .now) (c .before .before .before .before .before .before .before .before .before .before .args .errors .now) (c .before .before .before .before .before .before .before .before .before .before .args .scratch .now) (c .before .before .before .before .before .before .before .before .before .before .pre .1)) .wf, (c .before .before .before .before .before .before .before .before .before .before .pre .2))

@@ -1,4 +1,4 @@
--- Written from tools/answers/grammar/rules.py, digest 8e32a74e4e9e.
+-- Written from tools/answers/grammar/rules.py, digest 50b89062367d.
 -- By its shape.
 use borrow.Author.Needs.{needs}
 use native.Mathlib.Omega.{arith}
@@ -20,18 +20,14 @@ use Rattle.notes.proofs.Sticky.{sticky-exec}
 use Rattle.steps.specs.Steps.{whole}
 use Rattle.steps.proofs.Branch as branch
 use Rattle.expressions.specs.Reads.{reads}
-use Rattle.grammar.specs.Parts.{head, blocks, any-rule-mods, tags, idents, more-idents, metas, meta-defs, more-metas, meta-value, patterns, condition, boolean}
+use Rattle.grammar.specs.Parts.{head, sections, any-rule-mods, tags, idents, more-idents, metas, meta-defs, more-metas, meta-value, patterns, condition, boolean}
 use Rattle.expressions.proofs.Cycle.{from, here, plus, plusE, plusB, plusP, asksE, asksS, stops, tries, lost-on, lost-back, waives, waived-on, waived-back, enters, passes, Turns, turns, turns-more, turns-undone, turns-over}
 use Rattle.expressions.proofs.Known.{bit-in, bit-in-still, known-hit, known-through, known-failed}
 use Rattle.expressions.proofs.Lines.{past-then, then-past, regroups, regrouped, begins, closes, makes, makes-none, plusT, goes, else, at-last}
-use Rattle.grammar.proofs.rules.blocks.Statement.{statement}
-use Rattle.grammar.proofs.rules.blocks.Tie as tie
-use Rattle.grammar.proofs.rules.blocks.Reads as reads
-use Rattle.grammar.proofs.rules.blocks.Lts as lts
-use Rattle.grammar.proofs.rules.condition.Reads as condition-reads
-use Rattle.grammar.proofs.rules.metas.Reads as metas-reads
-use Rattle.grammar.proofs.rules.patterns.Reads as patterns-reads
-use Rattle.steps.proofs.state.State.expect.Reads as expect-reads
+use Rattle.grammar.proofs.rules.sections.Statement.{statement}
+use Rattle.grammar.proofs.rules.sections.Tie as tie
+use Rattle.grammar.proofs.rules.sections.Reads as reads
+use Rattle.grammar.proofs.rules.sections.Lts as lts
 
 metas-requires : tie.Need-metas-requires
 metas-requires c κs = ((c .before .before .before .before .before .before .before .before .before .before .pre .0), (from (source (c .before .before .before .before .before .before .before .before .before .before .args .src .now) (c .before .before .before .before .before .before .before .before .before .before .args .ids .now) (c .before .before .before .before .before .before .before .before .before .before .args .ends .now)) (whole (c .before .before .before .before .before .before .before .before .before .before .args .s) (c .before .before .before .before .before .before .before .before .before .before .args .notes .now)) (c .before .before .before .before .before .before .before .before .before .before .args .events .now) (c .before .before .before .before .before .before .before .before .before .before .args .errors .now) (c .before .before .before .before .before .before .before .before .before .before .args .scratch .now) (c .before .before .before .before .before .before .before .before .before .before .pre .1)) .wf, (c .before .before .before .before .before .before .before .before .before .before .pre .2))
@@ -58,8 +54,8 @@ returns : tie.Need-returns
 unfolding grammar kind namesOf
 returns c = (plusE (plus (plus (plus (from (source (c .before .before .before .before .before .before .before .before .before .before .before .before .before .before .before .before .before .before .before .before .before .before .before .before .before .before .before .before .before .before .before .before .before .before .before .before .before .before .before .before .before .before .before .before .args .src .now) (c .before .before .before .before .before .before .before .before .before .before .before .before .before .before .before .before .before .before .before .before .before .before .before .before .before .before .before .before .before .before .before .before .before .before .before .before .before .before .before .before .before .before .before .before .args .ids .now) (c .before .before .before .before .before .before .before .before .before .before .before .before .before .before .before .before .before .before .before .before .before .before .before .before .before .before .before .before .before .before .before .before .before .before .before .before .before .before .before .before .before .before .before .before .args .ends .now)) (whole (c .before .before .before .before .before .before .before .before .before .before .before .before .before .before .before .before .before .before .before .before .before .before .before .before .before .before .before .before .before .before .before .before .before .before .before .before .before .before .before .before .before .before .before .before .args .s) (c .before .before .before .before .before .before .before .before .before .before .before .before .before .before .before .before .before .before .before .before .before .before .before .before .before .before .before .before .before .before .before .before .before .before .before .before .before .before .before .before .before .before .before .before .args .notes .now)) (c .before .before .before .before .before .before .before .before .before .before .before .before .before .before .before .before .before .before .before .before .before .before .before .before .before .before .before .before .before .before .before .before .before .before .before .before .before .before .before .before .before .before .before .before .args .events .now) (c .before .before .before .before .before .before .before .before .before .before .before .before .before .before .before .before .before .before .before .before .before .before .before .before .before .before .before .before .before .before .before .before .before .before .before .before .before .before .before .before .before .before .before .before .args .errors .now) (c .before .before .before .before .before .before .before .before .before .before .before .before .before .before .before .before .before .before .before .before .before .before .before .before .before .before .before .before .before .before .before .before .before .before .before .before .before .before .before .before .before .before .before .before .args .scratch .now) (c .before .before .before .before .before .before .before .before .before .before .before .before .before .before .before .before .before .before .before .before .before .before .before .before .before .before .before .before .before .before .before .before .before .before .before .before .before .before .before .before .before .before .before .before .pre .1)) (c .before .before .before .before .before .before .before .before .before .before .before .before .before .before .before .before .before .before .before .before .before .before .before .before .before .before .before .before .before .before .before .before .before .metas .ensures)) (c .before .before .before .before .before .before .before .before .before .before .before .before .before .before .before .before .before .before .before .before .before .before .patterns .ensures)) (c .before .before .before .before .before .before .before .before .before .before .before .condition .ensures)) (c .before .before .expect .ensures (c .before .before .before .before .before .before .before .before .before .before .before .before .before .before .before .before .before .before .before .before .before .before .before .before .before .before .before .before .before .before .before .before .before .before .before .before .before .before .before .before .before .before .before .before .args .src .now)))
 
-pub blocks-spec : {M : Type 1} → statement M
-blocks-spec =
+pub sections-spec : {M : Type 1} → statement M
+sections-spec =
     tie.close
     (tie.spec
     metas-requires
