@@ -10,7 +10,7 @@ use Rattle.items.proofs.at_hand.Tie as tie
 use Rattle.items.proofs.at_hand.Reads as reads
 use Rattle.items.proofs.at_hand.Lts as lts
 use Rattle.items.proofs.stray.Reads as stray-reads
-use Rattle.grammar.proofs.parts.read_item.Reads as read-item-reads
+use Rattle.grammar.proofs.rules.read_item.Reads as read-item-reads
 use Rattle.kinds.proofs.within.Reads as within-reads
 
 returns : tie.Need-returns

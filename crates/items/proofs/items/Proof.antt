@@ -17,10 +17,10 @@ use Rattle.items.proofs.item.Reads as item-reads
 use Rattle.items.proofs.over.Reads as over-reads
 
 abbrev Inv-loop : tie.InvT-loop
-Inv-loop d₀ depth src ids ends events₀ errors₀ scratch₀ notes₀ table sets n₀ d events errors scratch notes n = Goes (depth, allowed table) 1 (length ids - n) (source src ids ends) (tally d₀ notes₀) (tally d notes) (bufs events₀ errors₀ scratch₀) (bufs events errors scratch) × (n ≤ length ids) × (length events ≡ length events₀) × (length errors ≡ length errors₀) × (length scratch ≡ length scratch₀)
+Inv-loop d₀ depth src ids ends events₀ errors₀ scratch₀ notes₀ entrypoint sets n₀ d events errors scratch notes n = Goes (depth, allowed table) 1 (length ids - n) (source src ids ends) (tally d₀ notes₀) (tally d notes) (bufs events₀ errors₀ scratch₀) (bufs events errors scratch) × (n ≤ length ids) × (length events ≡ length events₀) × (length errors ≡ length errors₀) × (length scratch ≡ length scratch₀)
 
 abbrev μ-loop : tie.MeasureT-loop
-μ-loop d₀ depth src ids ends events₀ errors₀ scratch₀ notes₀ table sets n₀ d events errors scratch notes n = n
+μ-loop d₀ depth src ids ends events₀ errors₀ scratch₀ notes₀ entrypoint sets n₀ d events errors scratch notes n = n
 
 loop-holds : tie.Need-loop-holds Inv-loop μ-loop
 loop-holds c = (goes-as 0 (length (c .before .before .before .before .before .before .args .ids .now) - length (c .before .before .before .before .before .before .args .ids .now)) (omega arith) (items-none 1 (c .before .before .before .before .before .before .pre .1) (c .before .before .before .before .before .before .pre .2)), omega arith, refl, refl, refl)

@@ -8,15 +8,11 @@ use Rattle.desk.proofs.read.items_by.Statement.{statement}
 use Rattle.desk.proofs.read.items_by.Tie as tie
 use Rattle.desk.proofs.read.items_by.Reads as reads
 use Rattle.desk.proofs.read.items_by.Lts as lts
-use Rattle.desk.proofs.read.lines_by.Reads as lines-by-reads
 use Rattle.desk.proofs.read.set_words.Reads as set-words-reads
 use Rattle.items.proofs.items.Reads as items-reads
 
 cast-depth : tie.Need-cast-depth
 cast-depth c = search needs
-
-lines-by-requires : tie.Need-lines-by-requires
-lines-by-requires c κs = search needs
 
 set-words-requires : tie.Need-set-words-requires
 set-words-requires c κs = search needs
@@ -41,7 +37,6 @@ items-by-spec =
     tie.close
     (tie.spec
     cast-depth
-    lines-by-requires
     set-words-requires
     items-requires
     same-length
