@@ -1,8 +1,5 @@
--- Written from tools/answers/desk/items_by.py, digest 691eb8ca732b.
+-- Written from tools/answers/desk/items_by.py, digest f5d872ab2762.
 -- The items are read by the limits, and the sets' words are those that are lent.
-use mathlib.Core.Path.{ap}
-use mathlib.Core.Bool.{Bool}
-use Rattle.desk.proofs.Framing.{goes-by}
 use borrow.Author.Needs.{needs}
 use Rattle.desk.proofs.read.items_by.Statement.{statement}
 use Rattle.desk.proofs.read.items_by.Tie as tie
@@ -18,7 +15,7 @@ set-words-requires : tie.Need-set-words-requires
 set-words-requires c κs = search needs
 
 items-requires : tie.Need-items-requires
-items-requires c κs = (c .before .before .before .before .before .before .before .before .before .before .before .before .before .before .before .pre .0, c .before .before .before .before .before .before .before .before .before .before .before .before .before .before .before .pre .1, c .before .before .before .before .before .before .before .before .before .before .before .before .before .before .before .pre .2, (c .before .before .before .before .before .before .before .lines-by .ensures .0, c .before .before .before .before .before .before .set-words .ensures))
+items-requires c κs = (c .before .before .before .before .before .before .before .before .before .before .before .before .before .pre .0, c .before .before .before .before .before .before .before .before .before .before .before .before .before .pre .1, c .before .before .before .before .before .before .before .before .before .before .before .before .before .pre .2, c .before .before .before .before .before .set-words .ensures)
 
 same-length : tie.Need-same-length
 same-length c = search needs
@@ -30,7 +27,7 @@ same-length-3 : tie.Need-same-length-3
 same-length-3 c = search needs
 
 returns : tie.Need-returns
-returns c = goes-by (ap (λ (e : Bool). (c .before .before .before .before .before .before .before .before .before .before .before .before .before .before .before .before .before .before .before .before .before .before .args .limits .depth, e)) (c .before .before .before .before .before .before .before .before .before .before .before .before .before .before .lines-by .ensures .1)) (c .before .before .before .before .before .before .items .ensures)
+returns c = c .before .before .before .before .before .before .items .ensures
 
 pub items-by-spec : {M : Type 1} → statement M
 items-by-spec =
