@@ -337,7 +337,8 @@ class Walk:
                 line = f"(stops {self.D} {E} {self.depth} {self.optional} {self.f['rest']} tt ({{{stop}}} .taken))"
                 ends(f"makes {opens} {some} {line}", self.D)
                 del lines[:3]
-                self.D = self.f["after"](self, lines, f"({{{stop}}} .left)")
+                if "after" in self.f:
+                    self.D = self.f["after"](self, lines, f"({{{stop}}} .left)")
                 continue
             self.D = self.statement(lines.pop(0))
         ends(f"makes {opens} {some} {self.D}", self.D)
@@ -410,14 +411,21 @@ class Walk:
         self.need("mark-requires", "search needs")
         m = f"({{{mark}}} .ensures {self.notes})"
         lines.pop(0)
-        while lines[0].startswith("s = "):
-            self.D = self.statement(lines.pop(0))
-        moved = [b for b in LISTS if any(b in self.params(t) for t, _ in self.touched)]
+        called = [found.group(1) for found in (re.match(r"s = (?:s\.)?(\w+)\(", line) for line in lines) if found]
+        moved = [b for b in LISTS if any(b in self.params(thing) for thing in called)]
         before = [f"{inv} .{b}" if b in moved else None for b in LISTS]
-        test = self.place("if")
-        self.need("undone-requires", "search needs")
         more = "({loop-test} .taken)"
-        self.returns(f"turns-undone {inv} {more} {self.D} ({{{test}}} .taken) {m} ({{undone}} .ensures {self.notes})", before)
+        while True:
+            while lines[0].startswith("s = "):
+                self.D = self.statement(lines.pop(0))
+            test, undone = self.place("if"), self.place("undone")
+            self.need("undone-requires", "search needs")
+            over = not lines[3].startswith("s = ")
+            done = self.D if over else f"(stops {self.D} {way} true {self.f['rest']} ({{{test}}} .taken))"
+            self.returns(f"turns-undone {inv} {more} {done} ({{{test}}} .taken) {m} ({{{undone}}} .ensures {self.notes})", before)
+            if over:
+                break
+            del lines[:3]
         self.need("sub-n", "omega (arith, {loop-test} .taken)")
         self.need("loop-less", "omega (arith, {loop-test} .taken)")
         kept = [" ∙ ".join(f"{{{p}}} .kept" + " .1" * self.params(t).index(b) + " .0" for t, p in reversed(self.touched) if b in self.params(t)) or "refl" for b in LISTS]

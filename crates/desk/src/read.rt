@@ -83,7 +83,7 @@ fn blank(fuel: u32, evcap: usize) -> Desk
 }
 
 // "Outcome 0 is done, 1 out of fuel, 2 too deep."
-fn outcome(mode: u8) -> u32
+fn outcome(mode: u16) -> u32
     ensures { λ r. ⌜ r ≡ outcomeOf mode ⌝ }
 {
     if mode < mode::SPENT {

@@ -7,7 +7,7 @@ use Rattle.definition.specs.Prog.{Prog, EXPR, TERM, RANGE, PRIMARY-EXPR, BOOLEA
 use Rattle.definition.specs.Grammar.{one, named, cond, at-or-in, them}
 use Rattle.notes.specs.Means.{namesOf}
 use Rattle.expr.specs.declared.Item.{Item}
-use Rattle.expr.specs.declared.Item.the-variants.{Ident, Term, Expr, PrimaryExpr, BooleanTerm, BooleanExpr, WithDecl}
+use Rattle.expr.specs.declared.Item.the-variants.{Ident, Term, Expr, PrimaryExpr, BooleanTerm, BooleanExpr}
 
 -- what a repetition reads behind each separator
 abbrev pub itemOf : Item → Prog
@@ -17,7 +17,6 @@ itemOf Expr = then (memo EXPR)
 itemOf PrimaryExpr = then (node PRIMARY-EXPR)
 itemOf BooleanTerm = then (node BOOLEAN-TERM)
 itemOf BooleanExpr = then (node BOOLEAN-EXPR)
-itemOf WithDecl = node WITH-DECL
 
 abbrev pub listed : ℕ → ℕ → Item → Prog
 listed sep code i = many (eat (setOf sep) (namesOf code) ⨟ itemOf i)
@@ -61,3 +60,7 @@ which = (them ⨟ place) / last (node BOOLEAN-EXPR-TUPLE ⨟ unless (k.AT-KW ∷
 
 abbrev pub body : Prog
 body = one k.COLON ⨟ one k.L-PAREN ⨟ then (node BOOLEAN-EXPR ⨟ recover (k.R-PAREN ∷ [])) ⨟ one k.R-PAREN
+
+-- of WITH_DECLS
+abbrev pub more-decls : Prog
+more-decls = many (one k.COMMA ⨟ node WITH-DECL)

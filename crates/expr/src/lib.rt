@@ -14,7 +14,7 @@ ghost use Rattle.definition.specs.Prog as G;
 ghost use Rattle.definition.specs.Grammar.{grammar};
 ghost use Rattle.notes.specs.Means.{source, bufs};
 ghost use Rattle.parts.specs.Reads.{Asks, Reads};
-ghost use Rattle.expr.specs.Parts.{signed, dotted, in-range, index, args, quantified, compared, place, over, body, which, itemOf, listed};
+ghost use Rattle.expr.specs.Parts.{signed, dotted, in-range, index, args, quantified, compared, place, over, body, which, itemOf, listed, more-decls};
 
 // The codes of the names "expression" and "operator".
 const EXPRESSION: usize = 55;
@@ -29,7 +29,6 @@ pub enum Item {
     PrimaryExpr,
     BooleanTerm,
     BooleanExpr,
-    WithDecl,
 }
 
 // EXPR, which is not read again where it failed before.
@@ -968,6 +967,20 @@ fn call(
     let below = d - 1;
     s = s.expect(set::IDENT, set::IDENT, ids, ends, events, notes, sets);
     s = s.expect(set::L_PAREN, set::L_PAREN, ids, ends, events, notes, sets);
+    if s.mode != mode::OK {
+        return s.end(
+            kind::FUNC_CALL,
+            from,
+            at,
+            optional,
+            src,
+            ids,
+            ends,
+            events,
+            errors,
+            notes,
+        );
+    }
     s = list(
         s,
         below,
@@ -1618,6 +1631,20 @@ fn for_expr(
     }
     let below = d - 1;
     s = s.expect(set::FOR_KW, EXPRESSION, ids, ends, events, notes, sets);
+    if s.mode != mode::OK {
+        return s.end(
+            kind::FOR_EXPR,
+            from,
+            at,
+            optional,
+            src,
+            ids,
+            ends,
+            events,
+            errors,
+            notes,
+        );
+    }
     s = quant(
         s,
         below,
@@ -1739,7 +1766,7 @@ fn over(
         sets,
     );
     s = s.expect(set::IN_KW, set::IN_KW, ids, ends, events, notes, sets);
-    s = iterable(
+    s = iter(
         s,
         d,
         true,
@@ -2166,10 +2193,7 @@ fn decls(
         notes,
         sets,
     );
-    s = more(
-        set::COMMA,
-        set::COMMA,
-        Item::WithDecl,
+    s = and(
         s,
         below,
         entrypoint,
@@ -2194,6 +2218,56 @@ fn decls(
         errors,
         notes,
     )
+}
+
+// (COMMA WITH_DECL)*
+fn and(
+    mut s: State,
+    d: usize,
+    entrypoint: bool,
+    src: &[u8],
+    ids: &[u32],
+    ends: &[u32],
+    events: &mut [u32],
+    errors: &mut [u32],
+    scratch: &mut [u64],
+    notes: &mut [usize; 69],
+    sets: &[[u64; 2]; 56],
+) -> State
+    requires { ⌜ Asks (now src) (now ids) (now ends) s (now notes) (now events) (now errors) (now scratch) (now sets) ⌝ }
+    ensures { λ r. ⌜
+        Reads entrypoint d true more-decls (source (now (src .entry)) (now (ids .entry)) (now (ends .entry)))
+        s (now (notes .entry)) r (now (notes .exit))
+        (bufs (now (events .entry)) (now (errors .entry)) (now (scratch .entry))) (bufs (now (events .exit)) (now (errors .exit)) (now (scratch .exit))) ⌝ }
+{
+    if s.mode != mode::OK {
+        return s;
+    }
+    let mut n = ids.len() - s.pos + 1;
+    while n > 0 {
+        let m = s.mark();
+        s = s.trivia(ids, ends, events);
+        s = s.expect(set::COMMA, set::COMMA, ids, ends, events, notes, sets);
+        s = decl(
+            s,
+            d,
+            true,
+            entrypoint,
+            src,
+            ids,
+            ends,
+            events,
+            errors,
+            scratch,
+            notes,
+            sets,
+        );
+        if s.mode != mode::OK {
+            return s.undone(m);
+        }
+        n -= 1;
+    }
+    s
 }
 
 // WITH_DECL <- IDENT EQUAL EXPR
@@ -2419,7 +2493,7 @@ fn how(
 }
 
 // ITERABLE <- RANGE / EXPR_TUPLE / EXPR
-fn iterable(
+fn iter(
     mut s: State,
     d: usize,
     optional: bool,
@@ -2778,6 +2852,9 @@ fn more(
         let m = s.mark();
         s = s.trivia(ids, ends, events);
         s = s.expect(sep, code, ids, ends, events, notes, sets);
+        if s.mode != mode::OK {
+            return s.undone(m);
+        }
         s = each(
             item,
             s,
@@ -2880,20 +2957,6 @@ fn each(
             sets,
         ),
         Item::BooleanExpr => bool_expr(
-            s,
-            d,
-            true,
-            entrypoint,
-            src,
-            ids,
-            ends,
-            events,
-            errors,
-            scratch,
-            notes,
-            sets,
-        ),
-        Item::WithDecl => decl(
             s,
             d,
             true,
