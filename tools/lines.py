@@ -122,7 +122,7 @@ def comment(reads, short, lines):
     memo = re.fullmatch(r"\(then \(memo G\.([A-Z-]+)\)\)", reads)
     if memo:
         return memo.group(1).replace("-", "_") + ", which is not read again where it failed before."
-    whole = re.fullmatch(r"\(grammar entrypoint G\.([A-Z-]+)\)", reads)
+    whole = re.fullmatch(r"\(grammar ep G\.([A-Z-]+)\)", reads)
     if whole:
         return "The alternatives of " + whole.group(1).replace("-", "_") + "."
     return said(opened((reads, []), short)) if reads in short else None
@@ -130,7 +130,7 @@ def comment(reads, short, lines):
 
 def written(text, short, lines):
     def one(m):
-        reads = re.search(r"Reads entrypoint d \w+ (\(.*?\)|\S+)\s+\(source", m.group(2))
+        reads = re.search(r"Reads ep d \w+ (\(.*?\)|\S+)\s+\(source", m.group(2))
         line = reads and comment(reads.group(1), short, lines)
         if not line:
             return m.group(0)

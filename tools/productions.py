@@ -9,20 +9,22 @@ from pathlib import Path
 ROOT = Path(__file__).resolve().parent.parent
 
 X = "(source ({args} .src .now) ({args} .ids .now) ({args} .ends .now))"
-S, E, O, DEPTH = "({args} .src .now)", "({args} .entrypoint)", "({args} .optional)", "({args} .d)"
+S, E, O, DEPTH = "({args} .src .now)", "({args} .ep)", "({args} .may)", "({args} .d)"
 # the parameters of a step or a function, by which the lists that it was lent are found again
 STEPS = {
-    "trivia": "self ids ends events",
-    "expect": "self set code ids ends events notes sets",
-    "unless": "self set ids ends events notes sets",
-    "begin": "self d ids ends events",
-    "end": "self kind from at optional src ids ends events errors notes",
-    "recover": "self d optional set src ids ends events errors notes sets",
+    "trivia": "self ids ends ev",
+    "expect": "self set code ids ends ev notes sets",
+    "unless": "self set ids ends ev notes sets",
+    "begin": "self d ids ends ev",
+    "end": "self kind from at may src ids ends ev er notes",
+    "recover": "self d may set src ids ends ev er notes sets",
     "pass": "self set ids notes",
-    "remembers": "bit scratch notes",
-    "seen": "bit scratch",
+    "remembers": "bit sc notes",
+    "seen": "bit sc",
 }
-LISTS = ["events", "errors", "scratch"]
+LISTS = ["ev", "er", "sc"]
+# what the record of a repetition calls their lengths
+LENGTH = {"ev": "events", "er": "errors", "sc": "scratch"}
 
 
 def functions(crate, module):
@@ -31,7 +33,7 @@ def functions(crate, module):
     found = {}
     for m in re.finditer(r"^(?:pub )?fn (\w+)\(([^)]*)\) -> State\n(.*?)^\{\n(.*?)^\}", text, flags=re.M | re.S):
         name, params, contract, body = m.groups()
-        promise = re.search(r"Reads entrypoint d (\w+) (\(.*?\)|\S+)\s+\(source", contract)
+        promise = re.search(r"Reads ep d (\w+) (\(.*?\)|\S+)\s+\(source", contract)
         if not promise:
             continue
         promise = promise.groups()
@@ -41,7 +43,7 @@ def functions(crate, module):
         found[name] = {
             "params": [p.split(":")[0].replace("mut ", "").strip() for p in params.split(",") if p.strip()],
             "optional": promise[0],
-            "reads": promise[1].replace("entrypoint", E),
+            "reads": promise[1].replace(" ep ", f" {E} "),
             "lines": [line.strip() for line in body.split("\n") if line.strip() and not line.strip().startswith("//")],
         }
     return found
@@ -57,7 +59,7 @@ class Walk:
         if self.f["params"][0] in ("sep", "set"):
             self.code, pre = f"({pre} .1)", f"{pre} .0"
         self.rows, self.wf, self.tabled = f"({pre} .0)", f"({pre} .1)", f"({pre} .2)"
-        self.optional = O if self.f["optional"] == "optional" else "true"
+        self.optional = O if self.f["optional"] == "may" else "true"
         self.depth = DEPTH
         self.counts, self.needs, self.answers = {}, {}, {}
         self.touched = []
@@ -413,7 +415,7 @@ class Walk:
         lines.pop(0)
         called = [found.group(1) for found in (re.match(r"s = (?:s\.)?(\w+)\(", line) for line in lines) if found]
         moved = [b for b in LISTS if any(b in self.params(thing) for thing in called)]
-        before = [f"{inv} .{b}" if b in moved else None for b in LISTS]
+        before = [f"{inv} .{LENGTH[b]}" if b in moved else None for b in LISTS]
         more = "({loop-test} .taken)"
         while True:
             while lines[0].startswith("s = "):
@@ -433,7 +435,7 @@ class Walk:
         self.touched = []
         self.returns(f"turns-over {inv} ({{loop-test}} .left)", before)
         self.held = {
-            "Inv-loop": f"Turns (reads entrypoint d true {self.f.get('held', part)}) (source src ids ends) (whole s₀ notes₀) (whole s notes) n₀ n "
+            "Inv-loop": f"Turns (reads ep d true {self.f.get('held', part)}) (source src ids ends) (whole s₀ notes₀) (whole s notes) n₀ n "
             + " ".join(b + "₀" if b in moved else b for b in LISTS) + " " + " ".join(LISTS),
             "μ-loop": "n",
         }

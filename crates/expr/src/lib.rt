@@ -1,4 +1,5 @@
-// The productions of expressions, each under its own name. They call one another: what falls is d, the nodes that may still be opened.
+// The productions of expressions, each under its own name. They call one another: what falls is d, the nodes that may still be opened. What they are handed
+// is told in crate `parts`.
 use kinds::kind;
 use kinds::set;
 use notes::cache::remembers;
@@ -35,50 +36,37 @@ pub enum Item {
 fn expr(
     mut s: State,
     d: usize,
-    optional: bool,
-    entrypoint: bool,
+    may: bool,
+    ep: bool,
     src: &[u8],
     ids: &[u32],
     ends: &[u32],
-    events: &mut [u32],
-    errors: &mut [u32],
-    scratch: &mut [u64],
+    ev: &mut [u32],
+    er: &mut [u32],
+    sc: &mut [u64],
     notes: &mut [usize; 69],
     sets: &[[u64; 2]; 56],
 ) -> State
-    requires { ⌜ Asks (now src) (now ids) (now ends) s (now notes) (now events) (now errors) (now scratch) (now sets) ⌝ }
+    requires { ⌜ Asks (now src) (now ids) (now ends) s (now notes) (now ev) (now er) (now sc) (now sets) ⌝ }
     ensures { λ r. ⌜
-        Reads entrypoint d optional (then (memo G.EXPR)) (source (now (src .entry)) (now (ids .entry)) (now (ends .entry)))
+        Reads ep d may (then (memo G.EXPR)) (source (now (src .entry)) (now (ids .entry)) (now (ends .entry)))
         s (now (notes .entry)) r (now (notes .exit))
-        (bufs (now (events .entry)) (now (errors .entry)) (now (scratch .entry))) (bufs (now (events .exit)) (now (errors .exit)) (now (scratch .exit))) ⌝ }
+        (bufs (now (ev .entry)) (now (er .entry)) (now (sc .entry))) (bufs (now (ev .exit)) (now (er .exit)) (now (sc .exit))) ⌝ }
 {
     if s.mode != mode::OK {
         return s;
     }
-    s = s.trivia(ids, ends, events);
+    s = s.trivia(ids, ends, ev);
     let bit = 2 * s.pos;
-    if seen(bit, scratch) {
+    if seen(bit, sc) {
         s.mode = mode::FAILED;
         return s;
     }
-    s = sum(
-        s,
-        d,
-        optional,
-        entrypoint,
-        src,
-        ids,
-        ends,
-        events,
-        errors,
-        scratch,
-        notes,
-        sets,
-    );
+    s = sum(s, d, may, ep, src, ids, ends, ev, er, sc, notes, sets);
     if s.mode != mode::FAILED {
         return s;
     }
-    remembers(bit, scratch, notes);
+    remembers(bit, sc, notes);
     s
 }
 
@@ -86,133 +74,85 @@ fn expr(
 fn sum(
     mut s: State,
     d: usize,
-    optional: bool,
-    entrypoint: bool,
+    may: bool,
+    ep: bool,
     src: &[u8],
     ids: &[u32],
     ends: &[u32],
-    events: &mut [u32],
-    errors: &mut [u32],
-    scratch: &mut [u64],
+    ev: &mut [u32],
+    er: &mut [u32],
+    sc: &mut [u64],
     notes: &mut [usize; 69],
     sets: &[[u64; 2]; 56],
 ) -> State
-    requires { ⌜ Asks (now src) (now ids) (now ends) s (now notes) (now events) (now errors) (now scratch) (now sets) ⌝ }
+    requires { ⌜ Asks (now src) (now ids) (now ends) s (now notes) (now ev) (now er) (now sc) (now sets) ⌝ }
     ensures { λ r. ⌜
-        Reads entrypoint d optional (node G.EXPR) (source (now (src .entry)) (now (ids .entry)) (now (ends .entry)))
+        Reads ep d may (node G.EXPR) (source (now (src .entry)) (now (ids .entry)) (now (ends .entry)))
         s (now (notes .entry)) r (now (notes .exit))
-        (bufs (now (events .entry)) (now (errors .entry)) (now (scratch .entry))) (bufs (now (events .exit)) (now (errors .exit)) (now (scratch .exit))) ⌝ }
+        (bufs (now (ev .entry)) (now (er .entry)) (now (sc .entry))) (bufs (now (ev .exit)) (now (er .exit)) (now (sc .exit))) ⌝ }
 {
-    s = s.begin(d, ids, ends, events);
+    s = s.begin(d, ids, ends, ev);
     let from = s.pos;
     let at = s.ev;
     if d == 0 {
-        return s.end(
-            kind::EXPR,
-            from,
-            at,
-            optional,
-            src,
-            ids,
-            ends,
-            events,
-            errors,
-            notes,
-        );
+        return s.end(kind::EXPR, from, at, may, src, ids, ends, ev, er, notes);
     }
     let below = d - 1;
-    s = term(
-        s,
-        below,
-        optional,
-        entrypoint,
-        src,
-        ids,
-        ends,
-        events,
-        errors,
-        scratch,
-        notes,
-        sets,
-    );
+    s = term(s, below, may, ep, src, ids, ends, ev, er, sc, notes, sets);
     s = more(
         set::ARITHMETIC,
         OPERATOR,
         Item::Term,
         s,
         below,
-        entrypoint,
+        ep,
         src,
         ids,
         ends,
-        events,
-        errors,
-        scratch,
+        ev,
+        er,
+        sc,
         notes,
         sets,
     );
-    s.end(
-        kind::EXPR,
-        from,
-        at,
-        optional,
-        src,
-        ids,
-        ends,
-        events,
-        errors,
-        notes,
-    )
+    s.end(kind::EXPR, from, at, may, src, ids, ends, ev, er, notes)
 }
 
 // TERM, which is not read again where it failed before.
 fn term(
     mut s: State,
     d: usize,
-    optional: bool,
-    entrypoint: bool,
+    may: bool,
+    ep: bool,
     src: &[u8],
     ids: &[u32],
     ends: &[u32],
-    events: &mut [u32],
-    errors: &mut [u32],
-    scratch: &mut [u64],
+    ev: &mut [u32],
+    er: &mut [u32],
+    sc: &mut [u64],
     notes: &mut [usize; 69],
     sets: &[[u64; 2]; 56],
 ) -> State
-    requires { ⌜ Asks (now src) (now ids) (now ends) s (now notes) (now events) (now errors) (now scratch) (now sets) ⌝ }
+    requires { ⌜ Asks (now src) (now ids) (now ends) s (now notes) (now ev) (now er) (now sc) (now sets) ⌝ }
     ensures { λ r. ⌜
-        Reads entrypoint d optional (then (memo G.TERM)) (source (now (src .entry)) (now (ids .entry)) (now (ends .entry)))
+        Reads ep d may (then (memo G.TERM)) (source (now (src .entry)) (now (ids .entry)) (now (ends .entry)))
         s (now (notes .entry)) r (now (notes .exit))
-        (bufs (now (events .entry)) (now (errors .entry)) (now (scratch .entry))) (bufs (now (events .exit)) (now (errors .exit)) (now (scratch .exit))) ⌝ }
+        (bufs (now (ev .entry)) (now (er .entry)) (now (sc .entry))) (bufs (now (ev .exit)) (now (er .exit)) (now (sc .exit))) ⌝ }
 {
     if s.mode != mode::OK {
         return s;
     }
-    s = s.trivia(ids, ends, events);
+    s = s.trivia(ids, ends, ev);
     let bit = 2 * s.pos + 1;
-    if seen(bit, scratch) {
+    if seen(bit, sc) {
         s.mode = mode::FAILED;
         return s;
     }
-    s = unit(
-        s,
-        d,
-        optional,
-        entrypoint,
-        src,
-        ids,
-        ends,
-        events,
-        errors,
-        scratch,
-        notes,
-        sets,
-    );
+    s = unit(s, d, may, ep, src, ids, ends, ev, er, sc, notes, sets);
     if s.mode != mode::FAILED {
         return s;
     }
-    remembers(bit, scratch, notes);
+    remembers(bit, sc, notes);
     s
 }
 
@@ -221,340 +161,177 @@ fn term(
 fn unit(
     mut s: State,
     d: usize,
-    optional: bool,
-    entrypoint: bool,
+    may: bool,
+    ep: bool,
     src: &[u8],
     ids: &[u32],
     ends: &[u32],
-    events: &mut [u32],
-    errors: &mut [u32],
-    scratch: &mut [u64],
+    ev: &mut [u32],
+    er: &mut [u32],
+    sc: &mut [u64],
     notes: &mut [usize; 69],
     sets: &[[u64; 2]; 56],
 ) -> State
-    requires { ⌜ Asks (now src) (now ids) (now ends) s (now notes) (now events) (now errors) (now scratch) (now sets) ⌝ }
+    requires { ⌜ Asks (now src) (now ids) (now ends) s (now notes) (now ev) (now er) (now sc) (now sets) ⌝ }
     ensures { λ r. ⌜
-        Reads entrypoint d optional (node G.TERM) (source (now (src .entry)) (now (ids .entry)) (now (ends .entry)))
+        Reads ep d may (node G.TERM) (source (now (src .entry)) (now (ids .entry)) (now (ends .entry)))
         s (now (notes .entry)) r (now (notes .exit))
-        (bufs (now (events .entry)) (now (errors .entry)) (now (scratch .entry))) (bufs (now (events .exit)) (now (errors .exit)) (now (scratch .exit))) ⌝ }
+        (bufs (now (ev .entry)) (now (er .entry)) (now (sc .entry))) (bufs (now (ev .exit)) (now (er .exit)) (now (sc .exit))) ⌝ }
 {
-    s = s.begin(d, ids, ends, events);
+    s = s.begin(d, ids, ends, ev);
     let from = s.pos;
     let at = s.ev;
     if d == 0 {
-        return s.end(
-            kind::TERM,
-            from,
-            at,
-            optional,
-            src,
-            ids,
-            ends,
-            events,
-            errors,
-            notes,
-        );
+        return s.end(kind::TERM, from, at, may, src, ids, ends, ev, er, notes);
     }
     let below = d - 1;
-    s = lit(
-        s,
-        below,
-        optional,
-        entrypoint,
-        src,
-        ids,
-        ends,
-        events,
-        errors,
-        scratch,
-        notes,
-        sets,
-    );
-    s.end(
-        kind::TERM,
-        from,
-        at,
-        optional,
-        src,
-        ids,
-        ends,
-        events,
-        errors,
-        notes,
-    )
+    s = lit(s, below, may, ep, src, ids, ends, ev, er, sc, notes, sets);
+    s.end(kind::TERM, from, at, may, src, ids, ends, ev, er, notes)
 }
 
 // The alternatives of TERM.
 fn lit(
     mut s: State,
     d: usize,
-    optional: bool,
-    entrypoint: bool,
+    may: bool,
+    ep: bool,
     src: &[u8],
     ids: &[u32],
     ends: &[u32],
-    events: &mut [u32],
-    errors: &mut [u32],
-    scratch: &mut [u64],
+    ev: &mut [u32],
+    er: &mut [u32],
+    sc: &mut [u64],
     notes: &mut [usize; 69],
     sets: &[[u64; 2]; 56],
 ) -> State
-    requires { ⌜ Asks (now src) (now ids) (now ends) s (now notes) (now events) (now errors) (now scratch) (now sets) ⌝ }
+    requires { ⌜ Asks (now src) (now ids) (now ends) s (now notes) (now ev) (now er) (now sc) (now sets) ⌝ }
     ensures { λ r. ⌜
-        Reads entrypoint d optional (grammar entrypoint G.TERM) (source (now (src .entry)) (now (ids .entry)) (now (ends .entry)))
+        Reads ep d may (grammar ep G.TERM) (source (now (src .entry)) (now (ids .entry)) (now (ends .entry)))
         s (now (notes .entry)) r (now (notes .exit))
-        (bufs (now (events .entry)) (now (errors .entry)) (now (scratch .entry))) (bufs (now (events .exit)) (now (errors .exit)) (now (scratch .exit))) ⌝ }
+        (bufs (now (ev .entry)) (now (er .entry)) (now (sc .entry))) (bufs (now (ev .exit)) (now (er .exit)) (now (sc .exit))) ⌝ }
 {
     if s.mode != mode::OK {
         return s;
     }
     let m = s.mark();
-    s = s.trivia(ids, ends, events);
-    s = s.expect(
-        literals(entrypoint),
-        EXPRESSION,
-        ids,
-        ends,
-        events,
-        notes,
-        sets,
-    );
+    s = s.trivia(ids, ends, ev);
+    s = s.expect(literals(ep), EXPRESSION, ids, ends, ev, notes, sets);
     if s.mode != mode::FAILED {
         return s;
     }
     s = s.rewind(m);
     s.mode = mode::OK;
-    s = s.trivia(ids, ends, events);
-    s = s.expect(
-        set::PATTERN_COUNT,
-        EXPRESSION,
-        ids,
-        ends,
-        events,
-        notes,
-        sets,
-    );
-    s = span(
-        s,
-        d,
-        true,
-        entrypoint,
-        src,
-        ids,
-        ends,
-        events,
-        errors,
-        scratch,
-        notes,
-        sets,
-    );
+    s = s.trivia(ids, ends, ev);
+    s = s.expect(set::PATTERN_COUNT, EXPRESSION, ids, ends, ev, notes, sets);
+    s = span(s, d, true, ep, src, ids, ends, ev, er, sc, notes, sets);
     if s.mode != mode::FAILED {
         return s;
     }
     s = s.rewind(m);
     s.mode = mode::OK;
-    s = s.trivia(ids, ends, events);
-    s = s.expect(
-        set::PATTERN_PLACE,
-        EXPRESSION,
-        ids,
-        ends,
-        events,
-        notes,
-        sets,
-    );
-    s = nth(
-        s,
-        d,
-        true,
-        entrypoint,
-        src,
-        ids,
-        ends,
-        events,
-        errors,
-        scratch,
-        notes,
-        sets,
-    );
+    s = s.trivia(ids, ends, ev);
+    s = s.expect(set::PATTERN_PLACE, EXPRESSION, ids, ends, ev, notes, sets);
+    s = nth(s, d, true, ep, src, ids, ends, ev, er, sc, notes, sets);
     if s.mode != mode::FAILED {
         return s;
     }
     s = s.rewind(m);
     s.mode = mode::OK;
-    sign(
-        s,
-        d,
-        optional,
-        entrypoint,
-        src,
-        ids,
-        ends,
-        events,
-        errors,
-        scratch,
-        notes,
-        sets,
-    )
+    sign(s, d, may, ep, src, ids, ends, ev, er, sc, notes, sets)
 }
 
 // MINUS TERM / BITWISE_NOT TERM / L_PAREN EXPR R_PAREN / PRIMARY_EXPR (DOT PRIMARY_EXPR)*
 fn sign(
     mut s: State,
     d: usize,
-    optional: bool,
-    entrypoint: bool,
+    may: bool,
+    ep: bool,
     src: &[u8],
     ids: &[u32],
     ends: &[u32],
-    events: &mut [u32],
-    errors: &mut [u32],
-    scratch: &mut [u64],
+    ev: &mut [u32],
+    er: &mut [u32],
+    sc: &mut [u64],
     notes: &mut [usize; 69],
     sets: &[[u64; 2]; 56],
 ) -> State
-    requires { ⌜ Asks (now src) (now ids) (now ends) s (now notes) (now events) (now errors) (now scratch) (now sets) ⌝ }
+    requires { ⌜ Asks (now src) (now ids) (now ends) s (now notes) (now ev) (now er) (now sc) (now sets) ⌝ }
     ensures { λ r. ⌜
-        Reads entrypoint d optional signed (source (now (src .entry)) (now (ids .entry)) (now (ends .entry)))
+        Reads ep d may signed (source (now (src .entry)) (now (ids .entry)) (now (ends .entry)))
         s (now (notes .entry)) r (now (notes .exit))
-        (bufs (now (events .entry)) (now (errors .entry)) (now (scratch .entry))) (bufs (now (events .exit)) (now (errors .exit)) (now (scratch .exit))) ⌝ }
+        (bufs (now (ev .entry)) (now (er .entry)) (now (sc .entry))) (bufs (now (ev .exit)) (now (er .exit)) (now (sc .exit))) ⌝ }
 {
     if s.mode != mode::OK {
         return s;
     }
     let m = s.mark();
-    s = s.trivia(ids, ends, events);
-    s = s.expect(set::MINUS, EXPRESSION, ids, ends, events, notes, sets);
-    s = term(
-        s,
-        d,
-        true,
-        entrypoint,
-        src,
-        ids,
-        ends,
-        events,
-        errors,
-        scratch,
-        notes,
-        sets,
-    );
+    s = s.trivia(ids, ends, ev);
+    s = s.expect(set::MINUS, EXPRESSION, ids, ends, ev, notes, sets);
+    s = term(s, d, true, ep, src, ids, ends, ev, er, sc, notes, sets);
     if s.mode != mode::FAILED {
         return s;
     }
     s = s.rewind(m);
     s.mode = mode::OK;
-    s = s.trivia(ids, ends, events);
-    s = s.expect(set::BITWISE_NOT, EXPRESSION, ids, ends, events, notes, sets);
-    s = term(
-        s,
-        d,
-        true,
-        entrypoint,
-        src,
-        ids,
-        ends,
-        events,
-        errors,
-        scratch,
-        notes,
-        sets,
-    );
+    s = s.trivia(ids, ends, ev);
+    s = s.expect(set::BITWISE_NOT, EXPRESSION, ids, ends, ev, notes, sets);
+    s = term(s, d, true, ep, src, ids, ends, ev, er, sc, notes, sets);
     if s.mode != mode::FAILED {
         return s;
     }
     s = s.rewind(m);
     s.mode = mode::OK;
-    s = s.trivia(ids, ends, events);
-    s = s.expect(set::L_PAREN, EXPRESSION, ids, ends, events, notes, sets);
-    s = expr(
-        s,
-        d,
-        true,
-        entrypoint,
-        src,
-        ids,
-        ends,
-        events,
-        errors,
-        scratch,
-        notes,
-        sets,
-    );
-    s = s.expect(set::R_PAREN, set::R_PAREN, ids, ends, events, notes, sets);
+    s = s.trivia(ids, ends, ev);
+    s = s.expect(set::L_PAREN, EXPRESSION, ids, ends, ev, notes, sets);
+    s = expr(s, d, true, ep, src, ids, ends, ev, er, sc, notes, sets);
+    s = s.expect(set::R_PAREN, set::R_PAREN, ids, ends, ev, notes, sets);
     if s.mode != mode::FAILED {
         return s;
     }
     s = s.rewind(m);
     s.mode = mode::OK;
-    dot(
-        s,
-        d,
-        optional,
-        entrypoint,
-        src,
-        ids,
-        ends,
-        events,
-        errors,
-        scratch,
-        notes,
-        sets,
-    )
+    dot(s, d, may, ep, src, ids, ends, ev, er, sc, notes, sets)
 }
 
 // PRIMARY_EXPR (DOT PRIMARY_EXPR)*
 fn dot(
     mut s: State,
     d: usize,
-    optional: bool,
-    entrypoint: bool,
+    may: bool,
+    ep: bool,
     src: &[u8],
     ids: &[u32],
     ends: &[u32],
-    events: &mut [u32],
-    errors: &mut [u32],
-    scratch: &mut [u64],
+    ev: &mut [u32],
+    er: &mut [u32],
+    sc: &mut [u64],
     notes: &mut [usize; 69],
     sets: &[[u64; 2]; 56],
 ) -> State
-    requires { ⌜ Asks (now src) (now ids) (now ends) s (now notes) (now events) (now errors) (now scratch) (now sets) ⌝ }
+    requires { ⌜ Asks (now src) (now ids) (now ends) s (now notes) (now ev) (now er) (now sc) (now sets) ⌝ }
     ensures { λ r. ⌜
-        Reads entrypoint d optional dotted (source (now (src .entry)) (now (ids .entry)) (now (ends .entry)))
+        Reads ep d may dotted (source (now (src .entry)) (now (ids .entry)) (now (ends .entry)))
         s (now (notes .entry)) r (now (notes .exit))
-        (bufs (now (events .entry)) (now (errors .entry)) (now (scratch .entry))) (bufs (now (events .exit)) (now (errors .exit)) (now (scratch .exit))) ⌝ }
+        (bufs (now (ev .entry)) (now (er .entry)) (now (sc .entry))) (bufs (now (ev .exit)) (now (er .exit)) (now (sc .exit))) ⌝ }
 {
     if s.mode != mode::OK {
         return s;
     }
     let m = s.mark();
-    s = primary(
-        s,
-        d,
-        true,
-        entrypoint,
-        src,
-        ids,
-        ends,
-        events,
-        errors,
-        scratch,
-        notes,
-        sets,
-    );
+    s = primary(s, d, true, ep, src, ids, ends, ev, er, sc, notes, sets);
     s = more(
         set::DOT,
         EXPRESSION,
         Item::PrimaryExpr,
         s,
         d,
-        entrypoint,
+        ep,
         src,
         ids,
         ends,
-        events,
-        errors,
-        scratch,
+        ev,
+        er,
+        sc,
         notes,
         sets,
     );
@@ -569,43 +346,30 @@ fn dot(
 fn span(
     mut s: State,
     d: usize,
-    optional: bool,
-    entrypoint: bool,
+    may: bool,
+    ep: bool,
     src: &[u8],
     ids: &[u32],
     ends: &[u32],
-    events: &mut [u32],
-    errors: &mut [u32],
-    scratch: &mut [u64],
+    ev: &mut [u32],
+    er: &mut [u32],
+    sc: &mut [u64],
     notes: &mut [usize; 69],
     sets: &[[u64; 2]; 56],
 ) -> State
-    requires { ⌜ Asks (now src) (now ids) (now ends) s (now notes) (now events) (now errors) (now scratch) (now sets) ⌝ }
+    requires { ⌜ Asks (now src) (now ids) (now ends) s (now notes) (now ev) (now er) (now sc) (now sets) ⌝ }
     ensures { λ r. ⌜
-        Reads entrypoint d optional in-range (source (now (src .entry)) (now (ids .entry)) (now (ends .entry)))
+        Reads ep d may in-range (source (now (src .entry)) (now (ids .entry)) (now (ends .entry)))
         s (now (notes .entry)) r (now (notes .exit))
-        (bufs (now (events .entry)) (now (errors .entry)) (now (scratch .entry))) (bufs (now (events .exit)) (now (errors .exit)) (now (scratch .exit))) ⌝ }
+        (bufs (now (ev .entry)) (now (er .entry)) (now (sc .entry))) (bufs (now (ev .exit)) (now (er .exit)) (now (sc .exit))) ⌝ }
 {
     if !s.sees(set::IN_KW, ids, sets) {
         s.pass(set::IN_KW, ids, notes);
         return s;
     }
-    s = s.trivia(ids, ends, events);
-    s = s.expect(set::IN_KW, set::IN_KW, ids, ends, events, notes, sets);
-    s = range(
-        s,
-        d,
-        optional,
-        entrypoint,
-        src,
-        ids,
-        ends,
-        events,
-        errors,
-        scratch,
-        notes,
-        sets,
-    );
+    s = s.trivia(ids, ends, ev);
+    s = s.expect(set::IN_KW, set::IN_KW, ids, ends, ev, notes, sets);
+    s = range(s, d, may, ep, src, ids, ends, ev, er, sc, notes, sets);
     s
 }
 
@@ -613,60 +377,31 @@ fn span(
 fn nth(
     mut s: State,
     d: usize,
-    optional: bool,
-    entrypoint: bool,
+    may: bool,
+    ep: bool,
     src: &[u8],
     ids: &[u32],
     ends: &[u32],
-    events: &mut [u32],
-    errors: &mut [u32],
-    scratch: &mut [u64],
+    ev: &mut [u32],
+    er: &mut [u32],
+    sc: &mut [u64],
     notes: &mut [usize; 69],
     sets: &[[u64; 2]; 56],
 ) -> State
-    requires { ⌜ Asks (now src) (now ids) (now ends) s (now notes) (now events) (now errors) (now scratch) (now sets) ⌝ }
+    requires { ⌜ Asks (now src) (now ids) (now ends) s (now notes) (now ev) (now er) (now sc) (now sets) ⌝ }
     ensures { λ r. ⌜
-        Reads entrypoint d optional index (source (now (src .entry)) (now (ids .entry)) (now (ends .entry)))
+        Reads ep d may index (source (now (src .entry)) (now (ids .entry)) (now (ends .entry)))
         s (now (notes .entry)) r (now (notes .exit))
-        (bufs (now (events .entry)) (now (errors .entry)) (now (scratch .entry))) (bufs (now (events .exit)) (now (errors .exit)) (now (scratch .exit))) ⌝ }
+        (bufs (now (ev .entry)) (now (er .entry)) (now (sc .entry))) (bufs (now (ev .exit)) (now (er .exit)) (now (sc .exit))) ⌝ }
 {
     if !s.sees(set::L_BRACKET, ids, sets) {
         s.pass(set::L_BRACKET, ids, notes);
         return s;
     }
-    s = s.trivia(ids, ends, events);
-    s = s.expect(
-        set::L_BRACKET,
-        set::L_BRACKET,
-        ids,
-        ends,
-        events,
-        notes,
-        sets,
-    );
-    s = expr(
-        s,
-        d,
-        optional,
-        entrypoint,
-        src,
-        ids,
-        ends,
-        events,
-        errors,
-        scratch,
-        notes,
-        sets,
-    );
-    s = s.expect(
-        set::R_BRACKET,
-        set::R_BRACKET,
-        ids,
-        ends,
-        events,
-        notes,
-        sets,
-    );
+    s = s.trivia(ids, ends, ev);
+    s = s.expect(set::L_BRACKET, set::L_BRACKET, ids, ends, ev, notes, sets);
+    s = expr(s, d, may, ep, src, ids, ends, ev, er, sc, notes, sets);
+    s = s.expect(set::R_BRACKET, set::R_BRACKET, ids, ends, ev, notes, sets);
     s
 }
 
@@ -674,117 +409,69 @@ fn nth(
 fn range(
     mut s: State,
     d: usize,
-    optional: bool,
-    entrypoint: bool,
+    may: bool,
+    ep: bool,
     src: &[u8],
     ids: &[u32],
     ends: &[u32],
-    events: &mut [u32],
-    errors: &mut [u32],
-    scratch: &mut [u64],
+    ev: &mut [u32],
+    er: &mut [u32],
+    sc: &mut [u64],
     notes: &mut [usize; 69],
     sets: &[[u64; 2]; 56],
 ) -> State
-    requires { ⌜ Asks (now src) (now ids) (now ends) s (now notes) (now events) (now errors) (now scratch) (now sets) ⌝ }
+    requires { ⌜ Asks (now src) (now ids) (now ends) s (now notes) (now ev) (now er) (now sc) (now sets) ⌝ }
     ensures { λ r. ⌜
-        Reads entrypoint d optional (then (node G.RANGE)) (source (now (src .entry)) (now (ids .entry)) (now (ends .entry)))
+        Reads ep d may (then (node G.RANGE)) (source (now (src .entry)) (now (ids .entry)) (now (ends .entry)))
         s (now (notes .entry)) r (now (notes .exit))
-        (bufs (now (events .entry)) (now (errors .entry)) (now (scratch .entry))) (bufs (now (events .exit)) (now (errors .exit)) (now (scratch .exit))) ⌝ }
+        (bufs (now (ev .entry)) (now (er .entry)) (now (sc .entry))) (bufs (now (ev .exit)) (now (er .exit)) (now (sc .exit))) ⌝ }
 {
     if s.mode != mode::OK {
         return s;
     }
-    s = s.trivia(ids, ends, events);
-    s = s.begin(d, ids, ends, events);
+    s = s.trivia(ids, ends, ev);
+    s = s.begin(d, ids, ends, ev);
     let from = s.pos;
     let at = s.ev;
     if d == 0 {
-        return s.end(
-            kind::RANGE,
-            from,
-            at,
-            optional,
-            src,
-            ids,
-            ends,
-            events,
-            errors,
-            notes,
-        );
+        return s.end(kind::RANGE, from, at, may, src, ids, ends, ev, er, notes);
     }
     let below = d - 1;
-    s = s.expect(set::L_PAREN, set::L_PAREN, ids, ends, events, notes, sets);
-    s = expr(
-        s,
-        below,
-        optional,
-        entrypoint,
-        src,
-        ids,
-        ends,
-        events,
-        errors,
-        scratch,
-        notes,
-        sets,
-    );
-    s = s.expect(set::DOT, set::DOT, ids, ends, events, notes, sets);
-    s = s.expect(set::DOT, set::DOT, ids, ends, events, notes, sets);
-    s = expr(
-        s,
-        below,
-        optional,
-        entrypoint,
-        src,
-        ids,
-        ends,
-        events,
-        errors,
-        scratch,
-        notes,
-        sets,
-    );
-    s = s.expect(set::R_PAREN, set::R_PAREN, ids, ends, events, notes, sets);
-    s.end(
-        kind::RANGE,
-        from,
-        at,
-        optional,
-        src,
-        ids,
-        ends,
-        events,
-        errors,
-        notes,
-    )
+    s = s.expect(set::L_PAREN, set::L_PAREN, ids, ends, ev, notes, sets);
+    s = expr(s, below, may, ep, src, ids, ends, ev, er, sc, notes, sets);
+    s = s.expect(set::DOT, set::DOT, ids, ends, ev, notes, sets);
+    s = s.expect(set::DOT, set::DOT, ids, ends, ev, notes, sets);
+    s = expr(s, below, may, ep, src, ids, ends, ev, er, sc, notes, sets);
+    s = s.expect(set::R_PAREN, set::R_PAREN, ids, ends, ev, notes, sets);
+    s.end(kind::RANGE, from, at, may, src, ids, ends, ev, er, notes)
 }
 
 // PRIMARY_EXPR <- FUNC_CALL / IDENT L_BRACKET EXPR R_BRACKET / IDENT
 fn primary(
     mut s: State,
     d: usize,
-    optional: bool,
-    entrypoint: bool,
+    may: bool,
+    ep: bool,
     src: &[u8],
     ids: &[u32],
     ends: &[u32],
-    events: &mut [u32],
-    errors: &mut [u32],
-    scratch: &mut [u64],
+    ev: &mut [u32],
+    er: &mut [u32],
+    sc: &mut [u64],
     notes: &mut [usize; 69],
     sets: &[[u64; 2]; 56],
 ) -> State
-    requires { ⌜ Asks (now src) (now ids) (now ends) s (now notes) (now events) (now errors) (now scratch) (now sets) ⌝ }
+    requires { ⌜ Asks (now src) (now ids) (now ends) s (now notes) (now ev) (now er) (now sc) (now sets) ⌝ }
     ensures { λ r. ⌜
-        Reads entrypoint d optional (then (node G.PRIMARY-EXPR)) (source (now (src .entry)) (now (ids .entry)) (now (ends .entry)))
+        Reads ep d may (then (node G.PRIMARY-EXPR)) (source (now (src .entry)) (now (ids .entry)) (now (ends .entry)))
         s (now (notes .entry)) r (now (notes .exit))
-        (bufs (now (events .entry)) (now (errors .entry)) (now (scratch .entry))) (bufs (now (events .exit)) (now (errors .exit)) (now (scratch .exit))) ⌝ }
+        (bufs (now (ev .entry)) (now (er .entry)) (now (sc .entry))) (bufs (now (ev .exit)) (now (er .exit)) (now (sc .exit))) ⌝ }
 {
     if s.mode != mode::OK {
         return s;
     }
-    s = s.trivia(ids, ends, events);
-    s = s.begin(d, ids, ends, events);
+    s = s.trivia(ids, ends, ev);
+    s = s.begin(d, ids, ends, ev);
     let from = s.pos;
     let at = s.ev;
     if d == 0 {
@@ -792,40 +479,27 @@ fn primary(
             kind::PRIMARY_EXPR,
             from,
             at,
-            optional,
+            may,
             src,
             ids,
             ends,
-            events,
-            errors,
+            ev,
+            er,
             notes,
         );
     }
     let below = d - 1;
-    s = id(
-        s,
-        below,
-        optional,
-        entrypoint,
-        src,
-        ids,
-        ends,
-        events,
-        errors,
-        scratch,
-        notes,
-        sets,
-    );
+    s = id(s, below, may, ep, src, ids, ends, ev, er, sc, notes, sets);
     s.end(
         kind::PRIMARY_EXPR,
         from,
         at,
-        optional,
+        may,
         src,
         ids,
         ends,
-        events,
-        errors,
+        ev,
+        er,
         notes,
     )
 }
@@ -834,87 +508,45 @@ fn primary(
 fn id(
     mut s: State,
     d: usize,
-    optional: bool,
-    entrypoint: bool,
+    may: bool,
+    ep: bool,
     src: &[u8],
     ids: &[u32],
     ends: &[u32],
-    events: &mut [u32],
-    errors: &mut [u32],
-    scratch: &mut [u64],
+    ev: &mut [u32],
+    er: &mut [u32],
+    sc: &mut [u64],
     notes: &mut [usize; 69],
     sets: &[[u64; 2]; 56],
 ) -> State
-    requires { ⌜ Asks (now src) (now ids) (now ends) s (now notes) (now events) (now errors) (now scratch) (now sets) ⌝ }
+    requires { ⌜ Asks (now src) (now ids) (now ends) s (now notes) (now ev) (now er) (now sc) (now sets) ⌝ }
     ensures { λ r. ⌜
-        Reads entrypoint d optional (grammar entrypoint G.PRIMARY-EXPR) (source (now (src .entry)) (now (ids .entry)) (now (ends .entry)))
+        Reads ep d may (grammar ep G.PRIMARY-EXPR) (source (now (src .entry)) (now (ids .entry)) (now (ends .entry)))
         s (now (notes .entry)) r (now (notes .exit))
-        (bufs (now (events .entry)) (now (errors .entry)) (now (scratch .entry))) (bufs (now (events .exit)) (now (errors .exit)) (now (scratch .exit))) ⌝ }
+        (bufs (now (ev .entry)) (now (er .entry)) (now (sc .entry))) (bufs (now (ev .exit)) (now (er .exit)) (now (sc .exit))) ⌝ }
 {
     if s.mode != mode::OK {
         return s;
     }
     let m = s.mark();
-    s = call(
-        s,
-        d,
-        true,
-        entrypoint,
-        src,
-        ids,
-        ends,
-        events,
-        errors,
-        scratch,
-        notes,
-        sets,
-    );
+    s = call(s, d, true, ep, src, ids, ends, ev, er, sc, notes, sets);
     if s.mode != mode::FAILED {
         return s;
     }
     s = s.rewind(m);
     s.mode = mode::OK;
-    s = s.trivia(ids, ends, events);
-    s = s.expect(set::IDENT, set::IDENT, ids, ends, events, notes, sets);
-    s = s.expect(
-        set::L_BRACKET,
-        set::L_BRACKET,
-        ids,
-        ends,
-        events,
-        notes,
-        sets,
-    );
-    s = expr(
-        s,
-        d,
-        true,
-        entrypoint,
-        src,
-        ids,
-        ends,
-        events,
-        errors,
-        scratch,
-        notes,
-        sets,
-    );
-    s = s.expect(
-        set::R_BRACKET,
-        set::R_BRACKET,
-        ids,
-        ends,
-        events,
-        notes,
-        sets,
-    );
+    s = s.trivia(ids, ends, ev);
+    s = s.expect(set::IDENT, set::IDENT, ids, ends, ev, notes, sets);
+    s = s.expect(set::L_BRACKET, set::L_BRACKET, ids, ends, ev, notes, sets);
+    s = expr(s, d, true, ep, src, ids, ends, ev, er, sc, notes, sets);
+    s = s.expect(set::R_BRACKET, set::R_BRACKET, ids, ends, ev, notes, sets);
     if s.mode != mode::FAILED {
         return s;
     }
     s = s.rewind(m);
     s.mode = mode::OK;
-    s = s.trivia(ids, ends, events);
-    s = s.expect(set::IDENT, set::IDENT, ids, ends, events, notes, sets);
+    s = s.trivia(ids, ends, ev);
+    s = s.expect(set::IDENT, set::IDENT, ids, ends, ev, notes, sets);
     if s.mode != mode::FAILED {
         return s;
     }
@@ -926,28 +558,28 @@ fn id(
 fn call(
     mut s: State,
     d: usize,
-    optional: bool,
-    entrypoint: bool,
+    may: bool,
+    ep: bool,
     src: &[u8],
     ids: &[u32],
     ends: &[u32],
-    events: &mut [u32],
-    errors: &mut [u32],
-    scratch: &mut [u64],
+    ev: &mut [u32],
+    er: &mut [u32],
+    sc: &mut [u64],
     notes: &mut [usize; 69],
     sets: &[[u64; 2]; 56],
 ) -> State
-    requires { ⌜ Asks (now src) (now ids) (now ends) s (now notes) (now events) (now errors) (now scratch) (now sets) ⌝ }
+    requires { ⌜ Asks (now src) (now ids) (now ends) s (now notes) (now ev) (now er) (now sc) (now sets) ⌝ }
     ensures { λ r. ⌜
-        Reads entrypoint d optional (then (node G.FUNC-CALL)) (source (now (src .entry)) (now (ids .entry)) (now (ends .entry)))
+        Reads ep d may (then (node G.FUNC-CALL)) (source (now (src .entry)) (now (ids .entry)) (now (ends .entry)))
         s (now (notes .entry)) r (now (notes .exit))
-        (bufs (now (events .entry)) (now (errors .entry)) (now (scratch .entry))) (bufs (now (events .exit)) (now (errors .exit)) (now (scratch .exit))) ⌝ }
+        (bufs (now (ev .entry)) (now (er .entry)) (now (sc .entry))) (bufs (now (ev .exit)) (now (er .exit)) (now (sc .exit))) ⌝ }
 {
     if s.mode != mode::OK {
         return s;
     }
-    s = s.trivia(ids, ends, events);
-    s = s.begin(d, ids, ends, events);
+    s = s.trivia(ids, ends, ev);
+    s = s.begin(d, ids, ends, ev);
     let from = s.pos;
     let at = s.ev;
     if d == 0 {
@@ -955,57 +587,44 @@ fn call(
             kind::FUNC_CALL,
             from,
             at,
-            optional,
+            may,
             src,
             ids,
             ends,
-            events,
-            errors,
+            ev,
+            er,
             notes,
         );
     }
     let below = d - 1;
-    s = s.expect(set::IDENT, set::IDENT, ids, ends, events, notes, sets);
-    s = s.expect(set::L_PAREN, set::L_PAREN, ids, ends, events, notes, sets);
+    s = s.expect(set::IDENT, set::IDENT, ids, ends, ev, notes, sets);
+    s = s.expect(set::L_PAREN, set::L_PAREN, ids, ends, ev, notes, sets);
     if s.mode != mode::OK {
         return s.end(
             kind::FUNC_CALL,
             from,
             at,
-            optional,
+            may,
             src,
             ids,
             ends,
-            events,
-            errors,
+            ev,
+            er,
             notes,
         );
     }
-    s = list(
-        s,
-        below,
-        optional,
-        entrypoint,
-        src,
-        ids,
-        ends,
-        events,
-        errors,
-        scratch,
-        notes,
-        sets,
-    );
-    s = s.expect(set::R_PAREN, set::R_PAREN, ids, ends, events, notes, sets);
+    s = list(s, below, may, ep, src, ids, ends, ev, er, sc, notes, sets);
+    s = s.expect(set::R_PAREN, set::R_PAREN, ids, ends, ev, notes, sets);
     s.end(
         kind::FUNC_CALL,
         from,
         at,
-        optional,
+        may,
         src,
         ids,
         ends,
-        events,
-        errors,
+        ev,
+        er,
         notes,
     )
 }
@@ -1014,54 +633,41 @@ fn call(
 fn list(
     mut s: State,
     d: usize,
-    optional: bool,
-    entrypoint: bool,
+    may: bool,
+    ep: bool,
     src: &[u8],
     ids: &[u32],
     ends: &[u32],
-    events: &mut [u32],
-    errors: &mut [u32],
-    scratch: &mut [u64],
+    ev: &mut [u32],
+    er: &mut [u32],
+    sc: &mut [u64],
     notes: &mut [usize; 69],
     sets: &[[u64; 2]; 56],
 ) -> State
-    requires { ⌜ Asks (now src) (now ids) (now ends) s (now notes) (now events) (now errors) (now scratch) (now sets) ⌝ }
+    requires { ⌜ Asks (now src) (now ids) (now ends) s (now notes) (now ev) (now er) (now sc) (now sets) ⌝ }
     ensures { λ r. ⌜
-        Reads entrypoint d optional args (source (now (src .entry)) (now (ids .entry)) (now (ends .entry)))
+        Reads ep d may args (source (now (src .entry)) (now (ids .entry)) (now (ends .entry)))
         s (now (notes .entry)) r (now (notes .exit))
-        (bufs (now (events .entry)) (now (errors .entry)) (now (scratch .entry))) (bufs (now (events .exit)) (now (errors .exit)) (now (scratch .exit))) ⌝ }
+        (bufs (now (ev .entry)) (now (er .entry)) (now (sc .entry))) (bufs (now (ev .exit)) (now (er .exit)) (now (sc .exit))) ⌝ }
 {
     if s.mode != mode::OK {
         return s;
     }
     let m = s.mark();
-    s = bool_expr(
-        s,
-        d,
-        true,
-        entrypoint,
-        src,
-        ids,
-        ends,
-        events,
-        errors,
-        scratch,
-        notes,
-        sets,
-    );
+    s = bool_expr(s, d, true, ep, src, ids, ends, ev, er, sc, notes, sets);
     s = more(
         set::COMMA,
         set::COMMA,
         Item::BooleanExpr,
         s,
         d,
-        entrypoint,
+        ep,
         src,
         ids,
         ends,
-        events,
-        errors,
-        scratch,
+        ev,
+        er,
+        sc,
         notes,
         sets,
     );
@@ -1077,28 +683,28 @@ fn list(
 pub fn bool_expr(
     mut s: State,
     d: usize,
-    optional: bool,
-    entrypoint: bool,
+    may: bool,
+    ep: bool,
     src: &[u8],
     ids: &[u32],
     ends: &[u32],
-    events: &mut [u32],
-    errors: &mut [u32],
-    scratch: &mut [u64],
+    ev: &mut [u32],
+    er: &mut [u32],
+    sc: &mut [u64],
     notes: &mut [usize; 69],
     sets: &[[u64; 2]; 56],
 ) -> State
-    requires { ⌜ Asks (now src) (now ids) (now ends) s (now notes) (now events) (now errors) (now scratch) (now sets) ⌝ }
+    requires { ⌜ Asks (now src) (now ids) (now ends) s (now notes) (now ev) (now er) (now sc) (now sets) ⌝ }
     ensures { λ r. ⌜
-        Reads entrypoint d optional (then (node G.BOOLEAN-EXPR)) (source (now (src .entry)) (now (ids .entry)) (now (ends .entry)))
+        Reads ep d may (then (node G.BOOLEAN-EXPR)) (source (now (src .entry)) (now (ids .entry)) (now (ends .entry)))
         s (now (notes .entry)) r (now (notes .exit))
-        (bufs (now (events .entry)) (now (errors .entry)) (now (scratch .entry))) (bufs (now (events .exit)) (now (errors .exit)) (now (scratch .exit))) ⌝ }
+        (bufs (now (ev .entry)) (now (er .entry)) (now (sc .entry))) (bufs (now (ev .exit)) (now (er .exit)) (now (sc .exit))) ⌝ }
 {
     if s.mode != mode::OK {
         return s;
     }
-    s = s.trivia(ids, ends, events);
-    s = s.begin(d, ids, ends, events);
+    s = s.trivia(ids, ends, ev);
+    s = s.begin(d, ids, ends, ev);
     let from = s.pos;
     let at = s.ev;
     if d == 0 {
@@ -1106,43 +712,30 @@ pub fn bool_expr(
             kind::BOOLEAN_EXPR,
             from,
             at,
-            optional,
+            may,
             src,
             ids,
             ends,
-            events,
-            errors,
+            ev,
+            er,
             notes,
         );
     }
     let below = d - 1;
-    s = bool_term(
-        s,
-        below,
-        optional,
-        entrypoint,
-        src,
-        ids,
-        ends,
-        events,
-        errors,
-        scratch,
-        notes,
-        sets,
-    );
+    s = bool_term(s, below, may, ep, src, ids, ends, ev, er, sc, notes, sets);
     s = more(
         set::AND_OR,
         OPERATOR,
         Item::BooleanTerm,
         s,
         below,
-        entrypoint,
+        ep,
         src,
         ids,
         ends,
-        events,
-        errors,
-        scratch,
+        ev,
+        er,
+        sc,
         notes,
         sets,
     );
@@ -1150,12 +743,12 @@ pub fn bool_expr(
         kind::BOOLEAN_EXPR,
         from,
         at,
-        optional,
+        may,
         src,
         ids,
         ends,
-        events,
-        errors,
+        ev,
+        er,
         notes,
     )
 }
@@ -1166,28 +759,28 @@ pub fn bool_expr(
 fn bool_term(
     mut s: State,
     d: usize,
-    optional: bool,
-    entrypoint: bool,
+    may: bool,
+    ep: bool,
     src: &[u8],
     ids: &[u32],
     ends: &[u32],
-    events: &mut [u32],
-    errors: &mut [u32],
-    scratch: &mut [u64],
+    ev: &mut [u32],
+    er: &mut [u32],
+    sc: &mut [u64],
     notes: &mut [usize; 69],
     sets: &[[u64; 2]; 56],
 ) -> State
-    requires { ⌜ Asks (now src) (now ids) (now ends) s (now notes) (now events) (now errors) (now scratch) (now sets) ⌝ }
+    requires { ⌜ Asks (now src) (now ids) (now ends) s (now notes) (now ev) (now er) (now sc) (now sets) ⌝ }
     ensures { λ r. ⌜
-        Reads entrypoint d optional (then (node G.BOOLEAN-TERM)) (source (now (src .entry)) (now (ids .entry)) (now (ends .entry)))
+        Reads ep d may (then (node G.BOOLEAN-TERM)) (source (now (src .entry)) (now (ids .entry)) (now (ends .entry)))
         s (now (notes .entry)) r (now (notes .exit))
-        (bufs (now (events .entry)) (now (errors .entry)) (now (scratch .entry))) (bufs (now (events .exit)) (now (errors .exit)) (now (scratch .exit))) ⌝ }
+        (bufs (now (ev .entry)) (now (er .entry)) (now (sc .entry))) (bufs (now (ev .exit)) (now (er .exit)) (now (sc .exit))) ⌝ }
 {
     if s.mode != mode::OK {
         return s;
     }
-    s = s.trivia(ids, ends, events);
-    s = s.begin(d, ids, ends, events);
+    s = s.trivia(ids, ends, ev);
+    s = s.begin(d, ids, ends, ev);
     let from = s.pos;
     let at = s.ev;
     if d == 0 {
@@ -1195,40 +788,27 @@ fn bool_term(
             kind::BOOLEAN_TERM,
             from,
             at,
-            optional,
+            may,
             src,
             ids,
             ends,
-            events,
-            errors,
+            ev,
+            er,
             notes,
         );
     }
     let below = d - 1;
-    s = fact(
-        s,
-        below,
-        optional,
-        entrypoint,
-        src,
-        ids,
-        ends,
-        events,
-        errors,
-        scratch,
-        notes,
-        sets,
-    );
+    s = fact(s, below, may, ep, src, ids, ends, ev, er, sc, notes, sets);
     s.end(
         kind::BOOLEAN_TERM,
         from,
         at,
-        optional,
+        may,
         src,
         ids,
         ends,
-        events,
-        errors,
+        ev,
+        er,
         notes,
     )
 }
@@ -1237,98 +817,51 @@ fn bool_term(
 fn fact(
     mut s: State,
     d: usize,
-    optional: bool,
-    entrypoint: bool,
+    may: bool,
+    ep: bool,
     src: &[u8],
     ids: &[u32],
     ends: &[u32],
-    events: &mut [u32],
-    errors: &mut [u32],
-    scratch: &mut [u64],
+    ev: &mut [u32],
+    er: &mut [u32],
+    sc: &mut [u64],
     notes: &mut [usize; 69],
     sets: &[[u64; 2]; 56],
 ) -> State
-    requires { ⌜ Asks (now src) (now ids) (now ends) s (now notes) (now events) (now errors) (now scratch) (now sets) ⌝ }
+    requires { ⌜ Asks (now src) (now ids) (now ends) s (now notes) (now ev) (now er) (now sc) (now sets) ⌝ }
     ensures { λ r. ⌜
-        Reads entrypoint d optional (grammar entrypoint G.BOOLEAN-TERM) (source (now (src .entry)) (now (ids .entry)) (now (ends .entry)))
+        Reads ep d may (grammar ep G.BOOLEAN-TERM) (source (now (src .entry)) (now (ids .entry)) (now (ends .entry)))
         s (now (notes .entry)) r (now (notes .exit))
-        (bufs (now (events .entry)) (now (errors .entry)) (now (scratch .entry))) (bufs (now (events .exit)) (now (errors .exit)) (now (scratch .exit))) ⌝ }
+        (bufs (now (ev .entry)) (now (er .entry)) (now (sc .entry))) (bufs (now (ev .exit)) (now (er .exit)) (now (sc .exit))) ⌝ }
 {
     if s.mode != mode::OK {
         return s;
     }
     let m = s.mark();
-    s = s.trivia(ids, ends, events);
-    s = s.expect(
-        set::PATTERN_IDENT,
-        EXPRESSION,
-        ids,
-        ends,
-        events,
-        notes,
-        sets,
-    );
-    s = spot(
-        s,
-        d,
-        true,
-        entrypoint,
-        src,
-        ids,
-        ends,
-        events,
-        errors,
-        scratch,
-        notes,
-        sets,
-    );
+    s = s.trivia(ids, ends, ev);
+    s = s.expect(set::PATTERN_IDENT, EXPRESSION, ids, ends, ev, notes, sets);
+    s = spot(s, d, true, ep, src, ids, ends, ev, er, sc, notes, sets);
     if s.mode != mode::FAILED {
         return s;
     }
     s = s.rewind(m);
     s.mode = mode::OK;
-    s = s.trivia(ids, ends, events);
-    s = s.expect(set::TRUE_FALSE, EXPRESSION, ids, ends, events, notes, sets);
+    s = s.trivia(ids, ends, ev);
+    s = s.expect(set::TRUE_FALSE, EXPRESSION, ids, ends, ev, notes, sets);
     if s.mode != mode::FAILED {
         return s;
     }
     s = s.rewind(m);
     s.mode = mode::OK;
-    s = s.trivia(ids, ends, events);
-    s = s.expect(set::NOT_DEFINED, EXPRESSION, ids, ends, events, notes, sets);
-    s = bool_term(
-        s,
-        d,
-        true,
-        entrypoint,
-        src,
-        ids,
-        ends,
-        events,
-        errors,
-        scratch,
-        notes,
-        sets,
-    );
+    s = s.trivia(ids, ends, ev);
+    s = s.expect(set::NOT_DEFINED, EXPRESSION, ids, ends, ev, notes, sets);
+    s = bool_term(s, d, true, ep, src, ids, ends, ev, er, sc, notes, sets);
     if s.mode != mode::FAILED {
         return s;
     }
     s = s.rewind(m);
     s.mode = mode::OK;
-    all(
-        s,
-        d,
-        optional,
-        entrypoint,
-        src,
-        ids,
-        ends,
-        events,
-        errors,
-        scratch,
-        notes,
-        sets,
-    )
+    all(s, d, may, ep, src, ids, ends, ev, er, sc, notes, sets)
 }
 
 // FOR_EXPR / OF_EXPR / WITH_EXPR / EXPR ((EQ | NE | LE | LT | GE | GT | CONTAINS_KW | ICONTAINS_KW | STARTSWITH_KW | ISTARTSWITH_KW | ENDSWITH_KW |
@@ -1336,98 +869,46 @@ fn fact(
 fn all(
     mut s: State,
     d: usize,
-    optional: bool,
-    entrypoint: bool,
+    may: bool,
+    ep: bool,
     src: &[u8],
     ids: &[u32],
     ends: &[u32],
-    events: &mut [u32],
-    errors: &mut [u32],
-    scratch: &mut [u64],
+    ev: &mut [u32],
+    er: &mut [u32],
+    sc: &mut [u64],
     notes: &mut [usize; 69],
     sets: &[[u64; 2]; 56],
 ) -> State
-    requires { ⌜ Asks (now src) (now ids) (now ends) s (now notes) (now events) (now errors) (now scratch) (now sets) ⌝ }
+    requires { ⌜ Asks (now src) (now ids) (now ends) s (now notes) (now ev) (now er) (now sc) (now sets) ⌝ }
     ensures { λ r. ⌜
-        Reads entrypoint d optional quantified (source (now (src .entry)) (now (ids .entry)) (now (ends .entry)))
+        Reads ep d may quantified (source (now (src .entry)) (now (ids .entry)) (now (ends .entry)))
         s (now (notes .entry)) r (now (notes .exit))
-        (bufs (now (events .entry)) (now (errors .entry)) (now (scratch .entry))) (bufs (now (events .exit)) (now (errors .exit)) (now (scratch .exit))) ⌝ }
+        (bufs (now (ev .entry)) (now (er .entry)) (now (sc .entry))) (bufs (now (ev .exit)) (now (er .exit)) (now (sc .exit))) ⌝ }
 {
     if s.mode != mode::OK {
         return s;
     }
     let m = s.mark();
-    s = for_expr(
-        s,
-        d,
-        true,
-        entrypoint,
-        src,
-        ids,
-        ends,
-        events,
-        errors,
-        scratch,
-        notes,
-        sets,
-    );
+    s = for_expr(s, d, true, ep, src, ids, ends, ev, er, sc, notes, sets);
     if s.mode != mode::FAILED {
         return s;
     }
     s = s.rewind(m);
     s.mode = mode::OK;
-    s = of_expr(
-        s,
-        d,
-        true,
-        entrypoint,
-        src,
-        ids,
-        ends,
-        events,
-        errors,
-        scratch,
-        notes,
-        sets,
-    );
+    s = of_expr(s, d, true, ep, src, ids, ends, ev, er, sc, notes, sets);
     if s.mode != mode::FAILED {
         return s;
     }
     s = s.rewind(m);
     s.mode = mode::OK;
-    s = with_expr(
-        s,
-        d,
-        true,
-        entrypoint,
-        src,
-        ids,
-        ends,
-        events,
-        errors,
-        scratch,
-        notes,
-        sets,
-    );
+    s = with_expr(s, d, true, ep, src, ids, ends, ev, er, sc, notes, sets);
     if s.mode != mode::FAILED {
         return s;
     }
     s = s.rewind(m);
     s.mode = mode::OK;
-    test(
-        s,
-        d,
-        optional,
-        entrypoint,
-        src,
-        ids,
-        ends,
-        events,
-        errors,
-        scratch,
-        notes,
-        sets,
-    )
+    test(s, d, may, ep, src, ids, ends, ev, er, sc, notes, sets)
 }
 
 // EXPR ((EQ | NE | LE | LT | GE | GT | CONTAINS_KW | ICONTAINS_KW | STARTSWITH_KW | ISTARTSWITH_KW | ENDSWITH_KW | IENDSWITH_KW | IEQUALS_KW |
@@ -1435,54 +916,41 @@ fn all(
 fn test(
     mut s: State,
     d: usize,
-    optional: bool,
-    entrypoint: bool,
+    may: bool,
+    ep: bool,
     src: &[u8],
     ids: &[u32],
     ends: &[u32],
-    events: &mut [u32],
-    errors: &mut [u32],
-    scratch: &mut [u64],
+    ev: &mut [u32],
+    er: &mut [u32],
+    sc: &mut [u64],
     notes: &mut [usize; 69],
     sets: &[[u64; 2]; 56],
 ) -> State
-    requires { ⌜ Asks (now src) (now ids) (now ends) s (now notes) (now events) (now errors) (now scratch) (now sets) ⌝ }
+    requires { ⌜ Asks (now src) (now ids) (now ends) s (now notes) (now ev) (now er) (now sc) (now sets) ⌝ }
     ensures { λ r. ⌜
-        Reads entrypoint d optional compared (source (now (src .entry)) (now (ids .entry)) (now (ends .entry)))
+        Reads ep d may compared (source (now (src .entry)) (now (ids .entry)) (now (ends .entry)))
         s (now (notes .entry)) r (now (notes .exit))
-        (bufs (now (events .entry)) (now (errors .entry)) (now (scratch .entry))) (bufs (now (events .exit)) (now (errors .exit)) (now (scratch .exit))) ⌝ }
+        (bufs (now (ev .entry)) (now (er .entry)) (now (sc .entry))) (bufs (now (ev .exit)) (now (er .exit)) (now (sc .exit))) ⌝ }
 {
     if s.mode != mode::OK {
         return s;
     }
     let m = s.mark();
-    s = expr(
-        s,
-        d,
-        true,
-        entrypoint,
-        src,
-        ids,
-        ends,
-        events,
-        errors,
-        scratch,
-        notes,
-        sets,
-    );
+    s = expr(s, d, true, ep, src, ids, ends, ev, er, sc, notes, sets);
     s = more(
         set::COMPARISON,
         EXPRESSION,
         Item::Expr,
         s,
         d,
-        entrypoint,
+        ep,
         src,
         ids,
         ends,
-        events,
-        errors,
-        scratch,
+        ev,
+        er,
+        sc,
         notes,
         sets,
     );
@@ -1491,23 +959,10 @@ fn test(
     }
     s = s.rewind(m);
     s.mode = mode::OK;
-    s = s.trivia(ids, ends, events);
-    s = s.expect(set::L_PAREN, EXPRESSION, ids, ends, events, notes, sets);
-    s = bool_expr(
-        s,
-        d,
-        true,
-        entrypoint,
-        src,
-        ids,
-        ends,
-        events,
-        errors,
-        scratch,
-        notes,
-        sets,
-    );
-    s = s.expect(set::R_PAREN, set::R_PAREN, ids, ends, events, notes, sets);
+    s = s.trivia(ids, ends, ev);
+    s = s.expect(set::L_PAREN, EXPRESSION, ids, ends, ev, notes, sets);
+    s = bool_expr(s, d, true, ep, src, ids, ends, ev, er, sc, notes, sets);
+    s = s.expect(set::R_PAREN, set::R_PAREN, ids, ends, ev, notes, sets);
     if s.mode != mode::FAILED {
         return s;
     }
@@ -1519,66 +974,40 @@ fn test(
 fn spot(
     mut s: State,
     d: usize,
-    optional: bool,
-    entrypoint: bool,
+    may: bool,
+    ep: bool,
     src: &[u8],
     ids: &[u32],
     ends: &[u32],
-    events: &mut [u32],
-    errors: &mut [u32],
-    scratch: &mut [u64],
+    ev: &mut [u32],
+    er: &mut [u32],
+    sc: &mut [u64],
     notes: &mut [usize; 69],
     sets: &[[u64; 2]; 56],
 ) -> State
-    requires { ⌜ Asks (now src) (now ids) (now ends) s (now notes) (now events) (now errors) (now scratch) (now sets) ⌝ }
+    requires { ⌜ Asks (now src) (now ids) (now ends) s (now notes) (now ev) (now er) (now sc) (now sets) ⌝ }
     ensures { λ r. ⌜
-        Reads entrypoint d optional place (source (now (src .entry)) (now (ids .entry)) (now (ends .entry)))
+        Reads ep d may place (source (now (src .entry)) (now (ids .entry)) (now (ends .entry)))
         s (now (notes .entry)) r (now (notes .exit))
-        (bufs (now (events .entry)) (now (errors .entry)) (now (scratch .entry))) (bufs (now (events .exit)) (now (errors .exit)) (now (scratch .exit))) ⌝ }
+        (bufs (now (ev .entry)) (now (er .entry)) (now (sc .entry))) (bufs (now (ev .exit)) (now (er .exit)) (now (sc .exit))) ⌝ }
 {
     if !s.sees(set::AT_OR_IN, ids, sets) {
         s.pass(set::AT_OR_IN, ids, notes);
         return s;
     }
-    s = s.trivia(ids, ends, events);
+    s = s.trivia(ids, ends, ev);
     let m = s.mark();
-    s = s.trivia(ids, ends, events);
-    s = s.expect(set::AT_KW, set::AT_KW, ids, ends, events, notes, sets);
-    s = expr(
-        s,
-        d,
-        true,
-        entrypoint,
-        src,
-        ids,
-        ends,
-        events,
-        errors,
-        scratch,
-        notes,
-        sets,
-    );
+    s = s.trivia(ids, ends, ev);
+    s = s.expect(set::AT_KW, set::AT_KW, ids, ends, ev, notes, sets);
+    s = expr(s, d, true, ep, src, ids, ends, ev, er, sc, notes, sets);
     if s.mode != mode::FAILED {
         return s;
     }
     s = s.rewind(m);
     s.mode = mode::OK;
-    s = s.trivia(ids, ends, events);
-    s = s.expect(set::IN_KW, set::IN_KW, ids, ends, events, notes, sets);
-    s = range(
-        s,
-        d,
-        true,
-        entrypoint,
-        src,
-        ids,
-        ends,
-        events,
-        errors,
-        scratch,
-        notes,
-        sets,
-    );
+    s = s.trivia(ids, ends, ev);
+    s = s.expect(set::IN_KW, set::IN_KW, ids, ends, ev, notes, sets);
+    s = range(s, d, true, ep, src, ids, ends, ev, er, sc, notes, sets);
     if s.mode != mode::FAILED {
         return s;
     }
@@ -1591,195 +1020,97 @@ fn spot(
 fn for_expr(
     mut s: State,
     d: usize,
-    optional: bool,
-    entrypoint: bool,
+    may: bool,
+    ep: bool,
     src: &[u8],
     ids: &[u32],
     ends: &[u32],
-    events: &mut [u32],
-    errors: &mut [u32],
-    scratch: &mut [u64],
+    ev: &mut [u32],
+    er: &mut [u32],
+    sc: &mut [u64],
     notes: &mut [usize; 69],
     sets: &[[u64; 2]; 56],
 ) -> State
-    requires { ⌜ Asks (now src) (now ids) (now ends) s (now notes) (now events) (now errors) (now scratch) (now sets) ⌝ }
+    requires { ⌜ Asks (now src) (now ids) (now ends) s (now notes) (now ev) (now er) (now sc) (now sets) ⌝ }
     ensures { λ r. ⌜
-        Reads entrypoint d optional (then (node G.FOR-EXPR)) (source (now (src .entry)) (now (ids .entry)) (now (ends .entry)))
+        Reads ep d may (then (node G.FOR-EXPR)) (source (now (src .entry)) (now (ids .entry)) (now (ends .entry)))
         s (now (notes .entry)) r (now (notes .exit))
-        (bufs (now (events .entry)) (now (errors .entry)) (now (scratch .entry))) (bufs (now (events .exit)) (now (errors .exit)) (now (scratch .exit))) ⌝ }
+        (bufs (now (ev .entry)) (now (er .entry)) (now (sc .entry))) (bufs (now (ev .exit)) (now (er .exit)) (now (sc .exit))) ⌝ }
 {
     if s.mode != mode::OK {
         return s;
     }
-    s = s.trivia(ids, ends, events);
-    s = s.begin(d, ids, ends, events);
+    s = s.trivia(ids, ends, ev);
+    s = s.begin(d, ids, ends, ev);
     let from = s.pos;
     let at = s.ev;
     if d == 0 {
-        return s.end(
-            kind::FOR_EXPR,
-            from,
-            at,
-            optional,
-            src,
-            ids,
-            ends,
-            events,
-            errors,
-            notes,
-        );
+        return s.end(kind::FOR_EXPR, from, at, may, src, ids, ends, ev, er, notes);
     }
     let below = d - 1;
-    s = s.expect(set::FOR_KW, EXPRESSION, ids, ends, events, notes, sets);
+    s = s.expect(set::FOR_KW, EXPRESSION, ids, ends, ev, notes, sets);
     if s.mode != mode::OK {
-        return s.end(
-            kind::FOR_EXPR,
-            from,
-            at,
-            optional,
-            src,
-            ids,
-            ends,
-            events,
-            errors,
-            notes,
-        );
+        return s.end(kind::FOR_EXPR, from, at, may, src, ids, ends, ev, er, notes);
     }
-    s = quant(
-        s,
-        below,
-        optional,
-        entrypoint,
-        src,
-        ids,
-        ends,
-        events,
-        errors,
-        scratch,
-        notes,
-        sets,
-    );
-    s = over(
-        s,
-        below,
-        optional,
-        entrypoint,
-        src,
-        ids,
-        ends,
-        events,
-        errors,
-        scratch,
-        notes,
-        sets,
-    );
-    s = body(
-        s,
-        below,
-        optional,
-        entrypoint,
-        src,
-        ids,
-        ends,
-        events,
-        errors,
-        scratch,
-        notes,
-        sets,
-    );
-    s.end(
-        kind::FOR_EXPR,
-        from,
-        at,
-        optional,
-        src,
-        ids,
-        ends,
-        events,
-        errors,
-        notes,
-    )
+    s = quant(s, below, may, ep, src, ids, ends, ev, er, sc, notes, sets);
+    s = over(s, below, may, ep, src, ids, ends, ev, er, sc, notes, sets);
+    s = body(s, below, may, ep, src, ids, ends, ev, er, sc, notes, sets);
+    s.end(kind::FOR_EXPR, from, at, may, src, ids, ends, ev, er, notes)
 }
 
 // OF_KW (THEM_KW / PATTERN_IDENT_TUPLE) / IDENT (COMMA IDENT)* IN_KW ITERABLE
 fn over(
     mut s: State,
     d: usize,
-    optional: bool,
-    entrypoint: bool,
+    may: bool,
+    ep: bool,
     src: &[u8],
     ids: &[u32],
     ends: &[u32],
-    events: &mut [u32],
-    errors: &mut [u32],
-    scratch: &mut [u64],
+    ev: &mut [u32],
+    er: &mut [u32],
+    sc: &mut [u64],
     notes: &mut [usize; 69],
     sets: &[[u64; 2]; 56],
 ) -> State
-    requires { ⌜ Asks (now src) (now ids) (now ends) s (now notes) (now events) (now errors) (now scratch) (now sets) ⌝ }
+    requires { ⌜ Asks (now src) (now ids) (now ends) s (now notes) (now ev) (now er) (now sc) (now sets) ⌝ }
     ensures { λ r. ⌜
-        Reads entrypoint d optional over (source (now (src .entry)) (now (ids .entry)) (now (ends .entry)))
+        Reads ep d may over (source (now (src .entry)) (now (ids .entry)) (now (ends .entry)))
         s (now (notes .entry)) r (now (notes .exit))
-        (bufs (now (events .entry)) (now (errors .entry)) (now (scratch .entry))) (bufs (now (events .exit)) (now (errors .exit)) (now (scratch .exit))) ⌝ }
+        (bufs (now (ev .entry)) (now (er .entry)) (now (sc .entry))) (bufs (now (ev .exit)) (now (er .exit)) (now (sc .exit))) ⌝ }
 {
     if s.mode != mode::OK {
         return s;
     }
     let m = s.mark();
-    s = s.trivia(ids, ends, events);
-    s = s.expect(set::OF_KW, set::OF_KW, ids, ends, events, notes, sets);
-    s = them(
-        s,
-        d,
-        true,
-        entrypoint,
-        src,
-        ids,
-        ends,
-        events,
-        errors,
-        scratch,
-        notes,
-        sets,
-    );
+    s = s.trivia(ids, ends, ev);
+    s = s.expect(set::OF_KW, set::OF_KW, ids, ends, ev, notes, sets);
+    s = them(s, d, true, ep, src, ids, ends, ev, er, sc, notes, sets);
     if s.mode != mode::FAILED {
         return s;
     }
     s = s.rewind(m);
     s.mode = mode::OK;
-    s = s.trivia(ids, ends, events);
-    s = s.expect(set::IDENT, set::IDENT, ids, ends, events, notes, sets);
+    s = s.trivia(ids, ends, ev);
+    s = s.expect(set::IDENT, set::IDENT, ids, ends, ev, notes, sets);
     s = more(
         set::COMMA,
         set::COMMA,
         Item::Ident,
         s,
         d,
-        entrypoint,
+        ep,
         src,
         ids,
         ends,
-        events,
-        errors,
-        scratch,
+        ev,
+        er,
+        sc,
         notes,
         sets,
     );
-    s = s.expect(set::IN_KW, set::IN_KW, ids, ends, events, notes, sets);
-    s = iter(
-        s,
-        d,
-        true,
-        entrypoint,
-        src,
-        ids,
-        ends,
-        events,
-        errors,
-        scratch,
-        notes,
-        sets,
-    );
+    s = s.expect(set::IN_KW, set::IN_KW, ids, ends, ev, notes, sets);
+    s = iter(s, d, true, ep, src, ids, ends, ev, er, sc, notes, sets);
     if s.mode != mode::FAILED {
         return s;
     }
@@ -1791,217 +1122,106 @@ fn over(
 fn body(
     mut s: State,
     d: usize,
-    optional: bool,
-    entrypoint: bool,
+    may: bool,
+    ep: bool,
     src: &[u8],
     ids: &[u32],
     ends: &[u32],
-    events: &mut [u32],
-    errors: &mut [u32],
-    scratch: &mut [u64],
+    ev: &mut [u32],
+    er: &mut [u32],
+    sc: &mut [u64],
     notes: &mut [usize; 69],
     sets: &[[u64; 2]; 56],
 ) -> State
-    requires { ⌜ Asks (now src) (now ids) (now ends) s (now notes) (now events) (now errors) (now scratch) (now sets) ⌝ }
+    requires { ⌜ Asks (now src) (now ids) (now ends) s (now notes) (now ev) (now er) (now sc) (now sets) ⌝ }
     ensures { λ r. ⌜
-        Reads entrypoint d optional body (source (now (src .entry)) (now (ids .entry)) (now (ends .entry)))
+        Reads ep d may body (source (now (src .entry)) (now (ids .entry)) (now (ends .entry)))
         s (now (notes .entry)) r (now (notes .exit))
-        (bufs (now (events .entry)) (now (errors .entry)) (now (scratch .entry))) (bufs (now (events .exit)) (now (errors .exit)) (now (scratch .exit))) ⌝ }
+        (bufs (now (ev .entry)) (now (er .entry)) (now (sc .entry))) (bufs (now (ev .exit)) (now (er .exit)) (now (sc .exit))) ⌝ }
 {
-    s = s.expect(set::COLON, set::COLON, ids, ends, events, notes, sets);
-    s = s.expect(set::L_PAREN, set::L_PAREN, ids, ends, events, notes, sets);
+    s = s.expect(set::COLON, set::COLON, ids, ends, ev, notes, sets);
+    s = s.expect(set::L_PAREN, set::L_PAREN, ids, ends, ev, notes, sets);
     if s.mode != mode::OK {
         return s;
     }
-    s = bool_expr(
-        s,
-        d,
-        optional,
-        entrypoint,
-        src,
-        ids,
-        ends,
-        events,
-        errors,
-        scratch,
-        notes,
-        sets,
-    );
-    s = s.recover(
-        d,
-        optional,
-        set::R_PAREN,
-        src,
-        ids,
-        ends,
-        events,
-        errors,
-        notes,
-        sets,
-    );
-    s.expect(set::R_PAREN, set::R_PAREN, ids, ends, events, notes, sets)
+    s = bool_expr(s, d, may, ep, src, ids, ends, ev, er, sc, notes, sets);
+    s = s.recover(d, may, set::R_PAREN, src, ids, ends, ev, er, notes, sets);
+    s.expect(set::R_PAREN, set::R_PAREN, ids, ends, ev, notes, sets)
 }
 
 // OF_EXPR <- QUANTIFIER OF_KW ((THEM_KW / PATTERN_IDENT_TUPLE) if (AT_KW | IN_KW) (AT_KW EXPR / IN_KW RANGE) / BOOLEAN_EXPR_TUPLE !(AT_KW | IN_KW))
 fn of_expr(
     mut s: State,
     d: usize,
-    optional: bool,
-    entrypoint: bool,
+    may: bool,
+    ep: bool,
     src: &[u8],
     ids: &[u32],
     ends: &[u32],
-    events: &mut [u32],
-    errors: &mut [u32],
-    scratch: &mut [u64],
+    ev: &mut [u32],
+    er: &mut [u32],
+    sc: &mut [u64],
     notes: &mut [usize; 69],
     sets: &[[u64; 2]; 56],
 ) -> State
-    requires { ⌜ Asks (now src) (now ids) (now ends) s (now notes) (now events) (now errors) (now scratch) (now sets) ⌝ }
+    requires { ⌜ Asks (now src) (now ids) (now ends) s (now notes) (now ev) (now er) (now sc) (now sets) ⌝ }
     ensures { λ r. ⌜
-        Reads entrypoint d optional (then (node G.OF-EXPR)) (source (now (src .entry)) (now (ids .entry)) (now (ends .entry)))
+        Reads ep d may (then (node G.OF-EXPR)) (source (now (src .entry)) (now (ids .entry)) (now (ends .entry)))
         s (now (notes .entry)) r (now (notes .exit))
-        (bufs (now (events .entry)) (now (errors .entry)) (now (scratch .entry))) (bufs (now (events .exit)) (now (errors .exit)) (now (scratch .exit))) ⌝ }
+        (bufs (now (ev .entry)) (now (er .entry)) (now (sc .entry))) (bufs (now (ev .exit)) (now (er .exit)) (now (sc .exit))) ⌝ }
 {
     if s.mode != mode::OK {
         return s;
     }
-    s = s.trivia(ids, ends, events);
-    s = s.begin(d, ids, ends, events);
+    s = s.trivia(ids, ends, ev);
+    s = s.begin(d, ids, ends, ev);
     let from = s.pos;
     let at = s.ev;
     if d == 0 {
-        return s.end(
-            kind::OF_EXPR,
-            from,
-            at,
-            optional,
-            src,
-            ids,
-            ends,
-            events,
-            errors,
-            notes,
-        );
+        return s.end(kind::OF_EXPR, from, at, may, src, ids, ends, ev, er, notes);
     }
     let below = d - 1;
-    s = quant(
-        s,
-        below,
-        optional,
-        entrypoint,
-        src,
-        ids,
-        ends,
-        events,
-        errors,
-        scratch,
-        notes,
-        sets,
-    );
-    s = s.expect(set::OF_KW, set::OF_KW, ids, ends, events, notes, sets);
-    s = whom(
-        s,
-        below,
-        optional,
-        entrypoint,
-        src,
-        ids,
-        ends,
-        events,
-        errors,
-        scratch,
-        notes,
-        sets,
-    );
-    s.end(
-        kind::OF_EXPR,
-        from,
-        at,
-        optional,
-        src,
-        ids,
-        ends,
-        events,
-        errors,
-        notes,
-    )
+    s = quant(s, below, may, ep, src, ids, ends, ev, er, sc, notes, sets);
+    s = s.expect(set::OF_KW, set::OF_KW, ids, ends, ev, notes, sets);
+    s = whom(s, below, may, ep, src, ids, ends, ev, er, sc, notes, sets);
+    s.end(kind::OF_EXPR, from, at, may, src, ids, ends, ev, er, notes)
 }
 
 // (THEM_KW / PATTERN_IDENT_TUPLE) if (AT_KW | IN_KW) (AT_KW EXPR / IN_KW RANGE) / BOOLEAN_EXPR_TUPLE !(AT_KW | IN_KW)
 fn whom(
     mut s: State,
     d: usize,
-    optional: bool,
-    entrypoint: bool,
+    may: bool,
+    ep: bool,
     src: &[u8],
     ids: &[u32],
     ends: &[u32],
-    events: &mut [u32],
-    errors: &mut [u32],
-    scratch: &mut [u64],
+    ev: &mut [u32],
+    er: &mut [u32],
+    sc: &mut [u64],
     notes: &mut [usize; 69],
     sets: &[[u64; 2]; 56],
 ) -> State
-    requires { ⌜ Asks (now src) (now ids) (now ends) s (now notes) (now events) (now errors) (now scratch) (now sets) ⌝ }
+    requires { ⌜ Asks (now src) (now ids) (now ends) s (now notes) (now ev) (now er) (now sc) (now sets) ⌝ }
     ensures { λ r. ⌜
-        Reads entrypoint d optional which (source (now (src .entry)) (now (ids .entry)) (now (ends .entry)))
+        Reads ep d may which (source (now (src .entry)) (now (ids .entry)) (now (ends .entry)))
         s (now (notes .entry)) r (now (notes .exit))
-        (bufs (now (events .entry)) (now (errors .entry)) (now (scratch .entry))) (bufs (now (events .exit)) (now (errors .exit)) (now (scratch .exit))) ⌝ }
+        (bufs (now (ev .entry)) (now (er .entry)) (now (sc .entry))) (bufs (now (ev .exit)) (now (er .exit)) (now (sc .exit))) ⌝ }
 {
     if s.mode != mode::OK {
         return s;
     }
     let m = s.mark();
-    s = s.trivia(ids, ends, events);
-    s = them(
-        s,
-        d,
-        true,
-        entrypoint,
-        src,
-        ids,
-        ends,
-        events,
-        errors,
-        scratch,
-        notes,
-        sets,
-    );
-    s = spot(
-        s,
-        d,
-        true,
-        entrypoint,
-        src,
-        ids,
-        ends,
-        events,
-        errors,
-        scratch,
-        notes,
-        sets,
-    );
+    s = s.trivia(ids, ends, ev);
+    s = them(s, d, true, ep, src, ids, ends, ev, er, sc, notes, sets);
+    s = spot(s, d, true, ep, src, ids, ends, ev, er, sc, notes, sets);
     if s.mode != mode::FAILED {
         return s;
     }
     s = s.rewind(m);
     s.mode = mode::OK;
-    s = bools(
-        s,
-        d,
-        true,
-        entrypoint,
-        src,
-        ids,
-        ends,
-        events,
-        errors,
-        scratch,
-        notes,
-        sets,
-    );
-    s = s.unless(set::AT_OR_IN, ids, ends, events, notes, sets);
+    s = bools(s, d, true, ep, src, ids, ends, ev, er, sc, notes, sets);
+    s = s.unless(set::AT_OR_IN, ids, ends, ev, notes, sets);
     if s.mode != mode::FAILED {
         return s;
     }
@@ -2013,28 +1233,28 @@ fn whom(
 fn with_expr(
     mut s: State,
     d: usize,
-    optional: bool,
-    entrypoint: bool,
+    may: bool,
+    ep: bool,
     src: &[u8],
     ids: &[u32],
     ends: &[u32],
-    events: &mut [u32],
-    errors: &mut [u32],
-    scratch: &mut [u64],
+    ev: &mut [u32],
+    er: &mut [u32],
+    sc: &mut [u64],
     notes: &mut [usize; 69],
     sets: &[[u64; 2]; 56],
 ) -> State
-    requires { ⌜ Asks (now src) (now ids) (now ends) s (now notes) (now events) (now errors) (now scratch) (now sets) ⌝ }
+    requires { ⌜ Asks (now src) (now ids) (now ends) s (now notes) (now ev) (now er) (now sc) (now sets) ⌝ }
     ensures { λ r. ⌜
-        Reads entrypoint d optional (then (node G.WITH-EXPR)) (source (now (src .entry)) (now (ids .entry)) (now (ends .entry)))
+        Reads ep d may (then (node G.WITH-EXPR)) (source (now (src .entry)) (now (ids .entry)) (now (ends .entry)))
         s (now (notes .entry)) r (now (notes .exit))
-        (bufs (now (events .entry)) (now (errors .entry)) (now (scratch .entry))) (bufs (now (events .exit)) (now (errors .exit)) (now (scratch .exit))) ⌝ }
+        (bufs (now (ev .entry)) (now (er .entry)) (now (sc .entry))) (bufs (now (ev .exit)) (now (er .exit)) (now (sc .exit))) ⌝ }
 {
     if s.mode != mode::OK {
         return s;
     }
-    s = s.trivia(ids, ends, events);
-    s = s.begin(d, ids, ends, events);
+    s = s.trivia(ids, ends, ev);
+    s = s.begin(d, ids, ends, ev);
     let from = s.pos;
     let at = s.ev;
     if d == 0 {
@@ -2042,81 +1262,55 @@ fn with_expr(
             kind::WITH_EXPR,
             from,
             at,
-            optional,
+            may,
             src,
             ids,
             ends,
-            events,
-            errors,
+            ev,
+            er,
             notes,
         );
     }
     let below = d - 1;
-    s = s.expect(set::WITH_KW, EXPRESSION, ids, ends, events, notes, sets);
+    s = s.expect(set::WITH_KW, EXPRESSION, ids, ends, ev, notes, sets);
     if s.mode != mode::OK {
         return s.end(
             kind::WITH_EXPR,
             from,
             at,
-            optional,
+            may,
             src,
             ids,
             ends,
-            events,
-            errors,
+            ev,
+            er,
             notes,
         );
     }
-    s = decls(
-        s,
-        below,
-        optional,
-        entrypoint,
-        src,
-        ids,
-        ends,
-        events,
-        errors,
-        scratch,
-        notes,
-        sets,
-    );
+    s = decls(s, below, may, ep, src, ids, ends, ev, er, sc, notes, sets);
     s = s.recover(
         below,
-        optional,
+        may,
         set::COLON_OR_PAREN,
         src,
         ids,
         ends,
-        events,
-        errors,
+        ev,
+        er,
         notes,
         sets,
     );
-    s = body(
-        s,
-        below,
-        optional,
-        entrypoint,
-        src,
-        ids,
-        ends,
-        events,
-        errors,
-        scratch,
-        notes,
-        sets,
-    );
+    s = body(s, below, may, ep, src, ids, ends, ev, er, sc, notes, sets);
     s.end(
         kind::WITH_EXPR,
         from,
         at,
-        optional,
+        may,
         src,
         ids,
         ends,
-        events,
-        errors,
+        ev,
+        er,
         notes,
     )
 }
@@ -2125,28 +1319,28 @@ fn with_expr(
 fn decls(
     mut s: State,
     d: usize,
-    optional: bool,
-    entrypoint: bool,
+    may: bool,
+    ep: bool,
     src: &[u8],
     ids: &[u32],
     ends: &[u32],
-    events: &mut [u32],
-    errors: &mut [u32],
-    scratch: &mut [u64],
+    ev: &mut [u32],
+    er: &mut [u32],
+    sc: &mut [u64],
     notes: &mut [usize; 69],
     sets: &[[u64; 2]; 56],
 ) -> State
-    requires { ⌜ Asks (now src) (now ids) (now ends) s (now notes) (now events) (now errors) (now scratch) (now sets) ⌝ }
+    requires { ⌜ Asks (now src) (now ids) (now ends) s (now notes) (now ev) (now er) (now sc) (now sets) ⌝ }
     ensures { λ r. ⌜
-        Reads entrypoint d optional (then (node G.WITH-DECLS)) (source (now (src .entry)) (now (ids .entry)) (now (ends .entry)))
+        Reads ep d may (then (node G.WITH-DECLS)) (source (now (src .entry)) (now (ids .entry)) (now (ends .entry)))
         s (now (notes .entry)) r (now (notes .exit))
-        (bufs (now (events .entry)) (now (errors .entry)) (now (scratch .entry))) (bufs (now (events .exit)) (now (errors .exit)) (now (scratch .exit))) ⌝ }
+        (bufs (now (ev .entry)) (now (er .entry)) (now (sc .entry))) (bufs (now (ev .exit)) (now (er .exit)) (now (sc .exit))) ⌝ }
 {
     if s.mode != mode::OK {
         return s;
     }
-    s = s.trivia(ids, ends, events);
-    s = s.begin(d, ids, ends, events);
+    s = s.trivia(ids, ends, ev);
+    s = s.begin(d, ids, ends, ev);
     let from = s.pos;
     let at = s.ev;
     if d == 0 {
@@ -2154,12 +1348,12 @@ fn decls(
             kind::WITH_DECLS,
             from,
             at,
-            optional,
+            may,
             src,
             ids,
             ends,
-            events,
-            errors,
+            ev,
+            er,
             notes,
         );
     }
@@ -2169,53 +1363,28 @@ fn decls(
             kind::WITH_DECLS,
             from,
             at,
-            optional,
+            may,
             src,
             ids,
             ends,
-            events,
-            errors,
+            ev,
+            er,
             notes,
         );
     }
-    s = s.trivia(ids, ends, events);
-    s = decl(
-        s,
-        below,
-        optional,
-        entrypoint,
-        src,
-        ids,
-        ends,
-        events,
-        errors,
-        scratch,
-        notes,
-        sets,
-    );
-    s = and(
-        s,
-        below,
-        entrypoint,
-        src,
-        ids,
-        ends,
-        events,
-        errors,
-        scratch,
-        notes,
-        sets,
-    );
+    s = s.trivia(ids, ends, ev);
+    s = decl(s, below, may, ep, src, ids, ends, ev, er, sc, notes, sets);
+    s = and(s, below, ep, src, ids, ends, ev, er, sc, notes, sets);
     s.end(
         kind::WITH_DECLS,
         from,
         at,
-        optional,
+        may,
         src,
         ids,
         ends,
-        events,
-        errors,
+        ev,
+        er,
         notes,
     )
 }
@@ -2224,21 +1393,21 @@ fn decls(
 fn and(
     mut s: State,
     d: usize,
-    entrypoint: bool,
+    ep: bool,
     src: &[u8],
     ids: &[u32],
     ends: &[u32],
-    events: &mut [u32],
-    errors: &mut [u32],
-    scratch: &mut [u64],
+    ev: &mut [u32],
+    er: &mut [u32],
+    sc: &mut [u64],
     notes: &mut [usize; 69],
     sets: &[[u64; 2]; 56],
 ) -> State
-    requires { ⌜ Asks (now src) (now ids) (now ends) s (now notes) (now events) (now errors) (now scratch) (now sets) ⌝ }
+    requires { ⌜ Asks (now src) (now ids) (now ends) s (now notes) (now ev) (now er) (now sc) (now sets) ⌝ }
     ensures { λ r. ⌜
-        Reads entrypoint d true more-decls (source (now (src .entry)) (now (ids .entry)) (now (ends .entry)))
+        Reads ep d true more-decls (source (now (src .entry)) (now (ids .entry)) (now (ends .entry)))
         s (now (notes .entry)) r (now (notes .exit))
-        (bufs (now (events .entry)) (now (errors .entry)) (now (scratch .entry))) (bufs (now (events .exit)) (now (errors .exit)) (now (scratch .exit))) ⌝ }
+        (bufs (now (ev .entry)) (now (er .entry)) (now (sc .entry))) (bufs (now (ev .exit)) (now (er .exit)) (now (sc .exit))) ⌝ }
 {
     if s.mode != mode::OK {
         return s;
@@ -2246,22 +1415,9 @@ fn and(
     let mut n = ids.len() - s.pos + 1;
     while n > 0 {
         let m = s.mark();
-        s = s.trivia(ids, ends, events);
-        s = s.expect(set::COMMA, set::COMMA, ids, ends, events, notes, sets);
-        s = decl(
-            s,
-            d,
-            true,
-            entrypoint,
-            src,
-            ids,
-            ends,
-            events,
-            errors,
-            scratch,
-            notes,
-            sets,
-        );
+        s = s.trivia(ids, ends, ev);
+        s = s.expect(set::COMMA, set::COMMA, ids, ends, ev, notes, sets);
+        s = decl(s, d, true, ep, src, ids, ends, ev, er, sc, notes, sets);
         if s.mode != mode::OK {
             return s.undone(m);
         }
@@ -2274,24 +1430,24 @@ fn and(
 fn decl(
     mut s: State,
     d: usize,
-    optional: bool,
-    entrypoint: bool,
+    may: bool,
+    ep: bool,
     src: &[u8],
     ids: &[u32],
     ends: &[u32],
-    events: &mut [u32],
-    errors: &mut [u32],
-    scratch: &mut [u64],
+    ev: &mut [u32],
+    er: &mut [u32],
+    sc: &mut [u64],
     notes: &mut [usize; 69],
     sets: &[[u64; 2]; 56],
 ) -> State
-    requires { ⌜ Asks (now src) (now ids) (now ends) s (now notes) (now events) (now errors) (now scratch) (now sets) ⌝ }
+    requires { ⌜ Asks (now src) (now ids) (now ends) s (now notes) (now ev) (now er) (now sc) (now sets) ⌝ }
     ensures { λ r. ⌜
-        Reads entrypoint d optional (node G.WITH-DECL) (source (now (src .entry)) (now (ids .entry)) (now (ends .entry)))
+        Reads ep d may (node G.WITH-DECL) (source (now (src .entry)) (now (ids .entry)) (now (ends .entry)))
         s (now (notes .entry)) r (now (notes .exit))
-        (bufs (now (events .entry)) (now (errors .entry)) (now (scratch .entry))) (bufs (now (events .exit)) (now (errors .exit)) (now (scratch .exit))) ⌝ }
+        (bufs (now (ev .entry)) (now (er .entry)) (now (sc .entry))) (bufs (now (ev .exit)) (now (er .exit)) (now (sc .exit))) ⌝ }
 {
-    s = s.begin(d, ids, ends, events);
+    s = s.begin(d, ids, ends, ev);
     let from = s.pos;
     let at = s.ev;
     if d == 0 {
@@ -2299,42 +1455,29 @@ fn decl(
             kind::WITH_DECL,
             from,
             at,
-            optional,
+            may,
             src,
             ids,
             ends,
-            events,
-            errors,
+            ev,
+            er,
             notes,
         );
     }
     let below = d - 1;
-    s = s.expect(set::IDENT, set::IDENT, ids, ends, events, notes, sets);
-    s = s.expect(set::EQUAL, set::EQUAL, ids, ends, events, notes, sets);
-    s = expr(
-        s,
-        below,
-        optional,
-        entrypoint,
-        src,
-        ids,
-        ends,
-        events,
-        errors,
-        scratch,
-        notes,
-        sets,
-    );
+    s = s.expect(set::IDENT, set::IDENT, ids, ends, ev, notes, sets);
+    s = s.expect(set::EQUAL, set::EQUAL, ids, ends, ev, notes, sets);
+    s = expr(s, below, may, ep, src, ids, ends, ev, er, sc, notes, sets);
     s.end(
         kind::WITH_DECL,
         from,
         at,
-        optional,
+        may,
         src,
         ids,
         ends,
-        events,
-        errors,
+        ev,
+        er,
         notes,
     )
 }
@@ -2343,28 +1486,28 @@ fn decl(
 fn quant(
     mut s: State,
     d: usize,
-    optional: bool,
-    entrypoint: bool,
+    may: bool,
+    ep: bool,
     src: &[u8],
     ids: &[u32],
     ends: &[u32],
-    events: &mut [u32],
-    errors: &mut [u32],
-    scratch: &mut [u64],
+    ev: &mut [u32],
+    er: &mut [u32],
+    sc: &mut [u64],
     notes: &mut [usize; 69],
     sets: &[[u64; 2]; 56],
 ) -> State
-    requires { ⌜ Asks (now src) (now ids) (now ends) s (now notes) (now events) (now errors) (now scratch) (now sets) ⌝ }
+    requires { ⌜ Asks (now src) (now ids) (now ends) s (now notes) (now ev) (now er) (now sc) (now sets) ⌝ }
     ensures { λ r. ⌜
-        Reads entrypoint d optional (then (node G.QUANTIFIER)) (source (now (src .entry)) (now (ids .entry)) (now (ends .entry)))
+        Reads ep d may (then (node G.QUANTIFIER)) (source (now (src .entry)) (now (ids .entry)) (now (ends .entry)))
         s (now (notes .entry)) r (now (notes .exit))
-        (bufs (now (events .entry)) (now (errors .entry)) (now (scratch .entry))) (bufs (now (events .exit)) (now (errors .exit)) (now (scratch .exit))) ⌝ }
+        (bufs (now (ev .entry)) (now (er .entry)) (now (sc .entry))) (bufs (now (ev .exit)) (now (er .exit)) (now (sc .exit))) ⌝ }
 {
     if s.mode != mode::OK {
         return s;
     }
-    s = s.trivia(ids, ends, events);
-    s = s.begin(d, ids, ends, events);
+    s = s.trivia(ids, ends, ev);
+    s = s.begin(d, ids, ends, ev);
     let from = s.pos;
     let at = s.ev;
     if d == 0 {
@@ -2372,40 +1515,27 @@ fn quant(
             kind::QUANTIFIER,
             from,
             at,
-            optional,
+            may,
             src,
             ids,
             ends,
-            events,
-            errors,
+            ev,
+            er,
             notes,
         );
     }
     let below = d - 1;
-    s = how(
-        s,
-        below,
-        optional,
-        entrypoint,
-        src,
-        ids,
-        ends,
-        events,
-        errors,
-        scratch,
-        notes,
-        sets,
-    );
+    s = how(s, below, may, ep, src, ids, ends, ev, er, sc, notes, sets);
     s.end(
         kind::QUANTIFIER,
         from,
         at,
-        optional,
+        may,
         src,
         ids,
         ends,
-        events,
-        errors,
+        ev,
+        er,
         notes,
     )
 }
@@ -2414,77 +1544,43 @@ fn quant(
 fn how(
     mut s: State,
     d: usize,
-    optional: bool,
-    entrypoint: bool,
+    may: bool,
+    ep: bool,
     src: &[u8],
     ids: &[u32],
     ends: &[u32],
-    events: &mut [u32],
-    errors: &mut [u32],
-    scratch: &mut [u64],
+    ev: &mut [u32],
+    er: &mut [u32],
+    sc: &mut [u64],
     notes: &mut [usize; 69],
     sets: &[[u64; 2]; 56],
 ) -> State
-    requires { ⌜ Asks (now src) (now ids) (now ends) s (now notes) (now events) (now errors) (now scratch) (now sets) ⌝ }
+    requires { ⌜ Asks (now src) (now ids) (now ends) s (now notes) (now ev) (now er) (now sc) (now sets) ⌝ }
     ensures { λ r. ⌜
-        Reads entrypoint d optional (grammar entrypoint G.QUANTIFIER) (source (now (src .entry)) (now (ids .entry)) (now (ends .entry)))
+        Reads ep d may (grammar ep G.QUANTIFIER) (source (now (src .entry)) (now (ids .entry)) (now (ends .entry)))
         s (now (notes .entry)) r (now (notes .exit))
-        (bufs (now (events .entry)) (now (errors .entry)) (now (scratch .entry))) (bufs (now (events .exit)) (now (errors .exit)) (now (scratch .exit))) ⌝ }
+        (bufs (now (ev .entry)) (now (er .entry)) (now (sc .entry))) (bufs (now (ev .exit)) (now (er .exit)) (now (sc .exit))) ⌝ }
 {
     if s.mode != mode::OK {
         return s;
     }
     let m = s.mark();
-    s = s.trivia(ids, ends, events);
-    s = s.expect(
-        set::ALL_NONE_ANY,
-        EXPRESSION,
-        ids,
-        ends,
-        events,
-        notes,
-        sets,
-    );
+    s = s.trivia(ids, ends, ev);
+    s = s.expect(set::ALL_NONE_ANY, EXPRESSION, ids, ends, ev, notes, sets);
     if s.mode != mode::FAILED {
         return s;
     }
     s = s.rewind(m);
     s.mode = mode::OK;
-    s = term(
-        s,
-        d,
-        true,
-        entrypoint,
-        src,
-        ids,
-        ends,
-        events,
-        errors,
-        scratch,
-        notes,
-        sets,
-    );
-    s = s.expect(set::PERCENT, set::PERCENT, ids, ends, events, notes, sets);
+    s = term(s, d, true, ep, src, ids, ends, ev, er, sc, notes, sets);
+    s = s.expect(set::PERCENT, set::PERCENT, ids, ends, ev, notes, sets);
     if s.mode != mode::FAILED {
         return s;
     }
     s = s.rewind(m);
     s.mode = mode::OK;
-    s = expr(
-        s,
-        d,
-        true,
-        entrypoint,
-        src,
-        ids,
-        ends,
-        events,
-        errors,
-        scratch,
-        notes,
-        sets,
-    );
-    s = s.unless(set::PERCENT, ids, ends, events, notes, sets);
+    s = expr(s, d, true, ep, src, ids, ends, ev, er, sc, notes, sets);
+    s = s.unless(set::PERCENT, ids, ends, ev, notes, sets);
     if s.mode != mode::FAILED {
         return s;
     }
@@ -2496,146 +1592,72 @@ fn how(
 fn iter(
     mut s: State,
     d: usize,
-    optional: bool,
-    entrypoint: bool,
+    may: bool,
+    ep: bool,
     src: &[u8],
     ids: &[u32],
     ends: &[u32],
-    events: &mut [u32],
-    errors: &mut [u32],
-    scratch: &mut [u64],
+    ev: &mut [u32],
+    er: &mut [u32],
+    sc: &mut [u64],
     notes: &mut [usize; 69],
     sets: &[[u64; 2]; 56],
 ) -> State
-    requires { ⌜ Asks (now src) (now ids) (now ends) s (now notes) (now events) (now errors) (now scratch) (now sets) ⌝ }
+    requires { ⌜ Asks (now src) (now ids) (now ends) s (now notes) (now ev) (now er) (now sc) (now sets) ⌝ }
     ensures { λ r. ⌜
-        Reads entrypoint d optional (node G.ITERABLE) (source (now (src .entry)) (now (ids .entry)) (now (ends .entry)))
+        Reads ep d may (node G.ITERABLE) (source (now (src .entry)) (now (ids .entry)) (now (ends .entry)))
         s (now (notes .entry)) r (now (notes .exit))
-        (bufs (now (events .entry)) (now (errors .entry)) (now (scratch .entry))) (bufs (now (events .exit)) (now (errors .exit)) (now (scratch .exit))) ⌝ }
+        (bufs (now (ev .entry)) (now (er .entry)) (now (sc .entry))) (bufs (now (ev .exit)) (now (er .exit)) (now (sc .exit))) ⌝ }
 {
-    s = s.begin(d, ids, ends, events);
+    s = s.begin(d, ids, ends, ev);
     let from = s.pos;
     let at = s.ev;
     if d == 0 {
-        return s.end(
-            kind::ITERABLE,
-            from,
-            at,
-            optional,
-            src,
-            ids,
-            ends,
-            events,
-            errors,
-            notes,
-        );
+        return s.end(kind::ITERABLE, from, at, may, src, ids, ends, ev, er, notes);
     }
     let below = d - 1;
-    s = vals(
-        s,
-        below,
-        optional,
-        entrypoint,
-        src,
-        ids,
-        ends,
-        events,
-        errors,
-        scratch,
-        notes,
-        sets,
-    );
-    s.end(
-        kind::ITERABLE,
-        from,
-        at,
-        optional,
-        src,
-        ids,
-        ends,
-        events,
-        errors,
-        notes,
-    )
+    s = vals(s, below, may, ep, src, ids, ends, ev, er, sc, notes, sets);
+    s.end(kind::ITERABLE, from, at, may, src, ids, ends, ev, er, notes)
 }
 
 // The alternatives of ITERABLE.
 fn vals(
     mut s: State,
     d: usize,
-    optional: bool,
-    entrypoint: bool,
+    may: bool,
+    ep: bool,
     src: &[u8],
     ids: &[u32],
     ends: &[u32],
-    events: &mut [u32],
-    errors: &mut [u32],
-    scratch: &mut [u64],
+    ev: &mut [u32],
+    er: &mut [u32],
+    sc: &mut [u64],
     notes: &mut [usize; 69],
     sets: &[[u64; 2]; 56],
 ) -> State
-    requires { ⌜ Asks (now src) (now ids) (now ends) s (now notes) (now events) (now errors) (now scratch) (now sets) ⌝ }
+    requires { ⌜ Asks (now src) (now ids) (now ends) s (now notes) (now ev) (now er) (now sc) (now sets) ⌝ }
     ensures { λ r. ⌜
-        Reads entrypoint d optional (grammar entrypoint G.ITERABLE) (source (now (src .entry)) (now (ids .entry)) (now (ends .entry)))
+        Reads ep d may (grammar ep G.ITERABLE) (source (now (src .entry)) (now (ids .entry)) (now (ends .entry)))
         s (now (notes .entry)) r (now (notes .exit))
-        (bufs (now (events .entry)) (now (errors .entry)) (now (scratch .entry))) (bufs (now (events .exit)) (now (errors .exit)) (now (scratch .exit))) ⌝ }
+        (bufs (now (ev .entry)) (now (er .entry)) (now (sc .entry))) (bufs (now (ev .exit)) (now (er .exit)) (now (sc .exit))) ⌝ }
 {
     if s.mode != mode::OK {
         return s;
     }
     let m = s.mark();
-    s = range(
-        s,
-        d,
-        true,
-        entrypoint,
-        src,
-        ids,
-        ends,
-        events,
-        errors,
-        scratch,
-        notes,
-        sets,
-    );
+    s = range(s, d, true, ep, src, ids, ends, ev, er, sc, notes, sets);
     if s.mode != mode::FAILED {
         return s;
     }
     s = s.rewind(m);
     s.mode = mode::OK;
-    s = exprs(
-        s,
-        d,
-        true,
-        entrypoint,
-        src,
-        ids,
-        ends,
-        events,
-        errors,
-        scratch,
-        notes,
-        sets,
-    );
+    s = exprs(s, d, true, ep, src, ids, ends, ev, er, sc, notes, sets);
     if s.mode != mode::FAILED {
         return s;
     }
     s = s.rewind(m);
     s.mode = mode::OK;
-    s = expr(
-        s,
-        d,
-        true,
-        entrypoint,
-        src,
-        ids,
-        ends,
-        events,
-        errors,
-        scratch,
-        notes,
-        sets,
-    );
+    s = expr(s, d, true, ep, src, ids, ends, ev, er, sc, notes, sets);
     if s.mode != mode::FAILED {
         return s;
     }
@@ -2647,28 +1669,28 @@ fn vals(
 fn exprs(
     mut s: State,
     d: usize,
-    optional: bool,
-    entrypoint: bool,
+    may: bool,
+    ep: bool,
     src: &[u8],
     ids: &[u32],
     ends: &[u32],
-    events: &mut [u32],
-    errors: &mut [u32],
-    scratch: &mut [u64],
+    ev: &mut [u32],
+    er: &mut [u32],
+    sc: &mut [u64],
     notes: &mut [usize; 69],
     sets: &[[u64; 2]; 56],
 ) -> State
-    requires { ⌜ Asks (now src) (now ids) (now ends) s (now notes) (now events) (now errors) (now scratch) (now sets) ⌝ }
+    requires { ⌜ Asks (now src) (now ids) (now ends) s (now notes) (now ev) (now er) (now sc) (now sets) ⌝ }
     ensures { λ r. ⌜
-        Reads entrypoint d optional (then (node G.EXPR-TUPLE)) (source (now (src .entry)) (now (ids .entry)) (now (ends .entry)))
+        Reads ep d may (then (node G.EXPR-TUPLE)) (source (now (src .entry)) (now (ids .entry)) (now (ends .entry)))
         s (now (notes .entry)) r (now (notes .exit))
-        (bufs (now (events .entry)) (now (errors .entry)) (now (scratch .entry))) (bufs (now (events .exit)) (now (errors .exit)) (now (scratch .exit))) ⌝ }
+        (bufs (now (ev .entry)) (now (er .entry)) (now (sc .entry))) (bufs (now (ev .exit)) (now (er .exit)) (now (sc .exit))) ⌝ }
 {
     if s.mode != mode::OK {
         return s;
     }
-    s = s.trivia(ids, ends, events);
-    s = s.begin(d, ids, ends, events);
+    s = s.trivia(ids, ends, ev);
+    s = s.begin(d, ids, ends, ev);
     let from = s.pos;
     let at = s.ev;
     if d == 0 {
@@ -2676,58 +1698,45 @@ fn exprs(
             kind::EXPR_TUPLE,
             from,
             at,
-            optional,
+            may,
             src,
             ids,
             ends,
-            events,
-            errors,
+            ev,
+            er,
             notes,
         );
     }
     let below = d - 1;
-    s = s.expect(set::L_PAREN, set::L_PAREN, ids, ends, events, notes, sets);
-    s = expr(
-        s,
-        below,
-        optional,
-        entrypoint,
-        src,
-        ids,
-        ends,
-        events,
-        errors,
-        scratch,
-        notes,
-        sets,
-    );
+    s = s.expect(set::L_PAREN, set::L_PAREN, ids, ends, ev, notes, sets);
+    s = expr(s, below, may, ep, src, ids, ends, ev, er, sc, notes, sets);
     s = more(
         set::COMMA,
         set::COMMA,
         Item::Expr,
         s,
         below,
-        entrypoint,
+        ep,
         src,
         ids,
         ends,
-        events,
-        errors,
-        scratch,
+        ev,
+        er,
+        sc,
         notes,
         sets,
     );
-    s = s.expect(set::R_PAREN, set::R_PAREN, ids, ends, events, notes, sets);
+    s = s.expect(set::R_PAREN, set::R_PAREN, ids, ends, ev, notes, sets);
     s.end(
         kind::EXPR_TUPLE,
         from,
         at,
-        optional,
+        may,
         src,
         ids,
         ends,
-        events,
-        errors,
+        ev,
+        er,
         notes,
     )
 }
@@ -2736,28 +1745,28 @@ fn exprs(
 fn bools(
     mut s: State,
     d: usize,
-    optional: bool,
-    entrypoint: bool,
+    may: bool,
+    ep: bool,
     src: &[u8],
     ids: &[u32],
     ends: &[u32],
-    events: &mut [u32],
-    errors: &mut [u32],
-    scratch: &mut [u64],
+    ev: &mut [u32],
+    er: &mut [u32],
+    sc: &mut [u64],
     notes: &mut [usize; 69],
     sets: &[[u64; 2]; 56],
 ) -> State
-    requires { ⌜ Asks (now src) (now ids) (now ends) s (now notes) (now events) (now errors) (now scratch) (now sets) ⌝ }
+    requires { ⌜ Asks (now src) (now ids) (now ends) s (now notes) (now ev) (now er) (now sc) (now sets) ⌝ }
     ensures { λ r. ⌜
-        Reads entrypoint d optional (then (node G.BOOLEAN-EXPR-TUPLE)) (source (now (src .entry)) (now (ids .entry)) (now (ends .entry)))
+        Reads ep d may (then (node G.BOOLEAN-EXPR-TUPLE)) (source (now (src .entry)) (now (ids .entry)) (now (ends .entry)))
         s (now (notes .entry)) r (now (notes .exit))
-        (bufs (now (events .entry)) (now (errors .entry)) (now (scratch .entry))) (bufs (now (events .exit)) (now (errors .exit)) (now (scratch .exit))) ⌝ }
+        (bufs (now (ev .entry)) (now (er .entry)) (now (sc .entry))) (bufs (now (ev .exit)) (now (er .exit)) (now (sc .exit))) ⌝ }
 {
     if s.mode != mode::OK {
         return s;
     }
-    s = s.trivia(ids, ends, events);
-    s = s.begin(d, ids, ends, events);
+    s = s.trivia(ids, ends, ev);
+    s = s.begin(d, ids, ends, ev);
     let from = s.pos;
     let at = s.ev;
     if d == 0 {
@@ -2765,58 +1774,45 @@ fn bools(
             kind::BOOLEAN_EXPR_TUPLE,
             from,
             at,
-            optional,
+            may,
             src,
             ids,
             ends,
-            events,
-            errors,
+            ev,
+            er,
             notes,
         );
     }
     let below = d - 1;
-    s = s.expect(set::L_PAREN, set::L_PAREN, ids, ends, events, notes, sets);
-    s = bool_expr(
-        s,
-        below,
-        optional,
-        entrypoint,
-        src,
-        ids,
-        ends,
-        events,
-        errors,
-        scratch,
-        notes,
-        sets,
-    );
+    s = s.expect(set::L_PAREN, set::L_PAREN, ids, ends, ev, notes, sets);
+    s = bool_expr(s, below, may, ep, src, ids, ends, ev, er, sc, notes, sets);
     s = more(
         set::COMMA,
         set::COMMA,
         Item::BooleanExpr,
         s,
         below,
-        entrypoint,
+        ep,
         src,
         ids,
         ends,
-        events,
-        errors,
-        scratch,
+        ev,
+        er,
+        sc,
         notes,
         sets,
     );
-    s = s.expect(set::R_PAREN, set::R_PAREN, ids, ends, events, notes, sets);
+    s = s.expect(set::R_PAREN, set::R_PAREN, ids, ends, ev, notes, sets);
     s.end(
         kind::BOOLEAN_EXPR_TUPLE,
         from,
         at,
-        optional,
+        may,
         src,
         ids,
         ends,
-        events,
-        errors,
+        ev,
+        er,
         notes,
     )
 }
@@ -2828,21 +1824,21 @@ fn more(
     item: Item,
     mut s: State,
     d: usize,
-    entrypoint: bool,
+    ep: bool,
     src: &[u8],
     ids: &[u32],
     ends: &[u32],
-    events: &mut [u32],
-    errors: &mut [u32],
-    scratch: &mut [u64],
+    ev: &mut [u32],
+    er: &mut [u32],
+    sc: &mut [u64],
     notes: &mut [usize; 69],
     sets: &[[u64; 2]; 56],
 ) -> State
-    requires { ⌜ Asks (now src) (now ids) (now ends) s (now notes) (now events) (now errors) (now scratch) (now sets) × (code < 58) ⌝ }
+    requires { ⌜ Asks (now src) (now ids) (now ends) s (now notes) (now ev) (now er) (now sc) (now sets) × (code < 58) ⌝ }
     ensures { λ r. ⌜
-        Reads entrypoint d true (listed sep code item) (source (now (src .entry)) (now (ids .entry)) (now (ends .entry)))
+        Reads ep d true (listed sep code item) (source (now (src .entry)) (now (ids .entry)) (now (ends .entry)))
         s (now (notes .entry)) r (now (notes .exit))
-        (bufs (now (events .entry)) (now (errors .entry)) (now (scratch .entry))) (bufs (now (events .exit)) (now (errors .exit)) (now (scratch .exit))) ⌝ }
+        (bufs (now (ev .entry)) (now (er .entry)) (now (sc .entry))) (bufs (now (ev .exit)) (now (er .exit)) (now (sc .exit))) ⌝ }
 {
     if s.mode != mode::OK {
         return s;
@@ -2850,25 +1846,12 @@ fn more(
     let mut n = ids.len() - s.pos + 1;
     while n > 0 {
         let m = s.mark();
-        s = s.trivia(ids, ends, events);
-        s = s.expect(sep, code, ids, ends, events, notes, sets);
+        s = s.trivia(ids, ends, ev);
+        s = s.expect(sep, code, ids, ends, ev, notes, sets);
         if s.mode != mode::OK {
             return s.undone(m);
         }
-        s = each(
-            item,
-            s,
-            d,
-            entrypoint,
-            src,
-            ids,
-            ends,
-            events,
-            errors,
-            scratch,
-            notes,
-            sets,
-        );
+        s = each(item, s, d, ep, src, ids, ends, ev, er, sc, notes, sets);
         if s.mode != mode::OK {
             return s.undone(m);
         }
@@ -2882,93 +1865,28 @@ fn each(
     item: Item,
     s: State,
     d: usize,
-    entrypoint: bool,
+    ep: bool,
     src: &[u8],
     ids: &[u32],
     ends: &[u32],
-    events: &mut [u32],
-    errors: &mut [u32],
-    scratch: &mut [u64],
+    ev: &mut [u32],
+    er: &mut [u32],
+    sc: &mut [u64],
     notes: &mut [usize; 69],
     sets: &[[u64; 2]; 56],
 ) -> State
-    requires { ⌜ Asks (now src) (now ids) (now ends) s (now notes) (now events) (now errors) (now scratch) (now sets) ⌝ }
+    requires { ⌜ Asks (now src) (now ids) (now ends) s (now notes) (now ev) (now er) (now sc) (now sets) ⌝ }
     ensures { λ r. ⌜
-        Reads entrypoint d true (itemOf item) (source (now (src .entry)) (now (ids .entry)) (now (ends .entry)))
+        Reads ep d true (itemOf item) (source (now (src .entry)) (now (ids .entry)) (now (ends .entry)))
         s (now (notes .entry)) r (now (notes .exit))
-        (bufs (now (events .entry)) (now (errors .entry)) (now (scratch .entry))) (bufs (now (events .exit)) (now (errors .exit)) (now (scratch .exit))) ⌝ }
+        (bufs (now (ev .entry)) (now (er .entry)) (now (sc .entry))) (bufs (now (ev .exit)) (now (er .exit)) (now (sc .exit))) ⌝ }
 {
     match item {
-        Item::Ident => s.expect(set::IDENT, set::IDENT, ids, ends, events, notes, sets),
-        Item::Term => term(
-            s,
-            d,
-            true,
-            entrypoint,
-            src,
-            ids,
-            ends,
-            events,
-            errors,
-            scratch,
-            notes,
-            sets,
-        ),
-        Item::Expr => expr(
-            s,
-            d,
-            true,
-            entrypoint,
-            src,
-            ids,
-            ends,
-            events,
-            errors,
-            scratch,
-            notes,
-            sets,
-        ),
-        Item::PrimaryExpr => primary(
-            s,
-            d,
-            true,
-            entrypoint,
-            src,
-            ids,
-            ends,
-            events,
-            errors,
-            scratch,
-            notes,
-            sets,
-        ),
-        Item::BooleanTerm => bool_term(
-            s,
-            d,
-            true,
-            entrypoint,
-            src,
-            ids,
-            ends,
-            events,
-            errors,
-            scratch,
-            notes,
-            sets,
-        ),
-        Item::BooleanExpr => bool_expr(
-            s,
-            d,
-            true,
-            entrypoint,
-            src,
-            ids,
-            ends,
-            events,
-            errors,
-            scratch,
-            notes,
-            sets,
-        ),
+        Item::Ident => s.expect(set::IDENT, set::IDENT, ids, ends, ev, notes, sets),
+        Item::Term => term(s, d, true, ep, src, ids, ends, ev, er, sc, notes, sets),
+        Item::Expr => expr(s, d, true, ep, src, ids, ends, ev, er, sc, notes, sets),
+        Item::PrimaryExpr => primary(s, d, true, ep, src, ids, ends, ev, er, sc, notes, sets),
+        Item::BooleanTerm => bool_term(s, d, true, ep, src, ids, ends, ev, er, sc, notes, sets),
+        Item::BooleanExpr => bool_expr(s, d, true, ep, src, ids, ends, ev, er, sc, notes, sets),
     }
 }

@@ -23,24 +23,24 @@ ghost use Rattle.grammar.specs.Parts.{metas, meta-defs, more-metas, meta
 fn rule_decl(
     mut s: State,
     d: usize,
-    optional: bool,
-    entrypoint: bool,
+    may: bool,
+    ep: bool,
     src: &[u8],
     ids: &[u32],
     ends: &[u32],
-    events: &mut [u32],
-    errors: &mut [u32],
-    scratch: &mut [u64],
+    ev: &mut [u32],
+    er: &mut [u32],
+    sc: &mut [u64],
     notes: &mut [usize; 69],
     sets: &[[u64; 2]; 56],
 ) -> State
-    requires { ⌜ Asks (now src) (now ids) (now ends) s (now notes) (now events) (now errors) (now scratch) (now sets) ⌝ }
+    requires { ⌜ Asks (now src) (now ids) (now ends) s (now notes) (now ev) (now er) (now sc) (now sets) ⌝ }
     ensures { λ r. ⌜
-        Reads entrypoint d optional (node G.RULE-DECL) (source (now (src .entry)) (now (ids .entry)) (now (ends .entry)))
+        Reads ep d may (node G.RULE-DECL) (source (now (src .entry)) (now (ids .entry)) (now (ends .entry)))
         s (now (notes .entry)) r (now (notes .exit))
-        (bufs (now (events .entry)) (now (errors .entry)) (now (scratch .entry))) (bufs (now (events .exit)) (now (errors .exit)) (now (scratch .exit))) ⌝ }
+        (bufs (now (ev .entry)) (now (er .entry)) (now (sc .entry))) (bufs (now (ev .exit)) (now (er .exit)) (now (sc .exit))) ⌝ }
 {
-    s = s.begin(d, ids, ends, events);
+    s = s.begin(d, ids, ends, ev);
     let from = s.pos;
     let at = s.ev;
     if d == 0 {
@@ -48,54 +48,28 @@ fn rule_decl(
             kind::RULE_DECL,
             from,
             at,
-            optional,
+            may,
             src,
             ids,
             ends,
-            events,
-            errors,
+            ev,
+            er,
             notes,
         );
     }
     let below = d - 1;
-    s = head(
-        s,
-        below,
-        optional,
-        entrypoint,
-        src,
-        ids,
-        ends,
-        events,
-        errors,
-        scratch,
-        notes,
-        sets,
-    );
-    s = sections(
-        s,
-        below,
-        optional,
-        entrypoint,
-        src,
-        ids,
-        ends,
-        events,
-        errors,
-        scratch,
-        notes,
-        sets,
-    );
+    s = head(s, below, may, ep, src, ids, ends, ev, er, sc, notes, sets);
+    s = sections(s, below, may, ep, src, ids, ends, ev, er, sc, notes, sets);
     s.end(
         kind::RULE_DECL,
         from,
         at,
-        optional,
+        may,
         src,
         ids,
         ends,
-        events,
-        errors,
+        ev,
+        er,
         notes,
     )
 }
@@ -104,54 +78,28 @@ fn rule_decl(
 fn head(
     mut s: State,
     d: usize,
-    optional: bool,
-    entrypoint: bool,
+    may: bool,
+    ep: bool,
     src: &[u8],
     ids: &[u32],
     ends: &[u32],
-    events: &mut [u32],
-    errors: &mut [u32],
-    scratch: &mut [u64],
+    ev: &mut [u32],
+    er: &mut [u32],
+    sc: &mut [u64],
     notes: &mut [usize; 69],
     sets: &[[u64; 2]; 56],
 ) -> State
-    requires { ⌜ Asks (now src) (now ids) (now ends) s (now notes) (now events) (now errors) (now scratch) (now sets) ⌝ }
+    requires { ⌜ Asks (now src) (now ids) (now ends) s (now notes) (now ev) (now er) (now sc) (now sets) ⌝ }
     ensures { λ r. ⌜
-        Reads entrypoint d optional head (source (now (src .entry)) (now (ids .entry)) (now (ends .entry)))
+        Reads ep d may head (source (now (src .entry)) (now (ids .entry)) (now (ends .entry)))
         s (now (notes .entry)) r (now (notes .exit))
-        (bufs (now (events .entry)) (now (errors .entry)) (now (scratch .entry))) (bufs (now (events .exit)) (now (errors .exit)) (now (scratch .exit))) ⌝ }
+        (bufs (now (ev .entry)) (now (er .entry)) (now (sc .entry))) (bufs (now (ev .exit)) (now (er .exit)) (now (sc .exit))) ⌝ }
 {
-    s = any_rule_mods(
-        s,
-        d,
-        optional,
-        entrypoint,
-        src,
-        ids,
-        ends,
-        events,
-        errors,
-        scratch,
-        notes,
-        sets,
-    );
-    s = s.expect(set::RULE_KW, set::RULE_KW, ids, ends, events, notes, sets);
-    s = s.expect(set::IDENT, set::IDENT, ids, ends, events, notes, sets);
-    s = tags(
-        s,
-        d,
-        optional,
-        entrypoint,
-        src,
-        ids,
-        ends,
-        events,
-        errors,
-        scratch,
-        notes,
-        sets,
-    );
-    s = s.expect(set::L_BRACE, set::L_BRACE, ids, ends, events, notes, sets);
+    s = any_rule_mods(s, d, may, ep, src, ids, ends, ev, er, sc, notes, sets);
+    s = s.expect(set::RULE_KW, set::RULE_KW, ids, ends, ev, notes, sets);
+    s = s.expect(set::IDENT, set::IDENT, ids, ends, ev, notes, sets);
+    s = tags(s, d, may, ep, src, ids, ends, ev, er, sc, notes, sets);
+    s = s.expect(set::L_BRACE, set::L_BRACE, ids, ends, ev, notes, sets);
     s
 }
 
@@ -159,66 +107,27 @@ fn head(
 fn sections(
     mut s: State,
     d: usize,
-    optional: bool,
-    entrypoint: bool,
+    may: bool,
+    ep: bool,
     src: &[u8],
     ids: &[u32],
     ends: &[u32],
-    events: &mut [u32],
-    errors: &mut [u32],
-    scratch: &mut [u64],
+    ev: &mut [u32],
+    er: &mut [u32],
+    sc: &mut [u64],
     notes: &mut [usize; 69],
     sets: &[[u64; 2]; 56],
 ) -> State
-    requires { ⌜ Asks (now src) (now ids) (now ends) s (now notes) (now events) (now errors) (now scratch) (now sets) ⌝ }
+    requires { ⌜ Asks (now src) (now ids) (now ends) s (now notes) (now ev) (now er) (now sc) (now sets) ⌝ }
     ensures { λ r. ⌜
-        Reads entrypoint d optional sections (source (now (src .entry)) (now (ids .entry)) (now (ends .entry)))
+        Reads ep d may sections (source (now (src .entry)) (now (ids .entry)) (now (ends .entry)))
         s (now (notes .entry)) r (now (notes .exit))
-        (bufs (now (events .entry)) (now (errors .entry)) (now (scratch .entry))) (bufs (now (events .exit)) (now (errors .exit)) (now (scratch .exit))) ⌝ }
+        (bufs (now (ev .entry)) (now (er .entry)) (now (sc .entry))) (bufs (now (ev .exit)) (now (er .exit)) (now (sc .exit))) ⌝ }
 {
-    s = metas(
-        s,
-        d,
-        optional,
-        entrypoint,
-        src,
-        ids,
-        ends,
-        events,
-        errors,
-        scratch,
-        notes,
-        sets,
-    );
-    s = patterns(
-        s,
-        d,
-        optional,
-        entrypoint,
-        src,
-        ids,
-        ends,
-        events,
-        errors,
-        scratch,
-        notes,
-        sets,
-    );
-    s = condition(
-        s,
-        d,
-        optional,
-        entrypoint,
-        src,
-        ids,
-        ends,
-        events,
-        errors,
-        scratch,
-        notes,
-        sets,
-    );
-    s = s.expect(set::R_BRACE, set::R_BRACE, ids, ends, events, notes, sets);
+    s = metas(s, d, may, ep, src, ids, ends, ev, er, sc, notes, sets);
+    s = patterns(s, d, may, ep, src, ids, ends, ev, er, sc, notes, sets);
+    s = condition(s, d, may, ep, src, ids, ends, ev, er, sc, notes, sets);
+    s = s.expect(set::R_BRACE, set::R_BRACE, ids, ends, ev, notes, sets);
     s
 }
 
@@ -226,42 +135,29 @@ fn sections(
 fn any_rule_mods(
     mut s: State,
     d: usize,
-    optional: bool,
-    entrypoint: bool,
+    may: bool,
+    ep: bool,
     src: &[u8],
     ids: &[u32],
     ends: &[u32],
-    events: &mut [u32],
-    errors: &mut [u32],
-    scratch: &mut [u64],
+    ev: &mut [u32],
+    er: &mut [u32],
+    sc: &mut [u64],
     notes: &mut [usize; 69],
     sets: &[[u64; 2]; 56],
 ) -> State
-    requires { ⌜ Asks (now src) (now ids) (now ends) s (now notes) (now events) (now errors) (now scratch) (now sets) ⌝ }
+    requires { ⌜ Asks (now src) (now ids) (now ends) s (now notes) (now ev) (now er) (now sc) (now sets) ⌝ }
     ensures { λ r. ⌜
-        Reads entrypoint d optional any-rule-mods (source (now (src .entry)) (now (ids .entry)) (now (ends .entry)))
+        Reads ep d may any-rule-mods (source (now (src .entry)) (now (ids .entry)) (now (ends .entry)))
         s (now (notes .entry)) r (now (notes .exit))
-        (bufs (now (events .entry)) (now (errors .entry)) (now (scratch .entry))) (bufs (now (events .exit)) (now (errors .exit)) (now (scratch .exit))) ⌝ }
+        (bufs (now (ev .entry)) (now (er .entry)) (now (sc .entry))) (bufs (now (ev .exit)) (now (er .exit)) (now (sc .exit))) ⌝ }
 {
     if s.mode != mode::OK {
         return s;
     }
     let m = s.mark();
-    s = s.trivia(ids, ends, events);
-    s = rule_mods(
-        s,
-        d,
-        true,
-        entrypoint,
-        src,
-        ids,
-        ends,
-        events,
-        errors,
-        scratch,
-        notes,
-        sets,
-    );
+    s = s.trivia(ids, ends, ev);
+    s = rule_mods(s, d, true, ep, src, ids, ends, ev, er, sc, notes, sets);
     if s.mode != mode::FAILED {
         return s;
     }
@@ -274,24 +170,24 @@ fn any_rule_mods(
 fn rule_mods(
     mut s: State,
     d: usize,
-    optional: bool,
-    entrypoint: bool,
+    may: bool,
+    ep: bool,
     src: &[u8],
     ids: &[u32],
     ends: &[u32],
-    events: &mut [u32],
-    errors: &mut [u32],
-    scratch: &mut [u64],
+    ev: &mut [u32],
+    er: &mut [u32],
+    sc: &mut [u64],
     notes: &mut [usize; 69],
     sets: &[[u64; 2]; 56],
 ) -> State
-    requires { ⌜ Asks (now src) (now ids) (now ends) s (now notes) (now events) (now errors) (now scratch) (now sets) ⌝ }
+    requires { ⌜ Asks (now src) (now ids) (now ends) s (now notes) (now ev) (now er) (now sc) (now sets) ⌝ }
     ensures { λ r. ⌜
-        Reads entrypoint d optional (node G.RULE-MODS) (source (now (src .entry)) (now (ids .entry)) (now (ends .entry)))
+        Reads ep d may (node G.RULE-MODS) (source (now (src .entry)) (now (ids .entry)) (now (ends .entry)))
         s (now (notes .entry)) r (now (notes .exit))
-        (bufs (now (events .entry)) (now (errors .entry)) (now (scratch .entry))) (bufs (now (events .exit)) (now (errors .exit)) (now (scratch .exit))) ⌝ }
+        (bufs (now (ev .entry)) (now (er .entry)) (now (sc .entry))) (bufs (now (ev .exit)) (now (er .exit)) (now (sc .exit))) ⌝ }
 {
-    s = s.begin(d, ids, ends, events);
+    s = s.begin(d, ids, ends, ev);
     let from = s.pos;
     let at = s.ev;
     if d == 0 {
@@ -299,40 +195,27 @@ fn rule_mods(
             kind::RULE_MODS,
             from,
             at,
-            optional,
+            may,
             src,
             ids,
             ends,
-            events,
-            errors,
+            ev,
+            er,
             notes,
         );
     }
     let below = d - 1;
-    s = modifiers(
-        s,
-        below,
-        optional,
-        entrypoint,
-        src,
-        ids,
-        ends,
-        events,
-        errors,
-        scratch,
-        notes,
-        sets,
-    );
+    s = modifiers(s, below, may, ep, src, ids, ends, ev, er, sc, notes, sets);
     s.end(
         kind::RULE_MODS,
         from,
         at,
-        optional,
+        may,
         src,
         ids,
         ends,
-        events,
-        errors,
+        ev,
+        er,
         notes,
     )
 }
@@ -341,49 +224,41 @@ fn rule_mods(
 fn modifiers(
     mut s: State,
     d: usize,
-    optional: bool,
-    entrypoint: bool,
+    may: bool,
+    ep: bool,
     src: &[u8],
     ids: &[u32],
     ends: &[u32],
-    events: &mut [u32],
-    errors: &mut [u32],
-    scratch: &mut [u64],
+    ev: &mut [u32],
+    er: &mut [u32],
+    sc: &mut [u64],
     notes: &mut [usize; 69],
     sets: &[[u64; 2]; 56],
 ) -> State
-    requires { ⌜ Asks (now src) (now ids) (now ends) s (now notes) (now events) (now errors) (now scratch) (now sets) ⌝ }
+    requires { ⌜ Asks (now src) (now ids) (now ends) s (now notes) (now ev) (now er) (now sc) (now sets) ⌝ }
     ensures { λ r. ⌜
-        Reads entrypoint d optional (grammar entrypoint G.RULE-MODS) (source (now (src .entry)) (now (ids .entry)) (now (ends .entry)))
+        Reads ep d may (grammar ep G.RULE-MODS) (source (now (src .entry)) (now (ids .entry)) (now (ends .entry)))
         s (now (notes .entry)) r (now (notes .exit))
-        (bufs (now (events .entry)) (now (errors .entry)) (now (scratch .entry))) (bufs (now (events .exit)) (now (errors .exit)) (now (scratch .exit))) ⌝ }
+        (bufs (now (ev .entry)) (now (er .entry)) (now (sc .entry))) (bufs (now (ev .exit)) (now (er .exit)) (now (sc .exit))) ⌝ }
 {
     if s.mode != mode::OK {
         return s;
     }
     let m = s.mark();
-    s = s.trivia(ids, ends, events);
-    s = s.expect(
-        set::PRIVATE_KW,
-        set::PRIVATE_KW,
-        ids,
-        ends,
-        events,
-        notes,
-        sets,
-    );
+    s = s.trivia(ids, ends, ev);
+    s = s.expect(set::PRIVATE_KW, set::PRIVATE_KW, ids, ends, ev, notes, sets);
     s = maybe(
         set::GLOBAL_KW,
         s,
         d,
         true,
-        entrypoint,
+        ep,
         src,
         ids,
         ends,
-        events,
-        errors,
-        scratch,
+        ev,
+        er,
+        sc,
         notes,
         sets,
     );
@@ -392,28 +267,20 @@ fn modifiers(
     }
     s = s.rewind(m);
     s.mode = mode::OK;
-    s = s.trivia(ids, ends, events);
-    s = s.expect(
-        set::GLOBAL_KW,
-        set::GLOBAL_KW,
-        ids,
-        ends,
-        events,
-        notes,
-        sets,
-    );
+    s = s.trivia(ids, ends, ev);
+    s = s.expect(set::GLOBAL_KW, set::GLOBAL_KW, ids, ends, ev, notes, sets);
     s = maybe(
         set::PRIVATE_KW,
         s,
         d,
         true,
-        entrypoint,
+        ep,
         src,
         ids,
         ends,
-        events,
-        errors,
-        scratch,
+        ev,
+        er,
+        sc,
         notes,
         sets,
     );
@@ -428,54 +295,30 @@ fn modifiers(
 fn tags(
     mut s: State,
     d: usize,
-    optional: bool,
-    entrypoint: bool,
+    may: bool,
+    ep: bool,
     src: &[u8],
     ids: &[u32],
     ends: &[u32],
-    events: &mut [u32],
-    errors: &mut [u32],
-    scratch: &mut [u64],
+    ev: &mut [u32],
+    er: &mut [u32],
+    sc: &mut [u64],
     notes: &mut [usize; 69],
     sets: &[[u64; 2]; 56],
 ) -> State
-    requires { ⌜ Asks (now src) (now ids) (now ends) s (now notes) (now events) (now errors) (now scratch) (now sets) ⌝ }
+    requires { ⌜ Asks (now src) (now ids) (now ends) s (now notes) (now ev) (now er) (now sc) (now sets) ⌝ }
     ensures { λ r. ⌜
-        Reads entrypoint d optional tags (source (now (src .entry)) (now (ids .entry)) (now (ends .entry)))
+        Reads ep d may tags (source (now (src .entry)) (now (ids .entry)) (now (ends .entry)))
         s (now (notes .entry)) r (now (notes .exit))
-        (bufs (now (events .entry)) (now (errors .entry)) (now (scratch .entry))) (bufs (now (events .exit)) (now (errors .exit)) (now (scratch .exit))) ⌝ }
+        (bufs (now (ev .entry)) (now (er .entry)) (now (sc .entry))) (bufs (now (ev .exit)) (now (er .exit)) (now (sc .exit))) ⌝ }
 {
     if !s.sees(set::COLON, ids, sets) {
         s.pass(set::COLON, ids, notes);
         return s;
     }
-    s = s.trivia(ids, ends, events);
-    s = rule_tags(
-        s,
-        d,
-        optional,
-        entrypoint,
-        src,
-        ids,
-        ends,
-        events,
-        errors,
-        scratch,
-        notes,
-        sets,
-    );
-    s = s.recover(
-        d,
-        optional,
-        set::L_BRACE,
-        src,
-        ids,
-        ends,
-        events,
-        errors,
-        notes,
-        sets,
-    );
+    s = s.trivia(ids, ends, ev);
+    s = rule_tags(s, d, may, ep, src, ids, ends, ev, er, sc, notes, sets);
+    s = s.recover(d, may, set::L_BRACE, src, ids, ends, ev, er, notes, sets);
     s
 }
 
@@ -483,24 +326,24 @@ fn tags(
 fn rule_tags(
     mut s: State,
     d: usize,
-    optional: bool,
-    entrypoint: bool,
+    may: bool,
+    ep: bool,
     src: &[u8],
     ids: &[u32],
     ends: &[u32],
-    events: &mut [u32],
-    errors: &mut [u32],
-    scratch: &mut [u64],
+    ev: &mut [u32],
+    er: &mut [u32],
+    sc: &mut [u64],
     notes: &mut [usize; 69],
     sets: &[[u64; 2]; 56],
 ) -> State
-    requires { ⌜ Asks (now src) (now ids) (now ends) s (now notes) (now events) (now errors) (now scratch) (now sets) ⌝ }
+    requires { ⌜ Asks (now src) (now ids) (now ends) s (now notes) (now ev) (now er) (now sc) (now sets) ⌝ }
     ensures { λ r. ⌜
-        Reads entrypoint d optional (node G.RULE-TAGS) (source (now (src .entry)) (now (ids .entry)) (now (ends .entry)))
+        Reads ep d may (node G.RULE-TAGS) (source (now (src .entry)) (now (ids .entry)) (now (ends .entry)))
         s (now (notes .entry)) r (now (notes .exit))
-        (bufs (now (events .entry)) (now (errors .entry)) (now (scratch .entry))) (bufs (now (events .exit)) (now (errors .exit)) (now (scratch .exit))) ⌝ }
+        (bufs (now (ev .entry)) (now (er .entry)) (now (sc .entry))) (bufs (now (ev .exit)) (now (er .exit)) (now (sc .exit))) ⌝ }
 {
-    s = s.begin(d, ids, ends, events);
+    s = s.begin(d, ids, ends, ev);
     let from = s.pos;
     let at = s.ev;
     if d == 0 {
@@ -508,41 +351,28 @@ fn rule_tags(
             kind::RULE_TAGS,
             from,
             at,
-            optional,
+            may,
             src,
             ids,
             ends,
-            events,
-            errors,
+            ev,
+            er,
             notes,
         );
     }
     let below = d - 1;
-    s = s.expect(set::COLON, set::COLON, ids, ends, events, notes, sets);
-    s = idents(
-        s,
-        below,
-        optional,
-        entrypoint,
-        src,
-        ids,
-        ends,
-        events,
-        errors,
-        scratch,
-        notes,
-        sets,
-    );
+    s = s.expect(set::COLON, set::COLON, ids, ends, ev, notes, sets);
+    s = idents(s, below, may, ep, src, ids, ends, ev, er, sc, notes, sets);
     s.end(
         kind::RULE_TAGS,
         from,
         at,
-        optional,
+        may,
         src,
         ids,
         ends,
-        events,
-        errors,
+        ev,
+        er,
         notes,
     )
 }
@@ -551,42 +381,29 @@ fn rule_tags(
 fn idents(
     mut s: State,
     d: usize,
-    optional: bool,
-    entrypoint: bool,
+    may: bool,
+    ep: bool,
     src: &[u8],
     ids: &[u32],
     ends: &[u32],
-    events: &mut [u32],
-    errors: &mut [u32],
-    scratch: &mut [u64],
+    ev: &mut [u32],
+    er: &mut [u32],
+    sc: &mut [u64],
     notes: &mut [usize; 69],
     sets: &[[u64; 2]; 56],
 ) -> State
-    requires { ⌜ Asks (now src) (now ids) (now ends) s (now notes) (now events) (now errors) (now scratch) (now sets) ⌝ }
+    requires { ⌜ Asks (now src) (now ids) (now ends) s (now notes) (now ev) (now er) (now sc) (now sets) ⌝ }
     ensures { λ r. ⌜
-        Reads entrypoint d optional idents (source (now (src .entry)) (now (ids .entry)) (now (ends .entry)))
+        Reads ep d may idents (source (now (src .entry)) (now (ids .entry)) (now (ends .entry)))
         s (now (notes .entry)) r (now (notes .exit))
-        (bufs (now (events .entry)) (now (errors .entry)) (now (scratch .entry))) (bufs (now (events .exit)) (now (errors .exit)) (now (scratch .exit))) ⌝ }
+        (bufs (now (ev .entry)) (now (er .entry)) (now (sc .entry))) (bufs (now (ev .exit)) (now (er .exit)) (now (sc .exit))) ⌝ }
 {
     if s.mode != mode::OK {
         return s;
     }
-    s = s.trivia(ids, ends, events);
-    s = s.expect(set::IDENT, set::IDENT, ids, ends, events, notes, sets);
-    s = more_idents(
-        s,
-        d,
-        optional,
-        entrypoint,
-        src,
-        ids,
-        ends,
-        events,
-        errors,
-        scratch,
-        notes,
-        sets,
-    );
+    s = s.trivia(ids, ends, ev);
+    s = s.expect(set::IDENT, set::IDENT, ids, ends, ev, notes, sets);
+    s = more_idents(s, d, may, ep, src, ids, ends, ev, er, sc, notes, sets);
     s
 }
 
@@ -594,22 +411,22 @@ fn idents(
 fn more_idents(
     mut s: State,
     d: usize,
-    optional: bool,
-    entrypoint: bool,
+    may: bool,
+    ep: bool,
     src: &[u8],
     ids: &[u32],
     ends: &[u32],
-    events: &mut [u32],
-    errors: &mut [u32],
-    scratch: &mut [u64],
+    ev: &mut [u32],
+    er: &mut [u32],
+    sc: &mut [u64],
     notes: &mut [usize; 69],
     sets: &[[u64; 2]; 56],
 ) -> State
-    requires { ⌜ Asks (now src) (now ids) (now ends) s (now notes) (now events) (now errors) (now scratch) (now sets) ⌝ }
+    requires { ⌜ Asks (now src) (now ids) (now ends) s (now notes) (now ev) (now er) (now sc) (now sets) ⌝ }
     ensures { λ r. ⌜
-        Reads entrypoint d optional more-idents (source (now (src .entry)) (now (ids .entry)) (now (ends .entry)))
+        Reads ep d may more-idents (source (now (src .entry)) (now (ids .entry)) (now (ends .entry)))
         s (now (notes .entry)) r (now (notes .exit))
-        (bufs (now (events .entry)) (now (errors .entry)) (now (scratch .entry))) (bufs (now (events .exit)) (now (errors .exit)) (now (scratch .exit))) ⌝ }
+        (bufs (now (ev .entry)) (now (er .entry)) (now (sc .entry))) (bufs (now (ev .exit)) (now (er .exit)) (now (sc .exit))) ⌝ }
 {
     if s.mode != mode::OK {
         return s;
@@ -617,8 +434,8 @@ fn more_idents(
     let mut n = ids.len() - s.pos + 1;
     while n > 0 {
         let m = s.mark();
-        s = s.trivia(ids, ends, events);
-        s = s.expect(set::IDENT, set::IDENT, ids, ends, events, notes, sets);
+        s = s.trivia(ids, ends, ev);
+        s = s.expect(set::IDENT, set::IDENT, ids, ends, ev, notes, sets);
         if s.mode != mode::OK {
             return s.undone(m);
         }
@@ -631,51 +448,38 @@ fn more_idents(
 fn metas(
     mut s: State,
     d: usize,
-    optional: bool,
-    entrypoint: bool,
+    may: bool,
+    ep: bool,
     src: &[u8],
     ids: &[u32],
     ends: &[u32],
-    events: &mut [u32],
-    errors: &mut [u32],
-    scratch: &mut [u64],
+    ev: &mut [u32],
+    er: &mut [u32],
+    sc: &mut [u64],
     notes: &mut [usize; 69],
     sets: &[[u64; 2]; 56],
 ) -> State
-    requires { ⌜ Asks (now src) (now ids) (now ends) s (now notes) (now events) (now errors) (now scratch) (now sets) ⌝ }
+    requires { ⌜ Asks (now src) (now ids) (now ends) s (now notes) (now ev) (now er) (now sc) (now sets) ⌝ }
     ensures { λ r. ⌜
-        Reads entrypoint d optional metas (source (now (src .entry)) (now (ids .entry)) (now (ends .entry)))
+        Reads ep d may metas (source (now (src .entry)) (now (ids .entry)) (now (ends .entry)))
         s (now (notes .entry)) r (now (notes .exit))
-        (bufs (now (events .entry)) (now (errors .entry)) (now (scratch .entry))) (bufs (now (events .exit)) (now (errors .exit)) (now (scratch .exit))) ⌝ }
+        (bufs (now (ev .entry)) (now (er .entry)) (now (sc .entry))) (bufs (now (ev .exit)) (now (er .exit)) (now (sc .exit))) ⌝ }
 {
     if !s.sees(set::META_KW, ids, sets) {
         s.pass(set::META_KW, ids, notes);
         return s;
     }
-    s = s.trivia(ids, ends, events);
-    s = meta_blk(
-        s,
-        d,
-        optional,
-        entrypoint,
-        src,
-        ids,
-        ends,
-        events,
-        errors,
-        scratch,
-        notes,
-        sets,
-    );
+    s = s.trivia(ids, ends, ev);
+    s = meta_blk(s, d, may, ep, src, ids, ends, ev, er, sc, notes, sets);
     s = s.recover(
         d,
-        optional,
+        may,
         set::STRINGS_OR_CONDITION,
         src,
         ids,
         ends,
-        events,
-        errors,
+        ev,
+        er,
         notes,
         sets,
     );
@@ -686,124 +490,63 @@ fn metas(
 fn meta_blk(
     mut s: State,
     d: usize,
-    optional: bool,
-    entrypoint: bool,
+    may: bool,
+    ep: bool,
     src: &[u8],
     ids: &[u32],
     ends: &[u32],
-    events: &mut [u32],
-    errors: &mut [u32],
-    scratch: &mut [u64],
+    ev: &mut [u32],
+    er: &mut [u32],
+    sc: &mut [u64],
     notes: &mut [usize; 69],
     sets: &[[u64; 2]; 56],
 ) -> State
-    requires { ⌜ Asks (now src) (now ids) (now ends) s (now notes) (now events) (now errors) (now scratch) (now sets) ⌝ }
+    requires { ⌜ Asks (now src) (now ids) (now ends) s (now notes) (now ev) (now er) (now sc) (now sets) ⌝ }
     ensures { λ r. ⌜
-        Reads entrypoint d optional (node G.META-BLK) (source (now (src .entry)) (now (ids .entry)) (now (ends .entry)))
+        Reads ep d may (node G.META-BLK) (source (now (src .entry)) (now (ids .entry)) (now (ends .entry)))
         s (now (notes .entry)) r (now (notes .exit))
-        (bufs (now (events .entry)) (now (errors .entry)) (now (scratch .entry))) (bufs (now (events .exit)) (now (errors .exit)) (now (scratch .exit))) ⌝ }
+        (bufs (now (ev .entry)) (now (er .entry)) (now (sc .entry))) (bufs (now (ev .exit)) (now (er .exit)) (now (sc .exit))) ⌝ }
 {
-    s = s.begin(d, ids, ends, events);
+    s = s.begin(d, ids, ends, ev);
     let from = s.pos;
     let at = s.ev;
     if d == 0 {
-        return s.end(
-            kind::META_BLK,
-            from,
-            at,
-            optional,
-            src,
-            ids,
-            ends,
-            events,
-            errors,
-            notes,
-        );
+        return s.end(kind::META_BLK, from, at, may, src, ids, ends, ev, er, notes);
     }
     let below = d - 1;
-    s = s.expect(set::META_KW, set::META_KW, ids, ends, events, notes, sets);
-    s = s.expect(set::COLON, set::COLON, ids, ends, events, notes, sets);
-    s = meta_defs(
-        s,
-        below,
-        optional,
-        entrypoint,
-        src,
-        ids,
-        ends,
-        events,
-        errors,
-        scratch,
-        notes,
-        sets,
-    );
-    s.end(
-        kind::META_BLK,
-        from,
-        at,
-        optional,
-        src,
-        ids,
-        ends,
-        events,
-        errors,
-        notes,
-    )
+    s = s.expect(set::META_KW, set::META_KW, ids, ends, ev, notes, sets);
+    s = s.expect(set::COLON, set::COLON, ids, ends, ev, notes, sets);
+    s = meta_defs(s, below, may, ep, src, ids, ends, ev, er, sc, notes, sets);
+    s.end(kind::META_BLK, from, at, may, src, ids, ends, ev, er, notes)
 }
 
 // META_DEF META_DEF*
 fn meta_defs(
     mut s: State,
     d: usize,
-    optional: bool,
-    entrypoint: bool,
+    may: bool,
+    ep: bool,
     src: &[u8],
     ids: &[u32],
     ends: &[u32],
-    events: &mut [u32],
-    errors: &mut [u32],
-    scratch: &mut [u64],
+    ev: &mut [u32],
+    er: &mut [u32],
+    sc: &mut [u64],
     notes: &mut [usize; 69],
     sets: &[[u64; 2]; 56],
 ) -> State
-    requires { ⌜ Asks (now src) (now ids) (now ends) s (now notes) (now events) (now errors) (now scratch) (now sets) ⌝ }
+    requires { ⌜ Asks (now src) (now ids) (now ends) s (now notes) (now ev) (now er) (now sc) (now sets) ⌝ }
     ensures { λ r. ⌜
-        Reads entrypoint d optional meta-defs (source (now (src .entry)) (now (ids .entry)) (now (ends .entry)))
+        Reads ep d may meta-defs (source (now (src .entry)) (now (ids .entry)) (now (ends .entry)))
         s (now (notes .entry)) r (now (notes .exit))
-        (bufs (now (events .entry)) (now (errors .entry)) (now (scratch .entry))) (bufs (now (events .exit)) (now (errors .exit)) (now (scratch .exit))) ⌝ }
+        (bufs (now (ev .entry)) (now (er .entry)) (now (sc .entry))) (bufs (now (ev .exit)) (now (er .exit)) (now (sc .exit))) ⌝ }
 {
     if s.mode != mode::OK {
         return s;
     }
-    s = s.trivia(ids, ends, events);
-    s = meta_def(
-        s,
-        d,
-        optional,
-        entrypoint,
-        src,
-        ids,
-        ends,
-        events,
-        errors,
-        scratch,
-        notes,
-        sets,
-    );
-    s = more_metas(
-        s,
-        d,
-        optional,
-        entrypoint,
-        src,
-        ids,
-        ends,
-        events,
-        errors,
-        scratch,
-        notes,
-        sets,
-    );
+    s = s.trivia(ids, ends, ev);
+    s = meta_def(s, d, may, ep, src, ids, ends, ev, er, sc, notes, sets);
+    s = more_metas(s, d, may, ep, src, ids, ends, ev, er, sc, notes, sets);
     s
 }
 
@@ -811,22 +554,22 @@ fn meta_defs(
 fn more_metas(
     mut s: State,
     d: usize,
-    optional: bool,
-    entrypoint: bool,
+    may: bool,
+    ep: bool,
     src: &[u8],
     ids: &[u32],
     ends: &[u32],
-    events: &mut [u32],
-    errors: &mut [u32],
-    scratch: &mut [u64],
+    ev: &mut [u32],
+    er: &mut [u32],
+    sc: &mut [u64],
     notes: &mut [usize; 69],
     sets: &[[u64; 2]; 56],
 ) -> State
-    requires { ⌜ Asks (now src) (now ids) (now ends) s (now notes) (now events) (now errors) (now scratch) (now sets) ⌝ }
+    requires { ⌜ Asks (now src) (now ids) (now ends) s (now notes) (now ev) (now er) (now sc) (now sets) ⌝ }
     ensures { λ r. ⌜
-        Reads entrypoint d optional more-metas (source (now (src .entry)) (now (ids .entry)) (now (ends .entry)))
+        Reads ep d may more-metas (source (now (src .entry)) (now (ids .entry)) (now (ends .entry)))
         s (now (notes .entry)) r (now (notes .exit))
-        (bufs (now (events .entry)) (now (errors .entry)) (now (scratch .entry))) (bufs (now (events .exit)) (now (errors .exit)) (now (scratch .exit))) ⌝ }
+        (bufs (now (ev .entry)) (now (er .entry)) (now (sc .entry))) (bufs (now (ev .exit)) (now (er .exit)) (now (sc .exit))) ⌝ }
 {
     if s.mode != mode::OK {
         return s;
@@ -834,21 +577,8 @@ fn more_metas(
     let mut n = ids.len() - s.pos + 1;
     while n > 0 {
         let m = s.mark();
-        s = s.trivia(ids, ends, events);
-        s = meta_def(
-            s,
-            d,
-            true,
-            entrypoint,
-            src,
-            ids,
-            ends,
-            events,
-            errors,
-            scratch,
-            notes,
-            sets,
-        );
+        s = s.trivia(ids, ends, ev);
+        s = meta_def(s, d, true, ep, src, ids, ends, ev, er, sc, notes, sets);
         if s.mode != mode::OK {
             return s.undone(m);
         }
@@ -861,128 +591,85 @@ fn more_metas(
 fn meta_def(
     mut s: State,
     d: usize,
-    optional: bool,
-    entrypoint: bool,
+    may: bool,
+    ep: bool,
     src: &[u8],
     ids: &[u32],
     ends: &[u32],
-    events: &mut [u32],
-    errors: &mut [u32],
-    scratch: &mut [u64],
+    ev: &mut [u32],
+    er: &mut [u32],
+    sc: &mut [u64],
     notes: &mut [usize; 69],
     sets: &[[u64; 2]; 56],
 ) -> State
-    requires { ⌜ Asks (now src) (now ids) (now ends) s (now notes) (now events) (now errors) (now scratch) (now sets) ⌝ }
+    requires { ⌜ Asks (now src) (now ids) (now ends) s (now notes) (now ev) (now er) (now sc) (now sets) ⌝ }
     ensures { λ r. ⌜
-        Reads entrypoint d optional (node G.META-DEF) (source (now (src .entry)) (now (ids .entry)) (now (ends .entry)))
+        Reads ep d may (node G.META-DEF) (source (now (src .entry)) (now (ids .entry)) (now (ends .entry)))
         s (now (notes .entry)) r (now (notes .exit))
-        (bufs (now (events .entry)) (now (errors .entry)) (now (scratch .entry))) (bufs (now (events .exit)) (now (errors .exit)) (now (scratch .exit))) ⌝ }
+        (bufs (now (ev .entry)) (now (er .entry)) (now (sc .entry))) (bufs (now (ev .exit)) (now (er .exit)) (now (sc .exit))) ⌝ }
 {
-    s = s.begin(d, ids, ends, events);
+    s = s.begin(d, ids, ends, ev);
     let from = s.pos;
     let at = s.ev;
     if d == 0 {
-        return s.end(
-            kind::META_DEF,
-            from,
-            at,
-            optional,
-            src,
-            ids,
-            ends,
-            events,
-            errors,
-            notes,
-        );
+        return s.end(kind::META_DEF, from, at, may, src, ids, ends, ev, er, notes);
     }
     let below = d - 1;
-    s = s.expect(set::IDENT, set::IDENT, ids, ends, events, notes, sets);
-    s = s.expect(set::EQUAL, set::EQUAL, ids, ends, events, notes, sets);
-    s = meta_value(
-        s,
-        below,
-        optional,
-        entrypoint,
-        src,
-        ids,
-        ends,
-        events,
-        errors,
-        scratch,
-        notes,
-        sets,
-    );
-    s.end(
-        kind::META_DEF,
-        from,
-        at,
-        optional,
-        src,
-        ids,
-        ends,
-        events,
-        errors,
-        notes,
-    )
+    s = s.expect(set::IDENT, set::IDENT, ids, ends, ev, notes, sets);
+    s = s.expect(set::EQUAL, set::EQUAL, ids, ends, ev, notes, sets);
+    s = meta_value(s, below, may, ep, src, ids, ends, ev, er, sc, notes, sets);
+    s.end(kind::META_DEF, from, at, may, src, ids, ends, ev, er, notes)
 }
 
 // MINUS? (INTEGER_LIT | FLOAT_LIT) / (STRING_LIT | TRUE_KW | FALSE_KW)
 fn meta_value(
     mut s: State,
     d: usize,
-    optional: bool,
-    entrypoint: bool,
+    may: bool,
+    ep: bool,
     src: &[u8],
     ids: &[u32],
     ends: &[u32],
-    events: &mut [u32],
-    errors: &mut [u32],
-    scratch: &mut [u64],
+    ev: &mut [u32],
+    er: &mut [u32],
+    sc: &mut [u64],
     notes: &mut [usize; 69],
     sets: &[[u64; 2]; 56],
 ) -> State
-    requires { ⌜ Asks (now src) (now ids) (now ends) s (now notes) (now events) (now errors) (now scratch) (now sets) ⌝ }
+    requires { ⌜ Asks (now src) (now ids) (now ends) s (now notes) (now ev) (now er) (now sc) (now sets) ⌝ }
     ensures { λ r. ⌜
-        Reads entrypoint d optional meta-value (source (now (src .entry)) (now (ids .entry)) (now (ends .entry)))
+        Reads ep d may meta-value (source (now (src .entry)) (now (ids .entry)) (now (ends .entry)))
         s (now (notes .entry)) r (now (notes .exit))
-        (bufs (now (events .entry)) (now (errors .entry)) (now (scratch .entry))) (bufs (now (events .exit)) (now (errors .exit)) (now (scratch .exit))) ⌝ }
+        (bufs (now (ev .entry)) (now (er .entry)) (now (sc .entry))) (bufs (now (ev .exit)) (now (er .exit)) (now (sc .exit))) ⌝ }
 {
     if s.mode != mode::OK {
         return s;
     }
     let m = s.mark();
-    s = s.trivia(ids, ends, events);
+    s = s.trivia(ids, ends, ev);
     s = maybe(
         set::MINUS,
         s,
         d,
         true,
-        entrypoint,
+        ep,
         src,
         ids,
         ends,
-        events,
-        errors,
-        scratch,
+        ev,
+        er,
+        sc,
         notes,
         sets,
     );
-    s = s.expect(set::NUMBER, set::NUMBER, ids, ends, events, notes, sets);
+    s = s.expect(set::NUMBER, set::NUMBER, ids, ends, ev, notes, sets);
     if s.mode != mode::FAILED {
         return s;
     }
     s = s.rewind(m);
     s.mode = mode::OK;
-    s = s.trivia(ids, ends, events);
-    s = s.expect(
-        set::META_VALUE,
-        set::META_VALUE,
-        ids,
-        ends,
-        events,
-        notes,
-        sets,
-    );
+    s = s.trivia(ids, ends, ev);
+    s = s.expect(set::META_VALUE, set::META_VALUE, ids, ends, ev, notes, sets);
     if s.mode != mode::FAILED {
         return s;
     }
@@ -994,51 +681,38 @@ fn meta_value(
 fn patterns(
     mut s: State,
     d: usize,
-    optional: bool,
-    entrypoint: bool,
+    may: bool,
+    ep: bool,
     src: &[u8],
     ids: &[u32],
     ends: &[u32],
-    events: &mut [u32],
-    errors: &mut [u32],
-    scratch: &mut [u64],
+    ev: &mut [u32],
+    er: &mut [u32],
+    sc: &mut [u64],
     notes: &mut [usize; 69],
     sets: &[[u64; 2]; 56],
 ) -> State
-    requires { ⌜ Asks (now src) (now ids) (now ends) s (now notes) (now events) (now errors) (now scratch) (now sets) ⌝ }
+    requires { ⌜ Asks (now src) (now ids) (now ends) s (now notes) (now ev) (now er) (now sc) (now sets) ⌝ }
     ensures { λ r. ⌜
-        Reads entrypoint d optional patterns (source (now (src .entry)) (now (ids .entry)) (now (ends .entry)))
+        Reads ep d may patterns (source (now (src .entry)) (now (ids .entry)) (now (ends .entry)))
         s (now (notes .entry)) r (now (notes .exit))
-        (bufs (now (events .entry)) (now (errors .entry)) (now (scratch .entry))) (bufs (now (events .exit)) (now (errors .exit)) (now (scratch .exit))) ⌝ }
+        (bufs (now (ev .entry)) (now (er .entry)) (now (sc .entry))) (bufs (now (ev .exit)) (now (er .exit)) (now (sc .exit))) ⌝ }
 {
     if !s.sees(set::STRINGS_KW, ids, sets) {
         s.pass(set::STRINGS_KW, ids, notes);
         return s;
     }
-    s = s.trivia(ids, ends, events);
-    s = patterns_blk(
-        s,
-        d,
-        optional,
-        entrypoint,
-        src,
-        ids,
-        ends,
-        events,
-        errors,
-        scratch,
-        notes,
-        sets,
-    );
+    s = s.trivia(ids, ends, ev);
+    s = patterns_blk(s, d, may, ep, src, ids, ends, ev, er, sc, notes, sets);
     s = s.recover(
         d,
-        optional,
+        may,
         set::CONDITION_KW,
         src,
         ids,
         ends,
-        events,
-        errors,
+        ev,
+        er,
         notes,
         sets,
     );
@@ -1049,53 +723,29 @@ fn patterns(
 fn condition(
     mut s: State,
     d: usize,
-    optional: bool,
-    entrypoint: bool,
+    may: bool,
+    ep: bool,
     src: &[u8],
     ids: &[u32],
     ends: &[u32],
-    events: &mut [u32],
-    errors: &mut [u32],
-    scratch: &mut [u64],
+    ev: &mut [u32],
+    er: &mut [u32],
+    sc: &mut [u64],
     notes: &mut [usize; 69],
     sets: &[[u64; 2]; 56],
 ) -> State
-    requires { ⌜ Asks (now src) (now ids) (now ends) s (now notes) (now events) (now errors) (now scratch) (now sets) ⌝ }
+    requires { ⌜ Asks (now src) (now ids) (now ends) s (now notes) (now ev) (now er) (now sc) (now sets) ⌝ }
     ensures { λ r. ⌜
-        Reads entrypoint d optional condition (source (now (src .entry)) (now (ids .entry)) (now (ends .entry)))
+        Reads ep d may condition (source (now (src .entry)) (now (ids .entry)) (now (ends .entry)))
         s (now (notes .entry)) r (now (notes .exit))
-        (bufs (now (events .entry)) (now (errors .entry)) (now (scratch .entry))) (bufs (now (events .exit)) (now (errors .exit)) (now (scratch .exit))) ⌝ }
+        (bufs (now (ev .entry)) (now (er .entry)) (now (sc .entry))) (bufs (now (ev .exit)) (now (er .exit)) (now (sc .exit))) ⌝ }
 {
     if s.mode != mode::OK {
         return s;
     }
-    s = s.trivia(ids, ends, events);
-    s = condition_blk(
-        s,
-        d,
-        optional,
-        entrypoint,
-        src,
-        ids,
-        ends,
-        events,
-        errors,
-        scratch,
-        notes,
-        sets,
-    );
-    s = s.recover(
-        d,
-        optional,
-        set::R_BRACE,
-        src,
-        ids,
-        ends,
-        events,
-        errors,
-        notes,
-        sets,
-    );
+    s = s.trivia(ids, ends, ev);
+    s = condition_blk(s, d, may, ep, src, ids, ends, ev, er, sc, notes, sets);
+    s = s.recover(d, may, set::R_BRACE, src, ids, ends, ev, er, notes, sets);
     s
 }
 
@@ -1103,24 +753,24 @@ fn condition(
 fn condition_blk(
     mut s: State,
     d: usize,
-    optional: bool,
-    entrypoint: bool,
+    may: bool,
+    ep: bool,
     src: &[u8],
     ids: &[u32],
     ends: &[u32],
-    events: &mut [u32],
-    errors: &mut [u32],
-    scratch: &mut [u64],
+    ev: &mut [u32],
+    er: &mut [u32],
+    sc: &mut [u64],
     notes: &mut [usize; 69],
     sets: &[[u64; 2]; 56],
 ) -> State
-    requires { ⌜ Asks (now src) (now ids) (now ends) s (now notes) (now events) (now errors) (now scratch) (now sets) ⌝ }
+    requires { ⌜ Asks (now src) (now ids) (now ends) s (now notes) (now ev) (now er) (now sc) (now sets) ⌝ }
     ensures { λ r. ⌜
-        Reads entrypoint d optional (node G.CONDITION-BLK) (source (now (src .entry)) (now (ids .entry)) (now (ends .entry)))
+        Reads ep d may (node G.CONDITION-BLK) (source (now (src .entry)) (now (ids .entry)) (now (ends .entry)))
         s (now (notes .entry)) r (now (notes .exit))
-        (bufs (now (events .entry)) (now (errors .entry)) (now (scratch .entry))) (bufs (now (events .exit)) (now (errors .exit)) (now (scratch .exit))) ⌝ }
+        (bufs (now (ev .entry)) (now (er .entry)) (now (sc .entry))) (bufs (now (ev .exit)) (now (er .exit)) (now (sc .exit))) ⌝ }
 {
-    s = s.begin(d, ids, ends, events);
+    s = s.begin(d, ids, ends, ev);
     let from = s.pos;
     let at = s.ev;
     if d == 0 {
@@ -1128,12 +778,12 @@ fn condition_blk(
             kind::CONDITION_BLK,
             from,
             at,
-            optional,
+            may,
             src,
             ids,
             ends,
-            events,
-            errors,
+            ev,
+            er,
             notes,
         );
     }
@@ -1143,35 +793,22 @@ fn condition_blk(
         set::CONDITION_KW,
         ids,
         ends,
-        events,
+        ev,
         notes,
         sets,
     );
-    s = s.expect(set::COLON, set::COLON, ids, ends, events, notes, sets);
-    s = boolean(
-        s,
-        below,
-        optional,
-        entrypoint,
-        src,
-        ids,
-        ends,
-        events,
-        errors,
-        scratch,
-        notes,
-        sets,
-    );
+    s = s.expect(set::COLON, set::COLON, ids, ends, ev, notes, sets);
+    s = boolean(s, below, may, ep, src, ids, ends, ev, er, sc, notes, sets);
     s.end(
         kind::CONDITION_BLK,
         from,
         at,
-        optional,
+        may,
         src,
         ids,
         ends,
-        events,
-        errors,
+        ev,
+        er,
         notes,
     )
 }
@@ -1180,52 +817,28 @@ fn condition_blk(
 fn boolean(
     mut s: State,
     d: usize,
-    optional: bool,
-    entrypoint: bool,
+    may: bool,
+    ep: bool,
     src: &[u8],
     ids: &[u32],
     ends: &[u32],
-    events: &mut [u32],
-    errors: &mut [u32],
-    scratch: &mut [u64],
+    ev: &mut [u32],
+    er: &mut [u32],
+    sc: &mut [u64],
     notes: &mut [usize; 69],
     sets: &[[u64; 2]; 56],
 ) -> State
-    requires { ⌜ Asks (now src) (now ids) (now ends) s (now notes) (now events) (now errors) (now scratch) (now sets) ⌝ }
+    requires { ⌜ Asks (now src) (now ids) (now ends) s (now notes) (now ev) (now er) (now sc) (now sets) ⌝ }
     ensures { λ r. ⌜
-        Reads entrypoint d optional boolean (source (now (src .entry)) (now (ids .entry)) (now (ends .entry)))
+        Reads ep d may boolean (source (now (src .entry)) (now (ids .entry)) (now (ends .entry)))
         s (now (notes .entry)) r (now (notes .exit))
-        (bufs (now (events .entry)) (now (errors .entry)) (now (scratch .entry))) (bufs (now (events .exit)) (now (errors .exit)) (now (scratch .exit))) ⌝ }
+        (bufs (now (ev .entry)) (now (er .entry)) (now (sc .entry))) (bufs (now (ev .exit)) (now (er .exit)) (now (sc .exit))) ⌝ }
 {
     if s.mode != mode::OK {
         return s;
     }
-    s = bool_expr(
-        s,
-        d,
-        optional,
-        entrypoint,
-        src,
-        ids,
-        ends,
-        events,
-        errors,
-        scratch,
-        notes,
-        sets,
-    );
-    s = s.recover(
-        d,
-        optional,
-        set::R_BRACE,
-        src,
-        ids,
-        ends,
-        events,
-        errors,
-        notes,
-        sets,
-    );
+    s = bool_expr(s, d, may, ep, src, ids, ends, ev, er, sc, notes, sets);
+    s = s.recover(d, may, set::R_BRACE, src, ids, ends, ev, er, notes, sets);
     s
 }
 
@@ -1233,24 +846,24 @@ fn boolean(
 fn import_stmt(
     mut s: State,
     d: usize,
-    optional: bool,
-    entrypoint: bool,
+    may: bool,
+    ep: bool,
     src: &[u8],
     ids: &[u32],
     ends: &[u32],
-    events: &mut [u32],
-    errors: &mut [u32],
-    scratch: &mut [u64],
+    ev: &mut [u32],
+    er: &mut [u32],
+    sc: &mut [u64],
     notes: &mut [usize; 69],
     sets: &[[u64; 2]; 56],
 ) -> State
-    requires { ⌜ Asks (now src) (now ids) (now ends) s (now notes) (now events) (now errors) (now scratch) (now sets) ⌝ }
+    requires { ⌜ Asks (now src) (now ids) (now ends) s (now notes) (now ev) (now er) (now sc) (now sets) ⌝ }
     ensures { λ r. ⌜
-        Reads entrypoint d optional (node G.IMPORT-STMT) (source (now (src .entry)) (now (ids .entry)) (now (ends .entry)))
+        Reads ep d may (node G.IMPORT-STMT) (source (now (src .entry)) (now (ids .entry)) (now (ends .entry)))
         s (now (notes .entry)) r (now (notes .exit))
-        (bufs (now (events .entry)) (now (errors .entry)) (now (scratch .entry))) (bufs (now (events .exit)) (now (errors .exit)) (now (scratch .exit))) ⌝ }
+        (bufs (now (ev .entry)) (now (er .entry)) (now (sc .entry))) (bufs (now (ev .exit)) (now (er .exit)) (now (sc .exit))) ⌝ }
 {
-    s = s.begin(d, ids, ends, events);
+    s = s.begin(d, ids, ends, ev);
     let from = s.pos;
     let at = s.ev;
     if d == 0 {
@@ -1258,44 +871,28 @@ fn import_stmt(
             kind::IMPORT_STMT,
             from,
             at,
-            optional,
+            may,
             src,
             ids,
             ends,
-            events,
-            errors,
+            ev,
+            er,
             notes,
         );
     }
     let below = d - 1;
-    s = s.expect(
-        set::IMPORT_KW,
-        set::IMPORT_KW,
-        ids,
-        ends,
-        events,
-        notes,
-        sets,
-    );
-    s = s.expect(
-        set::STRING_LIT,
-        set::STRING_LIT,
-        ids,
-        ends,
-        events,
-        notes,
-        sets,
-    );
+    s = s.expect(set::IMPORT_KW, set::IMPORT_KW, ids, ends, ev, notes, sets);
+    s = s.expect(set::STRING_LIT, set::STRING_LIT, ids, ends, ev, notes, sets);
     s.end(
         kind::IMPORT_STMT,
         from,
         at,
-        optional,
+        may,
         src,
         ids,
         ends,
-        events,
-        errors,
+        ev,
+        er,
         notes,
     )
 }
@@ -1304,24 +901,24 @@ fn import_stmt(
 fn include_stmt(
     mut s: State,
     d: usize,
-    optional: bool,
-    entrypoint: bool,
+    may: bool,
+    ep: bool,
     src: &[u8],
     ids: &[u32],
     ends: &[u32],
-    events: &mut [u32],
-    errors: &mut [u32],
-    scratch: &mut [u64],
+    ev: &mut [u32],
+    er: &mut [u32],
+    sc: &mut [u64],
     notes: &mut [usize; 69],
     sets: &[[u64; 2]; 56],
 ) -> State
-    requires { ⌜ Asks (now src) (now ids) (now ends) s (now notes) (now events) (now errors) (now scratch) (now sets) ⌝ }
+    requires { ⌜ Asks (now src) (now ids) (now ends) s (now notes) (now ev) (now er) (now sc) (now sets) ⌝ }
     ensures { λ r. ⌜
-        Reads entrypoint d optional (node G.INCLUDE-STMT) (source (now (src .entry)) (now (ids .entry)) (now (ends .entry)))
+        Reads ep d may (node G.INCLUDE-STMT) (source (now (src .entry)) (now (ids .entry)) (now (ends .entry)))
         s (now (notes .entry)) r (now (notes .exit))
-        (bufs (now (events .entry)) (now (errors .entry)) (now (scratch .entry))) (bufs (now (events .exit)) (now (errors .exit)) (now (scratch .exit))) ⌝ }
+        (bufs (now (ev .entry)) (now (er .entry)) (now (sc .entry))) (bufs (now (ev .exit)) (now (er .exit)) (now (sc .exit))) ⌝ }
 {
-    s = s.begin(d, ids, ends, events);
+    s = s.begin(d, ids, ends, ev);
     let from = s.pos;
     let at = s.ev;
     if d == 0 {
@@ -1329,44 +926,28 @@ fn include_stmt(
             kind::INCLUDE_STMT,
             from,
             at,
-            optional,
+            may,
             src,
             ids,
             ends,
-            events,
-            errors,
+            ev,
+            er,
             notes,
         );
     }
     let below = d - 1;
-    s = s.expect(
-        set::INCLUDE_KW,
-        set::INCLUDE_KW,
-        ids,
-        ends,
-        events,
-        notes,
-        sets,
-    );
-    s = s.expect(
-        set::STRING_LIT,
-        set::STRING_LIT,
-        ids,
-        ends,
-        events,
-        notes,
-        sets,
-    );
+    s = s.expect(set::INCLUDE_KW, set::INCLUDE_KW, ids, ends, ev, notes, sets);
+    s = s.expect(set::STRING_LIT, set::STRING_LIT, ids, ends, ev, notes, sets);
     s.end(
         kind::INCLUDE_STMT,
         from,
         at,
-        optional,
+        may,
         src,
         ids,
         ends,
-        events,
-        errors,
+        ev,
+        er,
         notes,
     )
 }
@@ -1377,69 +958,30 @@ pub fn read_item(
     first: u32,
     mut s: State,
     depth: usize,
-    entrypoint: bool,
+    ep: bool,
     src: &[u8],
     ids: &[u32],
     ends: &[u32],
-    events: &mut [u32],
-    errors: &mut [u32],
-    scratch: &mut [u64],
+    ev: &mut [u32],
+    er: &mut [u32],
+    sc: &mut [u64],
     notes: &mut [usize; 69],
     sets: &[[u64; 2]; 56],
 ) -> State
-    requires { ⌜ Asks (now src) (now ids) (now ends) s (now notes) (now events) (now errors) (now scratch) (now sets) ⌝ }
+    requires { ⌜ Asks (now src) (now ids) (now ends) s (now notes) (now ev) (now er) (now sc) (now sets) ⌝ }
     ensures { λ r. ⌜
-        ((L : P.Limits) → reach L ≡ (depth, entrypoint)
+        ((L : P.Limits) → reach L ≡ (depth, ep)
         → Did (P.read-item L (item-of first)) (source (now (src .entry)) (now (ids .entry)) (now (ends .entry))) (whole s (now (notes .entry)))
-        (whole r (now (notes .exit))) (bufs (now (events .entry)) (now (errors .entry)) (now (scratch .entry)))
-        (bufs (now (events .exit)) (now (errors .exit)) (now (scratch .exit)))) ⌝ }
+        (whole r (now (notes .exit))) (bufs (now (ev .entry)) (now (er .entry)) (now (sc .entry)))
+        (bufs (now (ev .exit)) (now (er .exit)) (now (sc .exit)))) ⌝ }
 {
     if first == kind::IMPORT_KW {
-        return import_stmt(
-            s,
-            depth,
-            false,
-            entrypoint,
-            src,
-            ids,
-            ends,
-            events,
-            errors,
-            scratch,
-            notes,
-            sets,
-        );
+        return import_stmt(s, depth, false, ep, src, ids, ends, ev, er, sc, notes, sets);
     }
     if first == kind::INCLUDE_KW {
-        return include_stmt(
-            s,
-            depth,
-            false,
-            entrypoint,
-            src,
-            ids,
-            ends,
-            events,
-            errors,
-            scratch,
-            notes,
-            sets,
-        );
+        return include_stmt(s, depth, false, ep, src, ids, ends, ev, er, sc, notes, sets);
     }
-    s = rule_decl(
-        s,
-        depth,
-        false,
-        entrypoint,
-        src,
-        ids,
-        ends,
-        events,
-        errors,
-        scratch,
-        notes,
-        sets,
-    );
+    s = rule_decl(s, depth, false, ep, src, ids, ends, ev, er, sc, notes, sets);
     s.recover(
         depth,
         false,
@@ -1447,8 +989,8 @@ pub fn read_item(
         src,
         ids,
         ends,
-        events,
-        errors,
+        ev,
+        er,
         notes,
         sets,
     )

@@ -15,48 +15,35 @@ ghost use Rattle.parts.specs.Parts.{pattern-idents, optionally};
 pub fn them(
     mut s: State,
     d: usize,
-    optional: bool,
-    entrypoint: bool,
+    may: bool,
+    ep: bool,
     src: &[u8],
     ids: &[u32],
     ends: &[u32],
-    events: &mut [u32],
-    errors: &mut [u32],
-    scratch: &mut [u64],
+    ev: &mut [u32],
+    er: &mut [u32],
+    sc: &mut [u64],
     notes: &mut [usize; 69],
     sets: &[[u64; 2]; 56],
 ) -> State
-    requires { ⌜ Asks (now src) (now ids) (now ends) s (now notes) (now events) (now errors) (now scratch) (now sets) ⌝ }
+    requires { ⌜ Asks (now src) (now ids) (now ends) s (now notes) (now ev) (now er) (now sc) (now sets) ⌝ }
     ensures { λ r. ⌜
-        Reads entrypoint d optional them (source (now (src .entry)) (now (ids .entry)) (now (ends .entry)))
+        Reads ep d may them (source (now (src .entry)) (now (ids .entry)) (now (ends .entry)))
         s (now (notes .entry)) r (now (notes .exit))
-        (bufs (now (events .entry)) (now (errors .entry)) (now (scratch .entry))) (bufs (now (events .exit)) (now (errors .exit)) (now (scratch .exit))) ⌝ }
+        (bufs (now (ev .entry)) (now (er .entry)) (now (sc .entry))) (bufs (now (ev .exit)) (now (er .exit)) (now (sc .exit))) ⌝ }
 {
     if s.mode != mode::OK {
         return s;
     }
     let m = s.mark();
-    s = s.trivia(ids, ends, events);
-    s = s.expect(set::THEM_KW, set::THEM_KW, ids, ends, events, notes, sets);
+    s = s.trivia(ids, ends, ev);
+    s = s.expect(set::THEM_KW, set::THEM_KW, ids, ends, ev, notes, sets);
     if s.mode != mode::FAILED {
         return s;
     }
     s = s.rewind(m);
     s.mode = mode::OK;
-    s = pattern_ident_tuple(
-        s,
-        d,
-        true,
-        entrypoint,
-        src,
-        ids,
-        ends,
-        events,
-        errors,
-        scratch,
-        notes,
-        sets,
-    );
+    s = pattern_ident_tuple(s, d, true, ep, src, ids, ends, ev, er, sc, notes, sets);
     if s.mode != mode::FAILED {
         return s;
     }
@@ -68,28 +55,28 @@ pub fn them(
 fn pattern_ident_tuple(
     mut s: State,
     d: usize,
-    optional: bool,
-    entrypoint: bool,
+    may: bool,
+    ep: bool,
     src: &[u8],
     ids: &[u32],
     ends: &[u32],
-    events: &mut [u32],
-    errors: &mut [u32],
-    scratch: &mut [u64],
+    ev: &mut [u32],
+    er: &mut [u32],
+    sc: &mut [u64],
     notes: &mut [usize; 69],
     sets: &[[u64; 2]; 56],
 ) -> State
-    requires { ⌜ Asks (now src) (now ids) (now ends) s (now notes) (now events) (now errors) (now scratch) (now sets) ⌝ }
+    requires { ⌜ Asks (now src) (now ids) (now ends) s (now notes) (now ev) (now er) (now sc) (now sets) ⌝ }
     ensures { λ r. ⌜
-        Reads entrypoint d optional (then (node G.PATTERN-IDENT-TUPLE)) (source (now (src .entry)) (now (ids .entry)) (now (ends .entry)))
+        Reads ep d may (then (node G.PATTERN-IDENT-TUPLE)) (source (now (src .entry)) (now (ids .entry)) (now (ends .entry)))
         s (now (notes .entry)) r (now (notes .exit))
-        (bufs (now (events .entry)) (now (errors .entry)) (now (scratch .entry))) (bufs (now (events .exit)) (now (errors .exit)) (now (scratch .exit))) ⌝ }
+        (bufs (now (ev .entry)) (now (er .entry)) (now (sc .entry))) (bufs (now (ev .exit)) (now (er .exit)) (now (sc .exit))) ⌝ }
 {
     if s.mode != mode::OK {
         return s;
     }
-    s = s.trivia(ids, ends, events);
-    s = s.begin(d, ids, ends, events);
+    s = s.trivia(ids, ends, ev);
+    s = s.begin(d, ids, ends, ev);
     let from = s.pos;
     let at = s.ev;
     if d == 0 {
@@ -97,23 +84,23 @@ fn pattern_ident_tuple(
             kind::PATTERN_IDENT_TUPLE,
             from,
             at,
-            optional,
+            may,
             src,
             ids,
             ends,
-            events,
-            errors,
+            ev,
+            er,
             notes,
         );
     }
     let below = d - 1;
-    s = s.expect(set::L_PAREN, set::L_PAREN, ids, ends, events, notes, sets);
+    s = s.expect(set::L_PAREN, set::L_PAREN, ids, ends, ev, notes, sets);
     s = s.expect(
         set::PATTERN_IDENT,
         set::PATTERN_IDENT,
         ids,
         ends,
-        events,
+        ev,
         notes,
         sets,
     );
@@ -121,42 +108,29 @@ fn pattern_ident_tuple(
         set::ASTERISK,
         s,
         below,
-        optional,
-        entrypoint,
+        may,
+        ep,
         src,
         ids,
         ends,
-        events,
-        errors,
-        scratch,
+        ev,
+        er,
+        sc,
         notes,
         sets,
     );
-    s = pattern_idents(
-        s,
-        below,
-        optional,
-        entrypoint,
-        src,
-        ids,
-        ends,
-        events,
-        errors,
-        scratch,
-        notes,
-        sets,
-    );
-    s = s.expect(set::R_PAREN, set::R_PAREN, ids, ends, events, notes, sets);
+    s = pattern_idents(s, below, may, ep, src, ids, ends, ev, er, sc, notes, sets);
+    s = s.expect(set::R_PAREN, set::R_PAREN, ids, ends, ev, notes, sets);
     s.end(
         kind::PATTERN_IDENT_TUPLE,
         from,
         at,
-        optional,
+        may,
         src,
         ids,
         ends,
-        events,
-        errors,
+        ev,
+        er,
         notes,
     )
 }
@@ -165,22 +139,22 @@ fn pattern_ident_tuple(
 fn pattern_idents(
     mut s: State,
     d: usize,
-    optional: bool,
-    entrypoint: bool,
+    may: bool,
+    ep: bool,
     src: &[u8],
     ids: &[u32],
     ends: &[u32],
-    events: &mut [u32],
-    errors: &mut [u32],
-    scratch: &mut [u64],
+    ev: &mut [u32],
+    er: &mut [u32],
+    sc: &mut [u64],
     notes: &mut [usize; 69],
     sets: &[[u64; 2]; 56],
 ) -> State
-    requires { ⌜ Asks (now src) (now ids) (now ends) s (now notes) (now events) (now errors) (now scratch) (now sets) ⌝ }
+    requires { ⌜ Asks (now src) (now ids) (now ends) s (now notes) (now ev) (now er) (now sc) (now sets) ⌝ }
     ensures { λ r. ⌜
-        Reads entrypoint d optional pattern-idents (source (now (src .entry)) (now (ids .entry)) (now (ends .entry)))
+        Reads ep d may pattern-idents (source (now (src .entry)) (now (ids .entry)) (now (ends .entry)))
         s (now (notes .entry)) r (now (notes .exit))
-        (bufs (now (events .entry)) (now (errors .entry)) (now (scratch .entry))) (bufs (now (events .exit)) (now (errors .exit)) (now (scratch .exit))) ⌝ }
+        (bufs (now (ev .entry)) (now (er .entry)) (now (sc .entry))) (bufs (now (ev .exit)) (now (er .exit)) (now (sc .exit))) ⌝ }
 {
     if s.mode != mode::OK {
         return s;
@@ -188,14 +162,14 @@ fn pattern_idents(
     let mut n = ids.len() - s.pos + 1;
     while n > 0 {
         let m = s.mark();
-        s = s.trivia(ids, ends, events);
-        s = s.expect(set::COMMA, set::COMMA, ids, ends, events, notes, sets);
+        s = s.trivia(ids, ends, ev);
+        s = s.expect(set::COMMA, set::COMMA, ids, ends, ev, notes, sets);
         s = s.expect(
             set::PATTERN_IDENT,
             set::PATTERN_IDENT,
             ids,
             ends,
-            events,
+            ev,
             notes,
             sets,
         );
@@ -204,13 +178,13 @@ fn pattern_idents(
             s,
             d,
             true,
-            entrypoint,
+            ep,
             src,
             ids,
             ends,
-            events,
-            errors,
-            scratch,
+            ev,
+            er,
+            sc,
             notes,
             sets,
         );
@@ -227,29 +201,29 @@ pub fn maybe(
     set: usize,
     mut s: State,
     d: usize,
-    optional: bool,
-    entrypoint: bool,
+    may: bool,
+    ep: bool,
     src: &[u8],
     ids: &[u32],
     ends: &[u32],
-    events: &mut [u32],
-    errors: &mut [u32],
-    scratch: &mut [u64],
+    ev: &mut [u32],
+    er: &mut [u32],
+    sc: &mut [u64],
     notes: &mut [usize; 69],
     sets: &[[u64; 2]; 56],
 ) -> State
-    requires { ⌜ Asks (now src) (now ids) (now ends) s (now notes) (now events) (now errors) (now scratch) (now sets) × (set < 58) ⌝ }
+    requires { ⌜ Asks (now src) (now ids) (now ends) s (now notes) (now ev) (now er) (now sc) (now sets) × (set < 58) ⌝ }
     ensures { λ r. ⌜
-        Reads entrypoint d optional (optionally set) (source (now (src .entry)) (now (ids .entry)) (now (ends .entry)))
+        Reads ep d may (optionally set) (source (now (src .entry)) (now (ids .entry)) (now (ends .entry)))
         s (now (notes .entry)) r (now (notes .exit))
-        (bufs (now (events .entry)) (now (errors .entry)) (now (scratch .entry))) (bufs (now (events .exit)) (now (errors .exit)) (now (scratch .exit))) ⌝ }
+        (bufs (now (ev .entry)) (now (er .entry)) (now (sc .entry))) (bufs (now (ev .exit)) (now (er .exit)) (now (sc .exit))) ⌝ }
 {
     if s.mode != mode::OK {
         return s;
     }
     let m = s.mark();
-    s = s.trivia(ids, ends, events);
-    s = s.expect(set, set, ids, ends, events, notes, sets);
+    s = s.trivia(ids, ends, ev);
+    s = s.expect(set, set, ids, ends, ev, notes, sets);
     if s.mode != mode::FAILED {
         return s;
     }

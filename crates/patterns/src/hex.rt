@@ -15,24 +15,24 @@ ghost use Rattle.patterns.specs.Parts.{hex-units, hex-choices, hex-jumps
 pub fn hex_pattern(
     mut s: State,
     d: usize,
-    optional: bool,
-    entrypoint: bool,
+    may: bool,
+    ep: bool,
     src: &[u8],
     ids: &[u32],
     ends: &[u32],
-    events: &mut [u32],
-    errors: &mut [u32],
-    scratch: &mut [u64],
+    ev: &mut [u32],
+    er: &mut [u32],
+    sc: &mut [u64],
     notes: &mut [usize; 69],
     sets: &[[u64; 2]; 56],
 ) -> State
-    requires { ⌜ Asks (now src) (now ids) (now ends) s (now notes) (now events) (now errors) (now scratch) (now sets) ⌝ }
+    requires { ⌜ Asks (now src) (now ids) (now ends) s (now notes) (now ev) (now er) (now sc) (now sets) ⌝ }
     ensures { λ r. ⌜
-        Reads entrypoint d optional (node G.HEX-PATTERN) (source (now (src .entry)) (now (ids .entry)) (now (ends .entry)))
+        Reads ep d may (node G.HEX-PATTERN) (source (now (src .entry)) (now (ids .entry)) (now (ends .entry)))
         s (now (notes .entry)) r (now (notes .exit))
-        (bufs (now (events .entry)) (now (errors .entry)) (now (scratch .entry))) (bufs (now (events .exit)) (now (errors .exit)) (now (scratch .exit))) ⌝ }
+        (bufs (now (ev .entry)) (now (er .entry)) (now (sc .entry))) (bufs (now (ev .exit)) (now (er .exit)) (now (sc .exit))) ⌝ }
 {
-    s = s.begin(d, ids, ends, events);
+    s = s.begin(d, ids, ends, ev);
     let from = s.pos;
     let at = s.ev;
     if d == 0 {
@@ -40,42 +40,29 @@ pub fn hex_pattern(
             kind::HEX_PATTERN,
             from,
             at,
-            optional,
+            may,
             src,
             ids,
             ends,
-            events,
-            errors,
+            ev,
+            er,
             notes,
         );
     }
     let below = d - 1;
-    s = s.expect(set::L_BRACE, set::L_BRACE, ids, ends, events, notes, sets);
-    s = hex_sub_pattern(
-        s,
-        below,
-        optional,
-        entrypoint,
-        src,
-        ids,
-        ends,
-        events,
-        errors,
-        scratch,
-        notes,
-        sets,
-    );
-    s = s.expect(set::R_BRACE, set::R_BRACE, ids, ends, events, notes, sets);
+    s = s.expect(set::L_BRACE, set::L_BRACE, ids, ends, ev, notes, sets);
+    s = hex_sub_pattern(s, below, may, ep, src, ids, ends, ev, er, sc, notes, sets);
+    s = s.expect(set::R_BRACE, set::R_BRACE, ids, ends, ev, notes, sets);
     s.end(
         kind::HEX_PATTERN,
         from,
         at,
-        optional,
+        may,
         src,
         ids,
         ends,
-        events,
-        errors,
+        ev,
+        er,
         notes,
     )
 }
@@ -84,28 +71,28 @@ pub fn hex_pattern(
 fn hex_sub_pattern(
     mut s: State,
     d: usize,
-    optional: bool,
-    entrypoint: bool,
+    may: bool,
+    ep: bool,
     src: &[u8],
     ids: &[u32],
     ends: &[u32],
-    events: &mut [u32],
-    errors: &mut [u32],
-    scratch: &mut [u64],
+    ev: &mut [u32],
+    er: &mut [u32],
+    sc: &mut [u64],
     notes: &mut [usize; 69],
     sets: &[[u64; 2]; 56],
 ) -> State
-    requires { ⌜ Asks (now src) (now ids) (now ends) s (now notes) (now events) (now errors) (now scratch) (now sets) ⌝ }
+    requires { ⌜ Asks (now src) (now ids) (now ends) s (now notes) (now ev) (now er) (now sc) (now sets) ⌝ }
     ensures { λ r. ⌜
-        Reads entrypoint d optional (then (node G.HEX-SUB-PATTERN)) (source (now (src .entry)) (now (ids .entry)) (now (ends .entry)))
+        Reads ep d may (then (node G.HEX-SUB-PATTERN)) (source (now (src .entry)) (now (ids .entry)) (now (ends .entry)))
         s (now (notes .entry)) r (now (notes .exit))
-        (bufs (now (events .entry)) (now (errors .entry)) (now (scratch .entry))) (bufs (now (events .exit)) (now (errors .exit)) (now (scratch .exit))) ⌝ }
+        (bufs (now (ev .entry)) (now (er .entry)) (now (sc .entry))) (bufs (now (ev .exit)) (now (er .exit)) (now (sc .exit))) ⌝ }
 {
     if s.mode != mode::OK {
         return s;
     }
-    s = s.trivia(ids, ends, events);
-    s = s.begin(d, ids, ends, events);
+    s = s.trivia(ids, ends, ev);
+    s = s.begin(d, ids, ends, ev);
     let from = s.pos;
     let at = s.ev;
     if d == 0 {
@@ -113,54 +100,28 @@ fn hex_sub_pattern(
             kind::HEX_SUB_PATTERN,
             from,
             at,
-            optional,
+            may,
             src,
             ids,
             ends,
-            events,
-            errors,
+            ev,
+            er,
             notes,
         );
     }
     let below = d - 1;
-    s = hex_unit(
-        s,
-        below,
-        optional,
-        entrypoint,
-        src,
-        ids,
-        ends,
-        events,
-        errors,
-        scratch,
-        notes,
-        sets,
-    );
-    s = hex_units(
-        s,
-        below,
-        optional,
-        entrypoint,
-        src,
-        ids,
-        ends,
-        events,
-        errors,
-        scratch,
-        notes,
-        sets,
-    );
+    s = hex_unit(s, below, may, ep, src, ids, ends, ev, er, sc, notes, sets);
+    s = hex_units(s, below, may, ep, src, ids, ends, ev, er, sc, notes, sets);
     s.end(
         kind::HEX_SUB_PATTERN,
         from,
         at,
-        optional,
+        may,
         src,
         ids,
         ends,
-        events,
-        errors,
+        ev,
+        er,
         notes,
     )
 }
@@ -169,49 +130,36 @@ fn hex_sub_pattern(
 fn hex_unit(
     mut s: State,
     d: usize,
-    optional: bool,
-    entrypoint: bool,
+    may: bool,
+    ep: bool,
     src: &[u8],
     ids: &[u32],
     ends: &[u32],
-    events: &mut [u32],
-    errors: &mut [u32],
-    scratch: &mut [u64],
+    ev: &mut [u32],
+    er: &mut [u32],
+    sc: &mut [u64],
     notes: &mut [usize; 69],
     sets: &[[u64; 2]; 56],
 ) -> State
-    requires { ⌜ Asks (now src) (now ids) (now ends) s (now notes) (now events) (now errors) (now scratch) (now sets) ⌝ }
+    requires { ⌜ Asks (now src) (now ids) (now ends) s (now notes) (now ev) (now er) (now sc) (now sets) ⌝ }
     ensures { λ r. ⌜
-        Reads entrypoint d optional hex-unit (source (now (src .entry)) (now (ids .entry)) (now (ends .entry)))
+        Reads ep d may hex-unit (source (now (src .entry)) (now (ids .entry)) (now (ends .entry)))
         s (now (notes .entry)) r (now (notes .exit))
-        (bufs (now (events .entry)) (now (errors .entry)) (now (scratch .entry))) (bufs (now (events .exit)) (now (errors .exit)) (now (scratch .exit))) ⌝ }
+        (bufs (now (ev .entry)) (now (er .entry)) (now (sc .entry))) (bufs (now (ev .exit)) (now (er .exit)) (now (sc .exit))) ⌝ }
 {
     if s.mode != mode::OK {
         return s;
     }
     let m = s.mark();
-    s = s.trivia(ids, ends, events);
-    s = s.expect(set::HEX_BYTE, set::HEX_BYTE, ids, ends, events, notes, sets);
+    s = s.trivia(ids, ends, ev);
+    s = s.expect(set::HEX_BYTE, set::HEX_BYTE, ids, ends, ev, notes, sets);
     if s.mode != mode::FAILED {
         return s;
     }
     s = s.rewind(m);
     s.mode = mode::OK;
-    s = s.trivia(ids, ends, events);
-    s = hex_alternative(
-        s,
-        d,
-        true,
-        entrypoint,
-        src,
-        ids,
-        ends,
-        events,
-        errors,
-        scratch,
-        notes,
-        sets,
-    );
+    s = s.trivia(ids, ends, ev);
+    s = hex_alternative(s, d, true, ep, src, ids, ends, ev, er, sc, notes, sets);
     if s.mode != mode::FAILED {
         return s;
     }
@@ -223,22 +171,22 @@ fn hex_unit(
 fn hex_units(
     mut s: State,
     d: usize,
-    optional: bool,
-    entrypoint: bool,
+    may: bool,
+    ep: bool,
     src: &[u8],
     ids: &[u32],
     ends: &[u32],
-    events: &mut [u32],
-    errors: &mut [u32],
-    scratch: &mut [u64],
+    ev: &mut [u32],
+    er: &mut [u32],
+    sc: &mut [u64],
     notes: &mut [usize; 69],
     sets: &[[u64; 2]; 56],
 ) -> State
-    requires { ⌜ Asks (now src) (now ids) (now ends) s (now notes) (now events) (now errors) (now scratch) (now sets) ⌝ }
+    requires { ⌜ Asks (now src) (now ids) (now ends) s (now notes) (now ev) (now er) (now sc) (now sets) ⌝ }
     ensures { λ r. ⌜
-        Reads entrypoint d optional hex-units (source (now (src .entry)) (now (ids .entry)) (now (ends .entry)))
+        Reads ep d may hex-units (source (now (src .entry)) (now (ids .entry)) (now (ends .entry)))
         s (now (notes .entry)) r (now (notes .exit))
-        (bufs (now (events .entry)) (now (errors .entry)) (now (scratch .entry))) (bufs (now (events .exit)) (now (errors .exit)) (now (scratch .exit))) ⌝ }
+        (bufs (now (ev .entry)) (now (er .entry)) (now (sc .entry))) (bufs (now (ev .exit)) (now (er .exit)) (now (sc .exit))) ⌝ }
 {
     if s.mode != mode::OK {
         return s;
@@ -246,35 +194,9 @@ fn hex_units(
     let mut n = ids.len() - s.pos + 1;
     while n > 0 {
         let m = s.mark();
-        s = s.trivia(ids, ends, events);
-        s = hex_jumps(
-            s,
-            d,
-            true,
-            entrypoint,
-            src,
-            ids,
-            ends,
-            events,
-            errors,
-            scratch,
-            notes,
-            sets,
-        );
-        s = hex_unit(
-            s,
-            d,
-            true,
-            entrypoint,
-            src,
-            ids,
-            ends,
-            events,
-            errors,
-            scratch,
-            notes,
-            sets,
-        );
+        s = s.trivia(ids, ends, ev);
+        s = hex_jumps(s, d, true, ep, src, ids, ends, ev, er, sc, notes, sets);
+        s = hex_unit(s, d, true, ep, src, ids, ends, ev, er, sc, notes, sets);
         if s.mode != mode::OK {
             return s.undone(m);
         }
@@ -287,24 +209,24 @@ fn hex_units(
 fn hex_alternative(
     mut s: State,
     d: usize,
-    optional: bool,
-    entrypoint: bool,
+    may: bool,
+    ep: bool,
     src: &[u8],
     ids: &[u32],
     ends: &[u32],
-    events: &mut [u32],
-    errors: &mut [u32],
-    scratch: &mut [u64],
+    ev: &mut [u32],
+    er: &mut [u32],
+    sc: &mut [u64],
     notes: &mut [usize; 69],
     sets: &[[u64; 2]; 56],
 ) -> State
-    requires { ⌜ Asks (now src) (now ids) (now ends) s (now notes) (now events) (now errors) (now scratch) (now sets) ⌝ }
+    requires { ⌜ Asks (now src) (now ids) (now ends) s (now notes) (now ev) (now er) (now sc) (now sets) ⌝ }
     ensures { λ r. ⌜
-        Reads entrypoint d optional (node G.HEX-ALTERNATIVE) (source (now (src .entry)) (now (ids .entry)) (now (ends .entry)))
+        Reads ep d may (node G.HEX-ALTERNATIVE) (source (now (src .entry)) (now (ids .entry)) (now (ends .entry)))
         s (now (notes .entry)) r (now (notes .exit))
-        (bufs (now (events .entry)) (now (errors .entry)) (now (scratch .entry))) (bufs (now (events .exit)) (now (errors .exit)) (now (scratch .exit))) ⌝ }
+        (bufs (now (ev .entry)) (now (er .entry)) (now (sc .entry))) (bufs (now (ev .exit)) (now (er .exit)) (now (sc .exit))) ⌝ }
 {
-    s = s.begin(d, ids, ends, events);
+    s = s.begin(d, ids, ends, ev);
     let from = s.pos;
     let at = s.ev;
     if d == 0 {
@@ -312,56 +234,30 @@ fn hex_alternative(
             kind::HEX_ALTERNATIVE,
             from,
             at,
-            optional,
+            may,
             src,
             ids,
             ends,
-            events,
-            errors,
+            ev,
+            er,
             notes,
         );
     }
     let below = d - 1;
-    s = s.expect(set::L_PAREN, set::L_PAREN, ids, ends, events, notes, sets);
-    s = hex_sub_pattern(
-        s,
-        below,
-        optional,
-        entrypoint,
-        src,
-        ids,
-        ends,
-        events,
-        errors,
-        scratch,
-        notes,
-        sets,
-    );
-    s = hex_choices(
-        s,
-        below,
-        optional,
-        entrypoint,
-        src,
-        ids,
-        ends,
-        events,
-        errors,
-        scratch,
-        notes,
-        sets,
-    );
-    s = s.expect(set::R_PAREN, set::R_PAREN, ids, ends, events, notes, sets);
+    s = s.expect(set::L_PAREN, set::L_PAREN, ids, ends, ev, notes, sets);
+    s = hex_sub_pattern(s, below, may, ep, src, ids, ends, ev, er, sc, notes, sets);
+    s = hex_choices(s, below, may, ep, src, ids, ends, ev, er, sc, notes, sets);
+    s = s.expect(set::R_PAREN, set::R_PAREN, ids, ends, ev, notes, sets);
     s.end(
         kind::HEX_ALTERNATIVE,
         from,
         at,
-        optional,
+        may,
         src,
         ids,
         ends,
-        events,
-        errors,
+        ev,
+        er,
         notes,
     )
 }
@@ -370,22 +266,22 @@ fn hex_alternative(
 fn hex_choices(
     mut s: State,
     d: usize,
-    optional: bool,
-    entrypoint: bool,
+    may: bool,
+    ep: bool,
     src: &[u8],
     ids: &[u32],
     ends: &[u32],
-    events: &mut [u32],
-    errors: &mut [u32],
-    scratch: &mut [u64],
+    ev: &mut [u32],
+    er: &mut [u32],
+    sc: &mut [u64],
     notes: &mut [usize; 69],
     sets: &[[u64; 2]; 56],
 ) -> State
-    requires { ⌜ Asks (now src) (now ids) (now ends) s (now notes) (now events) (now errors) (now scratch) (now sets) ⌝ }
+    requires { ⌜ Asks (now src) (now ids) (now ends) s (now notes) (now ev) (now er) (now sc) (now sets) ⌝ }
     ensures { λ r. ⌜
-        Reads entrypoint d optional hex-choices (source (now (src .entry)) (now (ids .entry)) (now (ends .entry)))
+        Reads ep d may hex-choices (source (now (src .entry)) (now (ids .entry)) (now (ends .entry)))
         s (now (notes .entry)) r (now (notes .exit))
-        (bufs (now (events .entry)) (now (errors .entry)) (now (scratch .entry))) (bufs (now (events .exit)) (now (errors .exit)) (now (scratch .exit))) ⌝ }
+        (bufs (now (ev .entry)) (now (er .entry)) (now (sc .entry))) (bufs (now (ev .exit)) (now (er .exit)) (now (sc .exit))) ⌝ }
 {
     if s.mode != mode::OK {
         return s;
@@ -393,22 +289,9 @@ fn hex_choices(
     let mut n = ids.len() - s.pos + 1;
     while n > 0 {
         let m = s.mark();
-        s = s.trivia(ids, ends, events);
-        s = s.expect(set::PIPE, set::PIPE, ids, ends, events, notes, sets);
-        s = hex_sub_pattern(
-            s,
-            d,
-            true,
-            entrypoint,
-            src,
-            ids,
-            ends,
-            events,
-            errors,
-            scratch,
-            notes,
-            sets,
-        );
+        s = s.trivia(ids, ends, ev);
+        s = s.expect(set::PIPE, set::PIPE, ids, ends, ev, notes, sets);
+        s = hex_sub_pattern(s, d, true, ep, src, ids, ends, ev, er, sc, notes, sets);
         if s.mode != mode::OK {
             return s.undone(m);
         }
@@ -421,22 +304,22 @@ fn hex_choices(
 fn hex_jumps(
     mut s: State,
     d: usize,
-    optional: bool,
-    entrypoint: bool,
+    may: bool,
+    ep: bool,
     src: &[u8],
     ids: &[u32],
     ends: &[u32],
-    events: &mut [u32],
-    errors: &mut [u32],
-    scratch: &mut [u64],
+    ev: &mut [u32],
+    er: &mut [u32],
+    sc: &mut [u64],
     notes: &mut [usize; 69],
     sets: &[[u64; 2]; 56],
 ) -> State
-    requires { ⌜ Asks (now src) (now ids) (now ends) s (now notes) (now events) (now errors) (now scratch) (now sets) ⌝ }
+    requires { ⌜ Asks (now src) (now ids) (now ends) s (now notes) (now ev) (now er) (now sc) (now sets) ⌝ }
     ensures { λ r. ⌜
-        Reads entrypoint d optional hex-jumps (source (now (src .entry)) (now (ids .entry)) (now (ends .entry)))
+        Reads ep d may hex-jumps (source (now (src .entry)) (now (ids .entry)) (now (ends .entry)))
         s (now (notes .entry)) r (now (notes .exit))
-        (bufs (now (events .entry)) (now (errors .entry)) (now (scratch .entry))) (bufs (now (events .exit)) (now (errors .exit)) (now (scratch .exit))) ⌝ }
+        (bufs (now (ev .entry)) (now (er .entry)) (now (sc .entry))) (bufs (now (ev .exit)) (now (er .exit)) (now (sc .exit))) ⌝ }
 {
     if s.mode != mode::OK {
         return s;
@@ -444,21 +327,8 @@ fn hex_jumps(
     let mut n = ids.len() - s.pos + 1;
     while n > 0 {
         let m = s.mark();
-        s = s.trivia(ids, ends, events);
-        s = hex_jump(
-            s,
-            d,
-            true,
-            entrypoint,
-            src,
-            ids,
-            ends,
-            events,
-            errors,
-            scratch,
-            notes,
-            sets,
-        );
+        s = s.trivia(ids, ends, ev);
+        s = hex_jump(s, d, true, ep, src, ids, ends, ev, er, sc, notes, sets);
         if s.mode != mode::OK {
             return s.undone(m);
         }
@@ -471,141 +341,90 @@ fn hex_jumps(
 fn hex_jump(
     mut s: State,
     d: usize,
-    optional: bool,
-    entrypoint: bool,
+    may: bool,
+    ep: bool,
     src: &[u8],
     ids: &[u32],
     ends: &[u32],
-    events: &mut [u32],
-    errors: &mut [u32],
-    scratch: &mut [u64],
+    ev: &mut [u32],
+    er: &mut [u32],
+    sc: &mut [u64],
     notes: &mut [usize; 69],
     sets: &[[u64; 2]; 56],
 ) -> State
-    requires { ⌜ Asks (now src) (now ids) (now ends) s (now notes) (now events) (now errors) (now scratch) (now sets) ⌝ }
+    requires { ⌜ Asks (now src) (now ids) (now ends) s (now notes) (now ev) (now er) (now sc) (now sets) ⌝ }
     ensures { λ r. ⌜
-        Reads entrypoint d optional (node G.HEX-JUMP) (source (now (src .entry)) (now (ids .entry)) (now (ends .entry)))
+        Reads ep d may (node G.HEX-JUMP) (source (now (src .entry)) (now (ids .entry)) (now (ends .entry)))
         s (now (notes .entry)) r (now (notes .exit))
-        (bufs (now (events .entry)) (now (errors .entry)) (now (scratch .entry))) (bufs (now (events .exit)) (now (errors .exit)) (now (scratch .exit))) ⌝ }
+        (bufs (now (ev .entry)) (now (er .entry)) (now (sc .entry))) (bufs (now (ev .exit)) (now (er .exit)) (now (sc .exit))) ⌝ }
 {
-    s = s.begin(d, ids, ends, events);
+    s = s.begin(d, ids, ends, ev);
     let from = s.pos;
     let at = s.ev;
     if d == 0 {
-        return s.end(
-            kind::HEX_JUMP,
-            from,
-            at,
-            optional,
-            src,
-            ids,
-            ends,
-            events,
-            errors,
-            notes,
-        );
+        return s.end(kind::HEX_JUMP, from, at, may, src, ids, ends, ev, er, notes);
     }
     let below = d - 1;
-    s = s.expect(
-        set::L_BRACKET,
-        set::L_BRACKET,
-        ids,
-        ends,
-        events,
-        notes,
-        sets,
-    );
-    s = jump_range(
-        s,
-        below,
-        optional,
-        entrypoint,
-        src,
-        ids,
-        ends,
-        events,
-        errors,
-        scratch,
-        notes,
-        sets,
-    );
-    s = s.expect(
-        set::R_BRACKET,
-        set::R_BRACKET,
-        ids,
-        ends,
-        events,
-        notes,
-        sets,
-    );
-    s.end(
-        kind::HEX_JUMP,
-        from,
-        at,
-        optional,
-        src,
-        ids,
-        ends,
-        events,
-        errors,
-        notes,
-    )
+    s = s.expect(set::L_BRACKET, set::L_BRACKET, ids, ends, ev, notes, sets);
+    s = jump_range(s, below, may, ep, src, ids, ends, ev, er, sc, notes, sets);
+    s = s.expect(set::R_BRACKET, set::R_BRACKET, ids, ends, ev, notes, sets);
+    s.end(kind::HEX_JUMP, from, at, may, src, ids, ends, ev, er, notes)
 }
 
 // INTEGER_LIT? HYPHEN INTEGER_LIT? / INTEGER_LIT
 fn jump_range(
     mut s: State,
     d: usize,
-    optional: bool,
-    entrypoint: bool,
+    may: bool,
+    ep: bool,
     src: &[u8],
     ids: &[u32],
     ends: &[u32],
-    events: &mut [u32],
-    errors: &mut [u32],
-    scratch: &mut [u64],
+    ev: &mut [u32],
+    er: &mut [u32],
+    sc: &mut [u64],
     notes: &mut [usize; 69],
     sets: &[[u64; 2]; 56],
 ) -> State
-    requires { ⌜ Asks (now src) (now ids) (now ends) s (now notes) (now events) (now errors) (now scratch) (now sets) ⌝ }
+    requires { ⌜ Asks (now src) (now ids) (now ends) s (now notes) (now ev) (now er) (now sc) (now sets) ⌝ }
     ensures { λ r. ⌜
-        Reads entrypoint d optional jump-range (source (now (src .entry)) (now (ids .entry)) (now (ends .entry)))
+        Reads ep d may jump-range (source (now (src .entry)) (now (ids .entry)) (now (ends .entry)))
         s (now (notes .entry)) r (now (notes .exit))
-        (bufs (now (events .entry)) (now (errors .entry)) (now (scratch .entry))) (bufs (now (events .exit)) (now (errors .exit)) (now (scratch .exit))) ⌝ }
+        (bufs (now (ev .entry)) (now (er .entry)) (now (sc .entry))) (bufs (now (ev .exit)) (now (er .exit)) (now (sc .exit))) ⌝ }
 {
     if s.mode != mode::OK {
         return s;
     }
     let m = s.mark();
-    s = s.trivia(ids, ends, events);
+    s = s.trivia(ids, ends, ev);
     s = maybe(
         set::INTEGER_LIT,
         s,
         d,
         true,
-        entrypoint,
+        ep,
         src,
         ids,
         ends,
-        events,
-        errors,
-        scratch,
+        ev,
+        er,
+        sc,
         notes,
         sets,
     );
-    s = s.expect(set::HYPHEN, set::HYPHEN, ids, ends, events, notes, sets);
+    s = s.expect(set::HYPHEN, set::HYPHEN, ids, ends, ev, notes, sets);
     s = maybe(
         set::INTEGER_LIT,
         s,
         d,
         true,
-        entrypoint,
+        ep,
         src,
         ids,
         ends,
-        events,
-        errors,
-        scratch,
+        ev,
+        er,
+        sc,
         notes,
         sets,
     );
@@ -614,13 +433,13 @@ fn jump_range(
     }
     s = s.rewind(m);
     s.mode = mode::OK;
-    s = s.trivia(ids, ends, events);
+    s = s.trivia(ids, ends, ev);
     s = s.expect(
         set::INTEGER_LIT,
         set::INTEGER_LIT,
         ids,
         ends,
-        events,
+        ev,
         notes,
         sets,
     );

@@ -18,24 +18,24 @@ const MODIFIER: usize = 57;
 pub fn patterns_blk(
     mut s: State,
     d: usize,
-    optional: bool,
-    entrypoint: bool,
+    may: bool,
+    ep: bool,
     src: &[u8],
     ids: &[u32],
     ends: &[u32],
-    events: &mut [u32],
-    errors: &mut [u32],
-    scratch: &mut [u64],
+    ev: &mut [u32],
+    er: &mut [u32],
+    sc: &mut [u64],
     notes: &mut [usize; 69],
     sets: &[[u64; 2]; 56],
 ) -> State
-    requires { ⌜ Asks (now src) (now ids) (now ends) s (now notes) (now events) (now errors) (now scratch) (now sets) ⌝ }
+    requires { ⌜ Asks (now src) (now ids) (now ends) s (now notes) (now ev) (now er) (now sc) (now sets) ⌝ }
     ensures { λ r. ⌜
-        Reads entrypoint d optional (node G.PATTERNS-BLK) (source (now (src .entry)) (now (ids .entry)) (now (ends .entry)))
+        Reads ep d may (node G.PATTERNS-BLK) (source (now (src .entry)) (now (ids .entry)) (now (ends .entry)))
         s (now (notes .entry)) r (now (notes .exit))
-        (bufs (now (events .entry)) (now (errors .entry)) (now (scratch .entry))) (bufs (now (events .exit)) (now (errors .exit)) (now (scratch .exit))) ⌝ }
+        (bufs (now (ev .entry)) (now (er .entry)) (now (sc .entry))) (bufs (now (ev .exit)) (now (er .exit)) (now (sc .exit))) ⌝ }
 {
-    s = s.begin(d, ids, ends, events);
+    s = s.begin(d, ids, ends, ev);
     let from = s.pos;
     let at = s.ev;
     if d == 0 {
@@ -43,50 +43,29 @@ pub fn patterns_blk(
             kind::PATTERNS_BLK,
             from,
             at,
-            optional,
+            may,
             src,
             ids,
             ends,
-            events,
-            errors,
+            ev,
+            er,
             notes,
         );
     }
     let below = d - 1;
-    s = s.expect(
-        set::STRINGS_KW,
-        set::STRINGS_KW,
-        ids,
-        ends,
-        events,
-        notes,
-        sets,
-    );
-    s = s.expect(set::COLON, set::COLON, ids, ends, events, notes, sets);
-    s = pattern_defs(
-        s,
-        below,
-        optional,
-        entrypoint,
-        src,
-        ids,
-        ends,
-        events,
-        errors,
-        scratch,
-        notes,
-        sets,
-    );
+    s = s.expect(set::STRINGS_KW, set::STRINGS_KW, ids, ends, ev, notes, sets);
+    s = s.expect(set::COLON, set::COLON, ids, ends, ev, notes, sets);
+    s = pattern_defs(s, below, may, ep, src, ids, ends, ev, er, sc, notes, sets);
     s.end(
         kind::PATTERNS_BLK,
         from,
         at,
-        optional,
+        may,
         src,
         ids,
         ends,
-        events,
-        errors,
+        ev,
+        er,
         notes,
     )
 }
@@ -95,55 +74,29 @@ pub fn patterns_blk(
 fn pattern_defs(
     mut s: State,
     d: usize,
-    optional: bool,
-    entrypoint: bool,
+    may: bool,
+    ep: bool,
     src: &[u8],
     ids: &[u32],
     ends: &[u32],
-    events: &mut [u32],
-    errors: &mut [u32],
-    scratch: &mut [u64],
+    ev: &mut [u32],
+    er: &mut [u32],
+    sc: &mut [u64],
     notes: &mut [usize; 69],
     sets: &[[u64; 2]; 56],
 ) -> State
-    requires { ⌜ Asks (now src) (now ids) (now ends) s (now notes) (now events) (now errors) (now scratch) (now sets) ⌝ }
+    requires { ⌜ Asks (now src) (now ids) (now ends) s (now notes) (now ev) (now er) (now sc) (now sets) ⌝ }
     ensures { λ r. ⌜
-        Reads entrypoint d optional pattern-defs (source (now (src .entry)) (now (ids .entry)) (now (ends .entry)))
+        Reads ep d may pattern-defs (source (now (src .entry)) (now (ids .entry)) (now (ends .entry)))
         s (now (notes .entry)) r (now (notes .exit))
-        (bufs (now (events .entry)) (now (errors .entry)) (now (scratch .entry))) (bufs (now (events .exit)) (now (errors .exit)) (now (scratch .exit))) ⌝ }
+        (bufs (now (ev .entry)) (now (er .entry)) (now (sc .entry))) (bufs (now (ev .exit)) (now (er .exit)) (now (sc .exit))) ⌝ }
 {
     if s.mode != mode::OK {
         return s;
     }
-    s = s.trivia(ids, ends, events);
-    s = pattern_def(
-        s,
-        d,
-        optional,
-        entrypoint,
-        src,
-        ids,
-        ends,
-        events,
-        errors,
-        scratch,
-        notes,
-        sets,
-    );
-    s = more_defs(
-        s,
-        d,
-        optional,
-        entrypoint,
-        src,
-        ids,
-        ends,
-        events,
-        errors,
-        scratch,
-        notes,
-        sets,
-    );
+    s = s.trivia(ids, ends, ev);
+    s = pattern_def(s, d, may, ep, src, ids, ends, ev, er, sc, notes, sets);
+    s = more_defs(s, d, may, ep, src, ids, ends, ev, er, sc, notes, sets);
     s
 }
 
@@ -151,22 +104,22 @@ fn pattern_defs(
 fn more_defs(
     mut s: State,
     d: usize,
-    optional: bool,
-    entrypoint: bool,
+    may: bool,
+    ep: bool,
     src: &[u8],
     ids: &[u32],
     ends: &[u32],
-    events: &mut [u32],
-    errors: &mut [u32],
-    scratch: &mut [u64],
+    ev: &mut [u32],
+    er: &mut [u32],
+    sc: &mut [u64],
     notes: &mut [usize; 69],
     sets: &[[u64; 2]; 56],
 ) -> State
-    requires { ⌜ Asks (now src) (now ids) (now ends) s (now notes) (now events) (now errors) (now scratch) (now sets) ⌝ }
+    requires { ⌜ Asks (now src) (now ids) (now ends) s (now notes) (now ev) (now er) (now sc) (now sets) ⌝ }
     ensures { λ r. ⌜
-        Reads entrypoint d optional more-defs (source (now (src .entry)) (now (ids .entry)) (now (ends .entry)))
+        Reads ep d may more-defs (source (now (src .entry)) (now (ids .entry)) (now (ends .entry)))
         s (now (notes .entry)) r (now (notes .exit))
-        (bufs (now (events .entry)) (now (errors .entry)) (now (scratch .entry))) (bufs (now (events .exit)) (now (errors .exit)) (now (scratch .exit))) ⌝ }
+        (bufs (now (ev .entry)) (now (er .entry)) (now (sc .entry))) (bufs (now (ev .exit)) (now (er .exit)) (now (sc .exit))) ⌝ }
 {
     if s.mode != mode::OK {
         return s;
@@ -174,21 +127,8 @@ fn more_defs(
     let mut n = ids.len() - s.pos + 1;
     while n > 0 {
         let m = s.mark();
-        s = s.trivia(ids, ends, events);
-        s = pattern_def(
-            s,
-            d,
-            true,
-            entrypoint,
-            src,
-            ids,
-            ends,
-            events,
-            errors,
-            scratch,
-            notes,
-            sets,
-        );
+        s = s.trivia(ids, ends, ev);
+        s = pattern_def(s, d, true, ep, src, ids, ends, ev, er, sc, notes, sets);
         if s.mode != mode::OK {
             return s.undone(m);
         }
@@ -201,24 +141,24 @@ fn more_defs(
 fn pattern_def(
     mut s: State,
     d: usize,
-    optional: bool,
-    entrypoint: bool,
+    may: bool,
+    ep: bool,
     src: &[u8],
     ids: &[u32],
     ends: &[u32],
-    events: &mut [u32],
-    errors: &mut [u32],
-    scratch: &mut [u64],
+    ev: &mut [u32],
+    er: &mut [u32],
+    sc: &mut [u64],
     notes: &mut [usize; 69],
     sets: &[[u64; 2]; 56],
 ) -> State
-    requires { ⌜ Asks (now src) (now ids) (now ends) s (now notes) (now events) (now errors) (now scratch) (now sets) ⌝ }
+    requires { ⌜ Asks (now src) (now ids) (now ends) s (now notes) (now ev) (now er) (now sc) (now sets) ⌝ }
     ensures { λ r. ⌜
-        Reads entrypoint d optional (node G.PATTERN-DEF) (source (now (src .entry)) (now (ids .entry)) (now (ends .entry)))
+        Reads ep d may (node G.PATTERN-DEF) (source (now (src .entry)) (now (ids .entry)) (now (ends .entry)))
         s (now (notes .entry)) r (now (notes .exit))
-        (bufs (now (events .entry)) (now (errors .entry)) (now (scratch .entry))) (bufs (now (events .exit)) (now (errors .exit)) (now (scratch .exit))) ⌝ }
+        (bufs (now (ev .entry)) (now (er .entry)) (now (sc .entry))) (bufs (now (ev .exit)) (now (er .exit)) (now (sc .exit))) ⌝ }
 {
-    s = s.begin(d, ids, ends, events);
+    s = s.begin(d, ids, ends, ev);
     let from = s.pos;
     let at = s.ev;
     if d == 0 {
@@ -226,12 +166,12 @@ fn pattern_def(
             kind::PATTERN_DEF,
             from,
             at,
-            optional,
+            may,
             src,
             ids,
             ends,
-            events,
-            errors,
+            ev,
+            er,
             notes,
         );
     }
@@ -241,49 +181,23 @@ fn pattern_def(
         set::PATTERN_IDENT,
         ids,
         ends,
-        events,
+        ev,
         notes,
         sets,
     );
-    s = s.expect(set::EQUAL, set::EQUAL, ids, ends, events, notes, sets);
-    s = pattern_value(
-        s,
-        below,
-        optional,
-        entrypoint,
-        src,
-        ids,
-        ends,
-        events,
-        errors,
-        scratch,
-        notes,
-        sets,
-    );
-    s = any_mods(
-        s,
-        below,
-        optional,
-        entrypoint,
-        src,
-        ids,
-        ends,
-        events,
-        errors,
-        scratch,
-        notes,
-        sets,
-    );
+    s = s.expect(set::EQUAL, set::EQUAL, ids, ends, ev, notes, sets);
+    s = pattern_value(s, below, may, ep, src, ids, ends, ev, er, sc, notes, sets);
+    s = any_mods(s, below, may, ep, src, ids, ends, ev, er, sc, notes, sets);
     s.end(
         kind::PATTERN_DEF,
         from,
         at,
-        optional,
+        may,
         src,
         ids,
         ends,
-        events,
-        errors,
+        ev,
+        er,
         notes,
     )
 }
@@ -292,64 +206,43 @@ fn pattern_def(
 fn pattern_value(
     mut s: State,
     d: usize,
-    optional: bool,
-    entrypoint: bool,
+    may: bool,
+    ep: bool,
     src: &[u8],
     ids: &[u32],
     ends: &[u32],
-    events: &mut [u32],
-    errors: &mut [u32],
-    scratch: &mut [u64],
+    ev: &mut [u32],
+    er: &mut [u32],
+    sc: &mut [u64],
     notes: &mut [usize; 69],
     sets: &[[u64; 2]; 56],
 ) -> State
-    requires { ⌜ Asks (now src) (now ids) (now ends) s (now notes) (now events) (now errors) (now scratch) (now sets) ⌝ }
+    requires { ⌜ Asks (now src) (now ids) (now ends) s (now notes) (now ev) (now er) (now sc) (now sets) ⌝ }
     ensures { λ r. ⌜
-        Reads entrypoint d optional pattern-value (source (now (src .entry)) (now (ids .entry)) (now (ends .entry)))
+        Reads ep d may pattern-value (source (now (src .entry)) (now (ids .entry)) (now (ends .entry)))
         s (now (notes .entry)) r (now (notes .exit))
-        (bufs (now (events .entry)) (now (errors .entry)) (now (scratch .entry))) (bufs (now (events .exit)) (now (errors .exit)) (now (scratch .exit))) ⌝ }
+        (bufs (now (ev .entry)) (now (er .entry)) (now (sc .entry))) (bufs (now (ev .exit)) (now (er .exit)) (now (sc .exit))) ⌝ }
 {
     if s.mode != mode::OK {
         return s;
     }
     let m = s.mark();
-    s = s.trivia(ids, ends, events);
-    s = s.expect(
-        set::STRING_LIT,
-        set::STRING_LIT,
-        ids,
-        ends,
-        events,
-        notes,
-        sets,
-    );
+    s = s.trivia(ids, ends, ev);
+    s = s.expect(set::STRING_LIT, set::STRING_LIT, ids, ends, ev, notes, sets);
     if s.mode != mode::FAILED {
         return s;
     }
     s = s.rewind(m);
     s.mode = mode::OK;
-    s = s.trivia(ids, ends, events);
-    s = s.expect(set::REGEXP, set::REGEXP, ids, ends, events, notes, sets);
+    s = s.trivia(ids, ends, ev);
+    s = s.expect(set::REGEXP, set::REGEXP, ids, ends, ev, notes, sets);
     if s.mode != mode::FAILED {
         return s;
     }
     s = s.rewind(m);
     s.mode = mode::OK;
-    s = s.trivia(ids, ends, events);
-    s = hex_pattern(
-        s,
-        d,
-        true,
-        entrypoint,
-        src,
-        ids,
-        ends,
-        events,
-        errors,
-        scratch,
-        notes,
-        sets,
-    );
+    s = s.trivia(ids, ends, ev);
+    s = hex_pattern(s, d, true, ep, src, ids, ends, ev, er, sc, notes, sets);
     if s.mode != mode::FAILED {
         return s;
     }
@@ -361,42 +254,29 @@ fn pattern_value(
 fn any_mods(
     mut s: State,
     d: usize,
-    optional: bool,
-    entrypoint: bool,
+    may: bool,
+    ep: bool,
     src: &[u8],
     ids: &[u32],
     ends: &[u32],
-    events: &mut [u32],
-    errors: &mut [u32],
-    scratch: &mut [u64],
+    ev: &mut [u32],
+    er: &mut [u32],
+    sc: &mut [u64],
     notes: &mut [usize; 69],
     sets: &[[u64; 2]; 56],
 ) -> State
-    requires { ⌜ Asks (now src) (now ids) (now ends) s (now notes) (now events) (now errors) (now scratch) (now sets) ⌝ }
+    requires { ⌜ Asks (now src) (now ids) (now ends) s (now notes) (now ev) (now er) (now sc) (now sets) ⌝ }
     ensures { λ r. ⌜
-        Reads entrypoint d optional any-mods (source (now (src .entry)) (now (ids .entry)) (now (ends .entry)))
+        Reads ep d may any-mods (source (now (src .entry)) (now (ids .entry)) (now (ends .entry)))
         s (now (notes .entry)) r (now (notes .exit))
-        (bufs (now (events .entry)) (now (errors .entry)) (now (scratch .entry))) (bufs (now (events .exit)) (now (errors .exit)) (now (scratch .exit))) ⌝ }
+        (bufs (now (ev .entry)) (now (er .entry)) (now (sc .entry))) (bufs (now (ev .exit)) (now (er .exit)) (now (sc .exit))) ⌝ }
 {
     if s.mode != mode::OK {
         return s;
     }
     let m = s.mark();
-    s = s.trivia(ids, ends, events);
-    s = pattern_mods(
-        s,
-        d,
-        true,
-        entrypoint,
-        src,
-        ids,
-        ends,
-        events,
-        errors,
-        scratch,
-        notes,
-        sets,
-    );
+    s = s.trivia(ids, ends, ev);
+    s = pattern_mods(s, d, true, ep, src, ids, ends, ev, er, sc, notes, sets);
     if s.mode != mode::FAILED {
         return s;
     }
@@ -409,24 +289,24 @@ fn any_mods(
 fn pattern_mods(
     mut s: State,
     d: usize,
-    optional: bool,
-    entrypoint: bool,
+    may: bool,
+    ep: bool,
     src: &[u8],
     ids: &[u32],
     ends: &[u32],
-    events: &mut [u32],
-    errors: &mut [u32],
-    scratch: &mut [u64],
+    ev: &mut [u32],
+    er: &mut [u32],
+    sc: &mut [u64],
     notes: &mut [usize; 69],
     sets: &[[u64; 2]; 56],
 ) -> State
-    requires { ⌜ Asks (now src) (now ids) (now ends) s (now notes) (now events) (now errors) (now scratch) (now sets) ⌝ }
+    requires { ⌜ Asks (now src) (now ids) (now ends) s (now notes) (now ev) (now er) (now sc) (now sets) ⌝ }
     ensures { λ r. ⌜
-        Reads entrypoint d optional (node G.PATTERN-MODS) (source (now (src .entry)) (now (ids .entry)) (now (ends .entry)))
+        Reads ep d may (node G.PATTERN-MODS) (source (now (src .entry)) (now (ids .entry)) (now (ends .entry)))
         s (now (notes .entry)) r (now (notes .exit))
-        (bufs (now (events .entry)) (now (errors .entry)) (now (scratch .entry))) (bufs (now (events .exit)) (now (errors .exit)) (now (scratch .exit))) ⌝ }
+        (bufs (now (ev .entry)) (now (er .entry)) (now (sc .entry))) (bufs (now (ev .exit)) (now (er .exit)) (now (sc .exit))) ⌝ }
 {
-    s = s.begin(d, ids, ends, events);
+    s = s.begin(d, ids, ends, ev);
     let from = s.pos;
     let at = s.ev;
     if d == 0 {
@@ -434,40 +314,27 @@ fn pattern_mods(
             kind::PATTERN_MODS,
             from,
             at,
-            optional,
+            may,
             src,
             ids,
             ends,
-            events,
-            errors,
+            ev,
+            er,
             notes,
         );
     }
     let below = d - 1;
-    s = some_mods(
-        s,
-        below,
-        optional,
-        entrypoint,
-        src,
-        ids,
-        ends,
-        events,
-        errors,
-        scratch,
-        notes,
-        sets,
-    );
+    s = some_mods(s, below, may, ep, src, ids, ends, ev, er, sc, notes, sets);
     s.end(
         kind::PATTERN_MODS,
         from,
         at,
-        optional,
+        may,
         src,
         ids,
         ends,
-        events,
-        errors,
+        ev,
+        er,
         notes,
     )
 }
@@ -476,55 +343,29 @@ fn pattern_mods(
 fn some_mods(
     mut s: State,
     d: usize,
-    optional: bool,
-    entrypoint: bool,
+    may: bool,
+    ep: bool,
     src: &[u8],
     ids: &[u32],
     ends: &[u32],
-    events: &mut [u32],
-    errors: &mut [u32],
-    scratch: &mut [u64],
+    ev: &mut [u32],
+    er: &mut [u32],
+    sc: &mut [u64],
     notes: &mut [usize; 69],
     sets: &[[u64; 2]; 56],
 ) -> State
-    requires { ⌜ Asks (now src) (now ids) (now ends) s (now notes) (now events) (now errors) (now scratch) (now sets) ⌝ }
+    requires { ⌜ Asks (now src) (now ids) (now ends) s (now notes) (now ev) (now er) (now sc) (now sets) ⌝ }
     ensures { λ r. ⌜
-        Reads entrypoint d optional some-mods (source (now (src .entry)) (now (ids .entry)) (now (ends .entry)))
+        Reads ep d may some-mods (source (now (src .entry)) (now (ids .entry)) (now (ends .entry)))
         s (now (notes .entry)) r (now (notes .exit))
-        (bufs (now (events .entry)) (now (errors .entry)) (now (scratch .entry))) (bufs (now (events .exit)) (now (errors .exit)) (now (scratch .exit))) ⌝ }
+        (bufs (now (ev .entry)) (now (er .entry)) (now (sc .entry))) (bufs (now (ev .exit)) (now (er .exit)) (now (sc .exit))) ⌝ }
 {
     if s.mode != mode::OK {
         return s;
     }
-    s = s.trivia(ids, ends, events);
-    s = pattern_mod(
-        s,
-        d,
-        optional,
-        entrypoint,
-        src,
-        ids,
-        ends,
-        events,
-        errors,
-        scratch,
-        notes,
-        sets,
-    );
-    s = more_mods(
-        s,
-        d,
-        optional,
-        entrypoint,
-        src,
-        ids,
-        ends,
-        events,
-        errors,
-        scratch,
-        notes,
-        sets,
-    );
+    s = s.trivia(ids, ends, ev);
+    s = pattern_mod(s, d, may, ep, src, ids, ends, ev, er, sc, notes, sets);
+    s = more_mods(s, d, may, ep, src, ids, ends, ev, er, sc, notes, sets);
     s
 }
 
@@ -532,22 +373,22 @@ fn some_mods(
 fn more_mods(
     mut s: State,
     d: usize,
-    optional: bool,
-    entrypoint: bool,
+    may: bool,
+    ep: bool,
     src: &[u8],
     ids: &[u32],
     ends: &[u32],
-    events: &mut [u32],
-    errors: &mut [u32],
-    scratch: &mut [u64],
+    ev: &mut [u32],
+    er: &mut [u32],
+    sc: &mut [u64],
     notes: &mut [usize; 69],
     sets: &[[u64; 2]; 56],
 ) -> State
-    requires { ⌜ Asks (now src) (now ids) (now ends) s (now notes) (now events) (now errors) (now scratch) (now sets) ⌝ }
+    requires { ⌜ Asks (now src) (now ids) (now ends) s (now notes) (now ev) (now er) (now sc) (now sets) ⌝ }
     ensures { λ r. ⌜
-        Reads entrypoint d optional more-mods (source (now (src .entry)) (now (ids .entry)) (now (ends .entry)))
+        Reads ep d may more-mods (source (now (src .entry)) (now (ids .entry)) (now (ends .entry)))
         s (now (notes .entry)) r (now (notes .exit))
-        (bufs (now (events .entry)) (now (errors .entry)) (now (scratch .entry))) (bufs (now (events .exit)) (now (errors .exit)) (now (scratch .exit))) ⌝ }
+        (bufs (now (ev .entry)) (now (er .entry)) (now (sc .entry))) (bufs (now (ev .exit)) (now (er .exit)) (now (sc .exit))) ⌝ }
 {
     if s.mode != mode::OK {
         return s;
@@ -555,21 +396,8 @@ fn more_mods(
     let mut n = ids.len() - s.pos + 1;
     while n > 0 {
         let m = s.mark();
-        s = s.trivia(ids, ends, events);
-        s = pattern_mod(
-            s,
-            d,
-            true,
-            entrypoint,
-            src,
-            ids,
-            ends,
-            events,
-            errors,
-            scratch,
-            notes,
-            sets,
-        );
+        s = s.trivia(ids, ends, ev);
+        s = pattern_mod(s, d, true, ep, src, ids, ends, ev, er, sc, notes, sets);
         if s.mode != mode::OK {
             return s.undone(m);
         }
@@ -583,24 +411,24 @@ fn more_mods(
 fn pattern_mod(
     mut s: State,
     d: usize,
-    optional: bool,
-    entrypoint: bool,
+    may: bool,
+    ep: bool,
     src: &[u8],
     ids: &[u32],
     ends: &[u32],
-    events: &mut [u32],
-    errors: &mut [u32],
-    scratch: &mut [u64],
+    ev: &mut [u32],
+    er: &mut [u32],
+    sc: &mut [u64],
     notes: &mut [usize; 69],
     sets: &[[u64; 2]; 56],
 ) -> State
-    requires { ⌜ Asks (now src) (now ids) (now ends) s (now notes) (now events) (now errors) (now scratch) (now sets) ⌝ }
+    requires { ⌜ Asks (now src) (now ids) (now ends) s (now notes) (now ev) (now er) (now sc) (now sets) ⌝ }
     ensures { λ r. ⌜
-        Reads entrypoint d optional (node G.PATTERN-MOD) (source (now (src .entry)) (now (ids .entry)) (now (ends .entry)))
+        Reads ep d may (node G.PATTERN-MOD) (source (now (src .entry)) (now (ids .entry)) (now (ends .entry)))
         s (now (notes .entry)) r (now (notes .exit))
-        (bufs (now (events .entry)) (now (errors .entry)) (now (scratch .entry))) (bufs (now (events .exit)) (now (errors .exit)) (now (scratch .exit))) ⌝ }
+        (bufs (now (ev .entry)) (now (er .entry)) (now (sc .entry))) (bufs (now (ev .exit)) (now (er .exit)) (now (sc .exit))) ⌝ }
 {
-    s = s.begin(d, ids, ends, events);
+    s = s.begin(d, ids, ends, ev);
     let from = s.pos;
     let at = s.ev;
     if d == 0 {
@@ -608,40 +436,27 @@ fn pattern_mod(
             kind::PATTERN_MOD,
             from,
             at,
-            optional,
+            may,
             src,
             ids,
             ends,
-            events,
-            errors,
+            ev,
+            er,
             notes,
         );
     }
     let below = d - 1;
-    s = modifier(
-        s,
-        below,
-        optional,
-        entrypoint,
-        src,
-        ids,
-        ends,
-        events,
-        errors,
-        scratch,
-        notes,
-        sets,
-    );
+    s = modifier(s, below, may, ep, src, ids, ends, ev, er, sc, notes, sets);
     s.end(
         kind::PATTERN_MOD,
         from,
         at,
-        optional,
+        may,
         src,
         ids,
         ends,
-        events,
-        errors,
+        ev,
+        er,
         notes,
     )
 }
@@ -650,79 +465,45 @@ fn pattern_mod(
 fn modifier(
     mut s: State,
     d: usize,
-    optional: bool,
-    entrypoint: bool,
+    may: bool,
+    ep: bool,
     src: &[u8],
     ids: &[u32],
     ends: &[u32],
-    events: &mut [u32],
-    errors: &mut [u32],
-    scratch: &mut [u64],
+    ev: &mut [u32],
+    er: &mut [u32],
+    sc: &mut [u64],
     notes: &mut [usize; 69],
     sets: &[[u64; 2]; 56],
 ) -> State
-    requires { ⌜ Asks (now src) (now ids) (now ends) s (now notes) (now events) (now errors) (now scratch) (now sets) ⌝ }
+    requires { ⌜ Asks (now src) (now ids) (now ends) s (now notes) (now ev) (now er) (now sc) (now sets) ⌝ }
     ensures { λ r. ⌜
-        Reads entrypoint d optional (grammar entrypoint G.PATTERN-MOD) (source (now (src .entry)) (now (ids .entry)) (now (ends .entry)))
+        Reads ep d may (grammar ep G.PATTERN-MOD) (source (now (src .entry)) (now (ids .entry)) (now (ends .entry)))
         s (now (notes .entry)) r (now (notes .exit))
-        (bufs (now (events .entry)) (now (errors .entry)) (now (scratch .entry))) (bufs (now (events .exit)) (now (errors .exit)) (now (scratch .exit))) ⌝ }
+        (bufs (now (ev .entry)) (now (er .entry)) (now (sc .entry))) (bufs (now (ev .exit)) (now (er .exit)) (now (sc .exit))) ⌝ }
 {
     if s.mode != mode::OK {
         return s;
     }
     let m = s.mark();
-    s = s.trivia(ids, ends, events);
-    s = s.expect(
-        set::PLAIN_MODIFIER,
-        MODIFIER,
-        ids,
-        ends,
-        events,
-        notes,
-        sets,
-    );
+    s = s.trivia(ids, ends, ev);
+    s = s.expect(set::PLAIN_MODIFIER, MODIFIER, ids, ends, ev, notes, sets);
     if s.mode != mode::FAILED {
         return s;
     }
     s = s.rewind(m);
     s.mode = mode::OK;
-    s = s.trivia(ids, ends, events);
-    s = s.expect(set::BASE64, MODIFIER, ids, ends, events, notes, sets);
-    s = alphabet(
-        s,
-        d,
-        true,
-        entrypoint,
-        src,
-        ids,
-        ends,
-        events,
-        errors,
-        scratch,
-        notes,
-        sets,
-    );
+    s = s.trivia(ids, ends, ev);
+    s = s.expect(set::BASE64, MODIFIER, ids, ends, ev, notes, sets);
+    s = alphabet(s, d, true, ep, src, ids, ends, ev, er, sc, notes, sets);
     if s.mode != mode::FAILED {
         return s;
     }
     s = s.rewind(m);
     s.mode = mode::OK;
-    s = s.trivia(ids, ends, events);
-    s = s.expect(set::XOR_KW, MODIFIER, ids, ends, events, notes, sets);
-    s = xor_range(
-        s,
-        d,
-        true,
-        entrypoint,
-        src,
-        ids,
-        ends,
-        events,
-        errors,
-        scratch,
-        notes,
-        sets,
-    );
+    s = s.trivia(ids, ends, ev);
+    s = s.expect(set::XOR_KW, MODIFIER, ids, ends, ev, notes, sets);
+    s = xor_range(s, d, true, ep, src, ids, ends, ev, er, sc, notes, sets);
     if s.mode != mode::FAILED {
         return s;
     }
@@ -734,43 +515,35 @@ fn modifier(
 fn alphabet(
     mut s: State,
     d: usize,
-    optional: bool,
-    entrypoint: bool,
+    may: bool,
+    ep: bool,
     src: &[u8],
     ids: &[u32],
     ends: &[u32],
-    events: &mut [u32],
-    errors: &mut [u32],
-    scratch: &mut [u64],
+    ev: &mut [u32],
+    er: &mut [u32],
+    sc: &mut [u64],
     notes: &mut [usize; 69],
     sets: &[[u64; 2]; 56],
 ) -> State
-    requires { ⌜ Asks (now src) (now ids) (now ends) s (now notes) (now events) (now errors) (now scratch) (now sets) ⌝ }
+    requires { ⌜ Asks (now src) (now ids) (now ends) s (now notes) (now ev) (now er) (now sc) (now sets) ⌝ }
     ensures { λ r. ⌜
-        Reads entrypoint d optional alphabet (source (now (src .entry)) (now (ids .entry)) (now (ends .entry)))
+        Reads ep d may alphabet (source (now (src .entry)) (now (ids .entry)) (now (ends .entry)))
         s (now (notes .entry)) r (now (notes .exit))
-        (bufs (now (events .entry)) (now (errors .entry)) (now (scratch .entry))) (bufs (now (events .exit)) (now (errors .exit)) (now (scratch .exit))) ⌝ }
+        (bufs (now (ev .entry)) (now (er .entry)) (now (sc .entry))) (bufs (now (ev .exit)) (now (er .exit)) (now (sc .exit))) ⌝ }
 {
     if !s.sees(set::L_PAREN, ids, sets) {
         s.pass(set::L_PAREN, ids, notes);
         return s;
     }
-    s = s.trivia(ids, ends, events);
-    s = s.expect(set::L_PAREN, set::L_PAREN, ids, ends, events, notes, sets);
+    s = s.trivia(ids, ends, ev);
+    s = s.expect(set::L_PAREN, set::L_PAREN, ids, ends, ev, notes, sets);
     if s.mode != mode::OK {
         return s;
     }
-    s = s.trivia(ids, ends, events);
-    s = s.expect(
-        set::STRING_LIT,
-        set::STRING_LIT,
-        ids,
-        ends,
-        events,
-        notes,
-        sets,
-    );
-    s = s.expect(set::R_PAREN, set::R_PAREN, ids, ends, events, notes, sets);
+    s = s.trivia(ids, ends, ev);
+    s = s.expect(set::STRING_LIT, set::STRING_LIT, ids, ends, ev, notes, sets);
+    s = s.expect(set::R_PAREN, set::R_PAREN, ids, ends, ev, notes, sets);
     s
 }
 
@@ -778,57 +551,44 @@ fn alphabet(
 fn xor_range(
     mut s: State,
     d: usize,
-    optional: bool,
-    entrypoint: bool,
+    may: bool,
+    ep: bool,
     src: &[u8],
     ids: &[u32],
     ends: &[u32],
-    events: &mut [u32],
-    errors: &mut [u32],
-    scratch: &mut [u64],
+    ev: &mut [u32],
+    er: &mut [u32],
+    sc: &mut [u64],
     notes: &mut [usize; 69],
     sets: &[[u64; 2]; 56],
 ) -> State
-    requires { ⌜ Asks (now src) (now ids) (now ends) s (now notes) (now events) (now errors) (now scratch) (now sets) ⌝ }
+    requires { ⌜ Asks (now src) (now ids) (now ends) s (now notes) (now ev) (now er) (now sc) (now sets) ⌝ }
     ensures { λ r. ⌜
-        Reads entrypoint d optional xor-range (source (now (src .entry)) (now (ids .entry)) (now (ends .entry)))
+        Reads ep d may xor-range (source (now (src .entry)) (now (ids .entry)) (now (ends .entry)))
         s (now (notes .entry)) r (now (notes .exit))
-        (bufs (now (events .entry)) (now (errors .entry)) (now (scratch .entry))) (bufs (now (events .exit)) (now (errors .exit)) (now (scratch .exit))) ⌝ }
+        (bufs (now (ev .entry)) (now (er .entry)) (now (sc .entry))) (bufs (now (ev .exit)) (now (er .exit)) (now (sc .exit))) ⌝ }
 {
     if !s.sees(set::L_PAREN, ids, sets) {
         s.pass(set::L_PAREN, ids, notes);
         return s;
     }
-    s = s.trivia(ids, ends, events);
-    s = s.expect(set::L_PAREN, set::L_PAREN, ids, ends, events, notes, sets);
+    s = s.trivia(ids, ends, ev);
+    s = s.expect(set::L_PAREN, set::L_PAREN, ids, ends, ev, notes, sets);
     if s.mode != mode::OK {
         return s;
     }
-    s = s.trivia(ids, ends, events);
+    s = s.trivia(ids, ends, ev);
     s = s.expect(
         set::INTEGER_LIT,
         set::INTEGER_LIT,
         ids,
         ends,
-        events,
+        ev,
         notes,
         sets,
     );
-    s = xor_end(
-        s,
-        d,
-        optional,
-        entrypoint,
-        src,
-        ids,
-        ends,
-        events,
-        errors,
-        scratch,
-        notes,
-        sets,
-    );
-    s = s.expect(set::R_PAREN, set::R_PAREN, ids, ends, events, notes, sets);
+    s = xor_end(s, d, may, ep, src, ids, ends, ev, er, sc, notes, sets);
+    s = s.expect(set::R_PAREN, set::R_PAREN, ids, ends, ev, notes, sets);
     s
 }
 
@@ -836,39 +596,39 @@ fn xor_range(
 fn xor_end(
     mut s: State,
     d: usize,
-    optional: bool,
-    entrypoint: bool,
+    may: bool,
+    ep: bool,
     src: &[u8],
     ids: &[u32],
     ends: &[u32],
-    events: &mut [u32],
-    errors: &mut [u32],
-    scratch: &mut [u64],
+    ev: &mut [u32],
+    er: &mut [u32],
+    sc: &mut [u64],
     notes: &mut [usize; 69],
     sets: &[[u64; 2]; 56],
 ) -> State
-    requires { ⌜ Asks (now src) (now ids) (now ends) s (now notes) (now events) (now errors) (now scratch) (now sets) ⌝ }
+    requires { ⌜ Asks (now src) (now ids) (now ends) s (now notes) (now ev) (now er) (now sc) (now sets) ⌝ }
     ensures { λ r. ⌜
-        Reads entrypoint d optional xor-end (source (now (src .entry)) (now (ids .entry)) (now (ends .entry)))
+        Reads ep d may xor-end (source (now (src .entry)) (now (ids .entry)) (now (ends .entry)))
         s (now (notes .entry)) r (now (notes .exit))
-        (bufs (now (events .entry)) (now (errors .entry)) (now (scratch .entry))) (bufs (now (events .exit)) (now (errors .exit)) (now (scratch .exit))) ⌝ }
+        (bufs (now (ev .entry)) (now (er .entry)) (now (sc .entry))) (bufs (now (ev .exit)) (now (er .exit)) (now (sc .exit))) ⌝ }
 {
     if !s.sees(set::HYPHEN, ids, sets) {
         s.pass(set::HYPHEN, ids, notes);
         return s;
     }
-    s = s.trivia(ids, ends, events);
-    s = s.expect(set::HYPHEN, set::HYPHEN, ids, ends, events, notes, sets);
+    s = s.trivia(ids, ends, ev);
+    s = s.expect(set::HYPHEN, set::HYPHEN, ids, ends, ev, notes, sets);
     if s.mode != mode::OK {
         return s;
     }
-    s = s.trivia(ids, ends, events);
+    s = s.trivia(ids, ends, ev);
     s = s.expect(
         set::INTEGER_LIT,
         set::INTEGER_LIT,
         ids,
         ends,
-        events,
+        ev,
         notes,
         sets,
     );

@@ -12,13 +12,13 @@ FIRST = "({args} .first)"
 
 def kept(call, params, end=""):
     """The lists' lengths, by the calls that had them."""
-    return [f"{{{call}}} .kept" + " .1" * params.index(what) + " .0" + end for what in ("events", "errors", "scratch")]
+    return [f"{{{call}}} .kept" + " .1" * params.index(what) + " .0" + end for what in ("ev", "er", "sc")]
 
 
 RECOVER = STEPS["recover"].split()
 RULE = kept("rule-decl", PARAMS)
 LENGTHS = [*kept("import-stmt", PARAMS), *kept("include-stmt", PARAMS)]
-LENGTHS += ["{recover} .kept" + " .1" * RECOVER.index(what) + " .0 ∙ " + RULE[k] for k, what in enumerate(("events", "errors"))] + [RULE[2]]
+LENGTHS += ["{recover} .kept" + " .1" * RECOVER.index(what) + " .0 ∙ " + RULE[k] for k, what in enumerate(("ev", "er"))] + [RULE[2]]
 ANS = {
     "import-stmt-requires": "{pre}",
     "include-stmt-requires": "{pre}",

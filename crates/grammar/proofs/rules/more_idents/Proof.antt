@@ -1,4 +1,4 @@
--- Written from tools/answers/grammar/rules.py, digest ed0b0589c4c3.
+-- Written from tools/answers/grammar/rules.py, digest a95028452447.
 -- By its shape.
 use borrow.Author.Needs.{needs}
 use native.Mathlib.Omega.{arith}
@@ -30,14 +30,14 @@ use Rattle.grammar.proofs.rules.more_idents.Reads as reads
 use Rattle.grammar.proofs.rules.more_idents.Lts as lts
 
 abbrev Inv-loop : tie.InvT-loop
-Inv-loop s₀ d optional entrypoint src ids ends events₀ errors scratch notes₀ sets n₀ s events notes n = Turns (reads entrypoint d true (one k.IDENT)) (source src ids ends) (whole s₀ notes₀) (whole s notes) n₀ n events₀ errors scratch events errors scratch
+Inv-loop s₀ d may ep src ids ends ev₀ er sc notes₀ sets n₀ s ev notes n = Turns (reads ep d true (one k.IDENT)) (source src ids ends) (whole s₀ notes₀) (whole s notes) n₀ n ev₀ er sc ev er sc
 
 abbrev μ-loop : tie.MeasureT-loop
-μ-loop s₀ d optional entrypoint src ids ends events₀ errors scratch notes₀ sets n₀ s events notes n = n
+μ-loop s₀ d may ep src ids ends ev₀ er sc notes₀ sets n₀ s ev notes n = n
 
 returns : tie.Need-returns Inv-loop μ-loop
 unfolding grammar kind namesOf
-returns c = stops (from (source (c .before .before .before .before .before .before .before .before .args .src .now) (c .before .before .before .before .before .before .before .before .args .ids .now) (c .before .before .before .before .before .before .before .before .args .ends .now)) (whole (c .before .before .before .before .before .before .before .before .args .s) (c .before .before .before .before .before .before .before .before .args .notes .now)) (c .before .before .before .before .before .before .before .before .args .events .now) (c .before .before .before .before .before .before .before .before .args .errors .now) (c .before .before .before .before .before .before .before .before .args .scratch .now) (c .before .before .before .before .before .before .before .before .pre .1)) (c .before .before .before .before .before .before .before .before .args .entrypoint) (c .before .before .before .before .before .before .before .before .args .d) (c .before .before .before .before .before .before .before .before .args .optional) more-idents tt (c .if1 .taken)
+returns c = stops (from (source (c .before .before .before .before .before .before .before .before .args .src .now) (c .before .before .before .before .before .before .before .before .args .ids .now) (c .before .before .before .before .before .before .before .before .args .ends .now)) (whole (c .before .before .before .before .before .before .before .before .args .s) (c .before .before .before .before .before .before .before .before .args .notes .now)) (c .before .before .before .before .before .before .before .before .args .ev .now) (c .before .before .before .before .before .before .before .before .args .er .now) (c .before .before .before .before .before .before .before .before .args .sc .now) (c .before .before .before .before .before .before .before .before .pre .1)) (c .before .before .before .before .before .before .before .before .args .ep) (c .before .before .before .before .before .before .before .before .args .d) (c .before .before .before .before .before .before .before .before .args .may) more-idents tt (c .if1 .taken)
 
 sub-n : tie.Need-sub-n Inv-loop μ-loop
 sub-n c = omega (arith, (c .before .before .before .before .before .before .before .before .before .pre .1) .0 .0 .here)
@@ -46,7 +46,7 @@ add-n : tie.Need-add-n Inv-loop μ-loop
 add-n c = omega (arith, (c .before .before .before .before .before .before .before .before .before .pre .0) .lines .few)
 
 loop-holds : tie.Need-loop-holds Inv-loop μ-loop
-loop-holds c = turns (reads (c .before .before .before .before .before .before .before .before .before .args .entrypoint) (c .before .before .before .before .before .before .before .before .before .args .d) true (one k.IDENT)) _ _ _ _ (λ p. sticky-exec p _ (c .before .before .before .before .before .before .before .before .before .args .entrypoint) (c .before .before .before .before .before .before .before .before .before .args .d) (one k.IDENT) true) (c .before .before .before .before .before .before .before .before .before .pre .1) (c .before .if1 .left) refl
+loop-holds c = turns (reads (c .before .before .before .before .before .before .before .before .before .args .ep) (c .before .before .before .before .before .before .before .before .before .args .d) true (one k.IDENT)) _ _ _ _ (λ p. sticky-exec p _ (c .before .before .before .before .before .before .before .before .before .args .ep) (c .before .before .before .before .before .before .before .before .before .args .d) (one k.IDENT) true) (c .before .before .before .before .before .before .before .before .before .pre .1) (c .before .if1 .left) refl
 
 mark-requires : tie.Need-mark-requires Inv-loop μ-loop
 mark-requires c κs = search needs

@@ -1,4 +1,4 @@
--- Written from tools/answers/grammar/read_item.py, digest 88cf0b38e71e.
+-- Written from tools/answers/grammar/read_item.py, digest c779dc440853.
 -- An item by its first row.
 use borrow.Author.Needs.{needs}
 use native.Mathlib.Omega.{arith}

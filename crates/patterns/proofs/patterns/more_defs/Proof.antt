@@ -1,4 +1,4 @@
--- Written from tools/answers/patterns/patterns.py, digest 6acf51c40c83.
+-- Written from tools/answers/patterns/patterns.py, digest 5c7080a855eb.
 -- By its shape.
 use borrow.Author.Needs.{needs}
 use native.Mathlib.Omega.{arith}
@@ -30,14 +30,14 @@ use Rattle.patterns.proofs.patterns.more_defs.Reads as reads
 use Rattle.patterns.proofs.patterns.more_defs.Lts as lts
 
 abbrev Inv-loop : tie.InvT-loop
-Inv-loop s₀ d optional entrypoint src ids ends events₀ errors₀ scratch₀ notes₀ sets n₀ s events errors scratch notes n = Turns (reads entrypoint d true (node G.PATTERN-DEF)) (source src ids ends) (whole s₀ notes₀) (whole s notes) n₀ n events₀ errors₀ scratch₀ events errors scratch
+Inv-loop s₀ d may ep src ids ends ev₀ er₀ sc₀ notes₀ sets n₀ s ev er sc notes n = Turns (reads ep d true (node G.PATTERN-DEF)) (source src ids ends) (whole s₀ notes₀) (whole s notes) n₀ n ev₀ er₀ sc₀ ev er sc
 
 abbrev μ-loop : tie.MeasureT-loop
-μ-loop s₀ d optional entrypoint src ids ends events₀ errors₀ scratch₀ notes₀ sets n₀ s events errors scratch notes n = n
+μ-loop s₀ d may ep src ids ends ev₀ er₀ sc₀ notes₀ sets n₀ s ev er sc notes n = n
 
 returns : tie.Need-returns Inv-loop μ-loop
 unfolding grammar kind namesOf
-returns c = stops (from (source (c .before .before .before .before .before .before .before .before .args .src .now) (c .before .before .before .before .before .before .before .before .args .ids .now) (c .before .before .before .before .before .before .before .before .args .ends .now)) (whole (c .before .before .before .before .before .before .before .before .args .s) (c .before .before .before .before .before .before .before .before .args .notes .now)) (c .before .before .before .before .before .before .before .before .args .events .now) (c .before .before .before .before .before .before .before .before .args .errors .now) (c .before .before .before .before .before .before .before .before .args .scratch .now) (c .before .before .before .before .before .before .before .before .pre .1)) (c .before .before .before .before .before .before .before .before .args .entrypoint) (c .before .before .before .before .before .before .before .before .args .d) (c .before .before .before .before .before .before .before .before .args .optional) more-defs tt (c .if1 .taken)
+returns c = stops (from (source (c .before .before .before .before .before .before .before .before .args .src .now) (c .before .before .before .before .before .before .before .before .args .ids .now) (c .before .before .before .before .before .before .before .before .args .ends .now)) (whole (c .before .before .before .before .before .before .before .before .args .s) (c .before .before .before .before .before .before .before .before .args .notes .now)) (c .before .before .before .before .before .before .before .before .args .ev .now) (c .before .before .before .before .before .before .before .before .args .er .now) (c .before .before .before .before .before .before .before .before .args .sc .now) (c .before .before .before .before .before .before .before .before .pre .1)) (c .before .before .before .before .before .before .before .before .args .ep) (c .before .before .before .before .before .before .before .before .args .d) (c .before .before .before .before .before .before .before .before .args .may) more-defs tt (c .if1 .taken)
 
 sub-n : tie.Need-sub-n Inv-loop μ-loop
 sub-n c = omega (arith, (c .before .before .before .before .before .before .before .before .before .pre .1) .0 .0 .here)
@@ -46,7 +46,7 @@ add-n : tie.Need-add-n Inv-loop μ-loop
 add-n c = omega (arith, (c .before .before .before .before .before .before .before .before .before .pre .0) .lines .few)
 
 loop-holds : tie.Need-loop-holds Inv-loop μ-loop
-loop-holds c = turns (reads (c .before .before .before .before .before .before .before .before .before .args .entrypoint) (c .before .before .before .before .before .before .before .before .before .args .d) true (node G.PATTERN-DEF)) _ _ _ _ (λ p. sticky-exec p _ (c .before .before .before .before .before .before .before .before .before .args .entrypoint) (c .before .before .before .before .before .before .before .before .before .args .d) (node G.PATTERN-DEF) true) (c .before .before .before .before .before .before .before .before .before .pre .1) (c .before .if1 .left) refl
+loop-holds c = turns (reads (c .before .before .before .before .before .before .before .before .before .args .ep) (c .before .before .before .before .before .before .before .before .before .args .d) true (node G.PATTERN-DEF)) _ _ _ _ (λ p. sticky-exec p _ (c .before .before .before .before .before .before .before .before .before .args .ep) (c .before .before .before .before .before .before .before .before .before .args .d) (node G.PATTERN-DEF) true) (c .before .before .before .before .before .before .before .before .before .pre .1) (c .before .if1 .left) refl
 
 mark-requires : tie.Need-mark-requires Inv-loop μ-loop
 mark-requires c κs = search needs
