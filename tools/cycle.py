@@ -13,18 +13,18 @@ from prove import ROOT, dev, path, places, printed, sealed
 
 def lines_of(crate, folder):
     """The lines that a check offers for the cycle, one need to a block, and the folder of the cycle's records."""
-    for old in (ROOT / "crates" / crate / "proofs").glob("*/+*/Proof.antt"):
+    for old in (ROOT / "crates" / crate / "proofs").glob("**/+*/Proof.antt"):
         old.unlink()
     shutil.rmtree(folder, ignore_errors=True)
     dev(crate, "--generated", str(folder))
-    where = next(folder.glob("*proofs/proofs/*/+*/"))
-    proof = ROOT / "crates" / crate / "proofs" / where.parent.name / where.name / "Proof.antt"
+    where = next(folder.glob("*proofs/proofs/**/+*/"))
+    proof = ROOT / "crates" / crate / where.relative_to(next(folder.glob("*proofs"))) / "Proof.antt"
     log = dev(crate)
-    return re.sub(r" :\n +\(t : ℕ\) →\n +", " : (t : ℕ) → ", printed(log)[str(proof)]), where, proof
+    return re.sub(r" :\n +\(t : ℕ\) →\s+", " : (t : ℕ) → ", printed(log)[str(proof)]), where, proof
 
 
 def need_text(block, answers, records, callees, out):
-    m = re.search(r"^(\S+) : \(t : ℕ\) → (\S+)-lts\.Need-(\S+) (\(.*?\)) \(\S+ t\) (\S+\.Post)((?: \S+)*)$", block, flags=re.M | re.S)
+    m = re.search(r"^(\S+) : \(t : ℕ\) → (\S+)-lts\.Need-(\S+)\s+(\(.*?\))\s+\(\S+ t\)\s+(\S+\.Post)((?: \S+)*)$", block, flags=re.M | re.S)
     if not m:
         return None
     name, member, need, callee, post, invariants = m.groups()

@@ -249,7 +249,7 @@ pub fn record(
     names: [u8; 96],
     errors: &mut [u32],
     notes: &mut [usize; 69],
-) -> u8
+) -> u16
     requires { ⌜
         (erOf (now notes) ≤ ercapOf (now notes))
         × (ercapOf (now notes) ≤ length (now errors))
@@ -278,7 +278,7 @@ pub fn record(
 }
 
 // Writes a record of form 9, with the place of the bad byte; where there is no room, says so by 8.
-fn record_bad(start: u32, end: u32, place: u32, errors: &mut [u32], notes: &mut [usize; 69]) -> u8
+fn record_bad(start: u32, end: u32, place: u32, errors: &mut [u32], notes: &mut [usize; 69]) -> u16
     requires { ⌜
         (erOf (now notes) ≤ ercapOf (now notes))
         × (ercapOf (now notes) ≤ length (now errors))
@@ -320,7 +320,7 @@ fn choose_at(
     ends: &[u32],
     errors: &mut [u32],
     notes: &mut [usize; 69],
-) -> u8
+) -> u16
     requires { ⌜
         Rows (source (now src) (now ids) (now ends))
         × Sound (length (now ids)) (now notes)
@@ -358,13 +358,13 @@ fn choose_at(
 // Chooses an error at the furthest row that was expected or unexpected, and empties both. Expected wins a tie. It takes and gives which room was
 // exceeded.
 pub fn choose(
-    full: u8,
+    full: u16,
     src: &[u8],
     ids: &[u32],
     ends: &[u32],
     errors: &mut [u32],
     notes: &mut [usize; 69],
-) -> u8
+) -> u16
     requires { ⌜ Rows (source (now src) (now ids) (now ends)) × Sound (length (now ids)) (now notes) × (ercapOf (now notes) ≤ length (now errors)) ⌝ }
     ensures { λ r. ⌜
         ((s : Whole) → s .full ≡ full → Ok (length (now (ids .entry))) (beside (now (notes .entry)) s)

@@ -2,7 +2,7 @@
 use Prim.Native.Nat.{ℕ, zero, suc, _+_, _-_, _*_, _/_, _%_, _^_, _≤_, _<_}
 use mathlib.Core.Path.{_≡_, refl, sym, ap, ap₂, subst, _∙_}
 use mathlib.Core.List.{List, [], _∷_, _++_, append-nil, map}
-use mathlib.Core.Bool.{Bool, true, false}
+use mathlib.Core.Bool.{Bool, false}
 use native.Mathlib.Omega.{arith}
 use native.Mathlib.Nat.{zero-div, le-refl, add-comm}
 use native.Mathlib.Decide.{ℕ-discrete, decLt}
@@ -23,7 +23,7 @@ use Rattle.definition.proofs.Height.{buffer-read}
 use Rattle.notes.specs.Whole.{Whole}
 use Rattle.notes.specs.Bits.{ifb, bitAt}
 use Rattle.notes.specs.Change.{withEv, withFull}
-use Rattle.notes.specs.Means.{Bufs, bufs, Means, recorded, overOf}
+use Rattle.notes.specs.Means.{bufs, Means, recorded, overOf}
 use Rattle.notes.specs.Did.{Wf, Put}
 use Rattle.notes.proofs.Naming.{none-named}
 use Rattle.notes.proofs.Rooms.{ev-count, er-count, first-of, exceeds-none, exceeds-events, full-first}
@@ -31,9 +31,7 @@ use Rattle.items.specs.declared.Desk.{Desk}
 use Rattle.items.specs.Items.{Tally, tally, blank, clean, pastOf, Between, Goes, Settled}
 use Rattle.desk.proofs.Start.{reads}
 use Rattle.desk.specs.Framing.{reading, outcomeOf, Finished, Framed}
-use Rattle.grammar.specs.Table.{reach, allowed, Lent}
-use Rattle.grammar.specs.Rows.{literal, literal-row, rows}
-use Rattle.grammar.proofs.Lines.{rows-lent, rows-allow}
+use Rattle.grammar.specs.Parts.{reach}
 
 -- zeros have no bit set
 zero-at : (n i : ℕ) → _≡_ {A = ℕ} (getD (replicate n 0) i 0) 0
@@ -178,14 +176,6 @@ module _ (L : P.Limits) (x : Source) (fuel evcap R : ℕ) {d : Tally} {t : Whole
           error-count = B .count (put .room z) ∙ sym (bare-length (B .records)) ∙ ap length (sym (m .written .past));
           left = field (λ s. s .fuel) ∙ sym (m .fuel);
         }
-
--- the table as it is laid out, entrypoint allowed or not
-pub laid : (E : Bool) {r : ℕ} → r ≡ literal-row E → Lent (set (rows true) literal r) × (allowed (set (rows true) literal r) ≡ E)
-laid E e = subst (λ (r : ℕ). Lent (set (rows true) literal r) × (allowed (set (rows true) literal r) ≡ E)) (sym e) (rows-lent E, rows-allow E)
-
--- the items were read by bounds that are these
-pub goes-by : {a b : ℕ × Bool} {i n : ℕ} {x : Source} {d r : Tally} {u v : Bufs} → a ≡ b → Goes a i n x d r u v → Goes b i n x d r u v
-goes-by {a} {b} {i} {n} {x} {d} {r} {u} {v} e = subst (λ (c : ℕ × Bool). Goes c i n x d r u v) e
 
 -- all items, from nothing on: xs are the events with the begin event, whose other cells are lent, and l₀ the list of notes
 module _ (L : P.Limits) (x : Source) (fuel : ℕ) (xs er₀ sc₀ l₀ : List ℕ) {d₀ : Desk} (e : d₀ ≡ blank fuel (length xs - EVENT)) (n : l₀ ≡ replicate 69 0) where

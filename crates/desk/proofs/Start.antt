@@ -14,7 +14,7 @@ use Rattle.notes.specs.Bits.{bitAt}
 use Rattle.notes.specs.Means.{Bufs, bufs, Means, recorded, overOf}
 use Rattle.notes.proofs.Rooms.{exceeds-none}
 use Rattle.items.specs.Items.{Tally, tally, blank, clean, pastOf, Between, Goes}
-use Rattle.grammar.specs.Table.{reach}
+use Rattle.grammar.specs.Parts.{reach}
 
 module _ (L : Limits) (x : Source) (fuel evcap ercap : ℕ) (ev er sc : List ℕ) (none : (i : ℕ) → bitAt sc i ≡ false) where
   start-means : Means (pastOf L (evcap + EVENT) ercap [] 0) x (tally (blank fuel evcap) (clean ercap (L .quote)) .state) (bufs ev er sc) (P.start (x .ids) fuel)

@@ -1,9 +1,6 @@
 // The public reader: the refusals in their order, the reading inside SOURCE_FILE, and zeros where they belong.
 use cells::clear;
 use cells::wipe;
-use grammar::parts::literal;
-use grammar::table::LITERAL;
-use grammar::table::ROWS;
 use items::Desk;
 use items::items;
 use kinds::SETS;
@@ -32,7 +29,7 @@ ghost use Rattle.definition.specs.Answer.{refusing, after};
 ghost use Rattle.refusals.specs.Judge.{desk};
 ghost use Rattle.notes.specs.Means.{source, bufs, Rows};
 ghost use Rattle.notes.specs.Did.{Wf};
-ghost use Rattle.grammar.specs.Table.{allowed, reach, Lent};
+ghost use Rattle.grammar.specs.Parts.{reach};
 ghost use Rattle.items.specs.Items as Items;
 ghost use Rattle.items.specs.Items.{tally, Goes, Settled};
 ghost use Rattle.desk.specs.Framing.{limitsOf, Framed, afterOf, answering, outcomeOf};
@@ -86,7 +83,7 @@ fn blank(fuel: u32, evcap: usize) -> Desk
 }
 
 // "Outcome 0 is done, 1 out of fuel, 2 too deep."
-fn outcome(mode: u8) -> u32
+fn outcome(mode: u16) -> u32
     ensures { λ r. ⌜ r ≡ outcomeOf mode ⌝ }
 {
     if mode < mode::SPENT {
@@ -98,18 +95,7 @@ fn outcome(mode: u8) -> u32
     outcome::DEEP
 }
 
-// The grammar's table, entrypoint being a term or not. What is proved of a step carries every table that is laid out before it, so this one is laid out
-// where little is left to do.
-fn lines_by(entrypoint: bool) -> [u32; 288]
-    ensures { λ r. ⌜ Lent r × (allowed r ≡ entrypoint) ⌝ }
-{
-    let row = literal(entrypoint);
-    let mut table = ROWS;
-    table[LITERAL] = row;
-    table
-}
-
-// The words of the sets, laid out apart for the same reason.
+// The words of the sets. What is proved of a step carries every table that is laid out before it, so this one is laid out where little is left to do.
 fn set_words() -> [[u64; 2]; 56]
     ensures { λ r. ⌜ r ≡ words ⌝ }
 {
@@ -140,7 +126,6 @@ fn items_by(
         (bufs (now (events .exit)) (now (errors .exit)) (now (scratch .exit))) ⌝ }
 {
     let depth = limits.depth as usize;
-    let table = lines_by(limits.entrypoint);
     let sets = set_words();
     items(
         d,
@@ -152,7 +137,7 @@ fn items_by(
         errors,
         scratch,
         notes,
-        &table,
+        limits.entrypoint,
         &sets,
     )
 }

@@ -30,7 +30,7 @@ use Rattle.steps.proofs.Ends.{none-pending}
 use Rattle.items.specs.Items.{Tally, withNumber, tell, since, told, Tells, Numbered, Free, at-hand, pastOf, Handed, Hands, settled, Settled, over, Between, Goes}
 use Rattle.items.proofs.Telling.{bads-records, recorded-length}
 use Rattle.items.proofs.Hand.{sticky-hand}
-use Rattle.grammar.specs.Table.{reach}
+use Rattle.grammar.specs.Parts.{reach}
 
 -- AN ITEM ENDS
 abbrev calm : Mode → Mode

@@ -29,7 +29,7 @@ use Rattle.notes.proofs.Pigeon.{few}
 use Rattle.items.specs.Items.{Tally, at-hand, Free, Strays, Handed, Hands}
 use Rattle.items.proofs.Telling.{recorded-length}
 use Rattle.items.proofs.Straying.{sticky-stray}
-use Rattle.grammar.specs.Table.{reach}
+use Rattle.grammar.specs.Parts.{reach}
 
 sticky-item : (L : Limits) (p : Past) (x : Source) (q : Prog) (a : P.State) → Sticky p x a (P.read-item L q a)
 unfolding P.read-item

@@ -19,7 +19,7 @@ use Rattle.notes.specs.Means.{Bufs, Past, Stands, recorded}
 use Rattle.notes.specs.Did.{Wf}
 use Rattle.steps.specs.Steps.{whole}
 use Rattle.items.specs.declared.Desk.{Desk}
-use Rattle.grammar.specs.Table.{reach}
+use Rattle.grammar.specs.Parts.{reach}
 
 -- the state as a whole, and how many error events stand written
 pub record Tally : Type 0 where

@@ -1,6 +1,6 @@
 // Items, one after another.
 use choice::record;
-use grammar::parts::read_item;
+use grammar::rules::read_item;
 use kinds::kind;
 use kinds::set;
 use kinds::within;
@@ -30,7 +30,6 @@ ghost use Rattle.notes.specs.Bits.{Forgot};
 ghost use Rattle.notes.specs.Means.{source, bufs, Lines, Rows};
 ghost use Rattle.notes.specs.Did.{Wf, Coded};
 ghost use Rattle.steps.specs.Steps.{whole, Tabled, Fits, Ready, Writes};
-ghost use Rattle.grammar.specs.Table.{allowed, Lends};
 ghost use Rattle.items.specs.Items as Items;
 ghost use Rattle.items.specs.Items.{tally, Flushed, Tells, Strays, Hands, Goes, Settled, settled, junk-node};
 
@@ -155,15 +154,15 @@ pub fn at_hand(
     errors: &mut [u32],
     scratch: &mut [u64],
     notes: &mut [usize; 69],
-    table: &[u32; 288],
+    entrypoint: bool,
     sets: &[[u64; 2]; 56],
 ) -> Desk
     requires { ⌜
         Rows (source (now src) (now ids) (now ends))
         × Wf (source (now src) (now ids) (now ends)) (bufs (now events) (now errors) (now scratch)) (whole s (now notes))
-        × Lends (now table) (now sets) ⌝ }
+        × Tabled (now sets) ⌝ }
     ensures { λ r. ⌜
-        Hands (depth, allowed (now (table .entry))) (source (now (src .entry)) (now (ids .entry)) (now (ends .entry))) (whole s (now (notes .entry))) before
+        Hands (depth, entrypoint) (source (now (src .entry)) (now (ids .entry)) (now (ends .entry))) (whole s (now (notes .entry))) before
         (tally r (now (notes .exit))) (bufs (now (events .entry)) (now (errors .entry)) (now (scratch .entry)))
         (bufs (now (events .exit)) (now (errors .exit)) (now (scratch .exit))) ⌝ }
 {
@@ -186,6 +185,7 @@ pub fn at_hand(
             id,
             s,
             depth,
+            entrypoint,
             src,
             ids,
             ends,
@@ -193,7 +193,6 @@ pub fn at_hand(
             errors,
             scratch,
             notes,
-            table,
             sets,
         );
         return Desk {
@@ -259,7 +258,7 @@ pub fn item(
     errors: &mut [u32],
     scratch: &mut [u64],
     notes: &mut [usize; 69],
-    table: &[u32; 288],
+    entrypoint: bool,
     sets: &[[u64; 2]; 56],
 ) -> Desk
     requires { ⌜
@@ -267,9 +266,9 @@ pub fn item(
         × Wf (source (now src) (now ids) (now ends)) (bufs (now events) (now errors) (now scratch)) (whole (d .state) (now notes))
         × Settled (whole (d .state) (now notes))
         × (number ≤ length (now ids))
-        × Lends (now table) (now sets) ⌝ }
+        × Tabled (now sets) ⌝ }
     ensures { λ r. ⌜
-        Goes (depth, allowed (now (table .entry))) number 1 (source (now (src .entry)) (now (ids .entry)) (now (ends .entry))) (tally d (now (notes .entry)))
+        Goes (depth, entrypoint) number 1 (source (now (src .entry)) (now (ids .entry)) (now (ends .entry))) (tally d (now (notes .entry)))
         (tally r (now (notes .exit))) (bufs (now (events .entry)) (now (errors .entry)) (now (scratch .entry)))
         (bufs (now (events .exit)) (now (errors .exit)) (now (scratch .exit))) ⌝ }
 {
@@ -290,7 +289,7 @@ pub fn item(
         errors,
         scratch,
         notes,
-        table,
+        entrypoint,
         sets,
     );
     let u = tell(h.state, h.before, errors, events, notes);
@@ -308,16 +307,16 @@ pub fn items(
     errors: &mut [u32],
     scratch: &mut [u64],
     notes: &mut [usize; 69],
-    table: &[u32; 288],
+    entrypoint: bool,
     sets: &[[u64; 2]; 56],
 ) -> Desk
     requires { ⌜
         Rows (source (now src) (now ids) (now ends))
         × Wf (source (now src) (now ids) (now ends)) (bufs (now events) (now errors) (now scratch)) (whole (d .state) (now notes))
         × Settled (whole (d .state) (now notes))
-        × Lends (now table) (now sets) ⌝ }
+        × Tabled (now sets) ⌝ }
     ensures { λ r. ⌜
-        Goes (depth, allowed (now (table .entry))) 1 (length (now (ids .entry)))
+        Goes (depth, entrypoint) 1 (length (now (ids .entry)))
         (source (now (src .entry)) (now (ids .entry)) (now (ends .entry)))
         (tally d (now (notes .entry))) (tally r (now (notes .exit)))
         (bufs (now (events .entry)) (now (errors .entry)) (now (scratch .entry)))
@@ -339,7 +338,7 @@ pub fn items(
             errors,
             scratch,
             notes,
-            table,
+            entrypoint,
             sets,
         );
         n -= 1;

@@ -1,4 +1,4 @@
 // Which room was exceeded, as a state holds it: the refusal's number, 0 before.
-pub const EVENTS: u8 = 7;
+pub const EVENTS: u16 = 7;
 
-pub const ERRORS: u8 = 8;
+pub const ERRORS: u16 = 8;

@@ -1,8 +1,8 @@
 // How a state stands: in good order, failed, out of fuel, too deep.
-pub const OK: u8 = 0;
+pub const OK: u16 = 0;
 
-pub const FAILED: u8 = 1;
+pub const FAILED: u16 = 1;
 
-pub const SPENT: u8 = 2;
+pub const SPENT: u16 = 2;
 
-pub const DEEP: u8 = 3;
+pub const DEEP: u16 = 3;

@@ -177,7 +177,7 @@ impl State {
 }
 
 // The kind of a node's events: its own, or ERROR where it did not go well.
-fn shown(kind: u32, mode: u8) -> u32
+fn shown(kind: u32, mode: u16) -> u32
     ensures { λ r. ⌜ r ≡ ifb (eqb mode 0) kind k.ERROR ⌝ }
 {
     if mode == mode::OK {

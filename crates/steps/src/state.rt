@@ -31,9 +31,9 @@ pub struct State {
     pub evcap: usize,
     pub fuel: u32,
     // In good order, failed, out of fuel or too deep (shapes::mode).
-    pub mode: u8,
+    pub mode: u16,
     // 7 or 8 once a room was exceeded, 0 before.
-    pub full: u8,
+    pub full: u16,
 }
 
 // A place to come back to.

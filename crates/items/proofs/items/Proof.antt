@@ -1,11 +1,10 @@
--- Written from tools/answers/items/items.py, digest 3e73259c3d6b.
+-- Written from tools/answers/items/items.py, digest 3b8e7a0ae992.
 -- `items::items` meets its contract. The loop's invariant: as many items were read as were counted. Assumes nothing.
 use Prim.Native.Nat.{_+_, _-_, _≤_}
 use mathlib.Core.Path.{_≡_, refl, sym, _∙_}
 use native.Mathlib.Omega.{arith}
 use lib.ListN.{length}
 use Rattle.notes.specs.Means.{source, bufs}
-use Rattle.grammar.specs.Table.{allowed}
 use Rattle.items.specs.Items.{tally, Goes}
 use Rattle.items.proofs.Between.{items-none, idles, goes-as, goes-then}
 use borrow.Author.Needs.{needs}
@@ -17,10 +16,10 @@ use Rattle.items.proofs.item.Reads as item-reads
 use Rattle.items.proofs.over.Reads as over-reads
 
 abbrev Inv-loop : tie.InvT-loop
-Inv-loop d₀ depth src ids ends events₀ errors₀ scratch₀ notes₀ table sets n₀ d events errors scratch notes n = Goes (depth, allowed table) 1 (length ids - n) (source src ids ends) (tally d₀ notes₀) (tally d notes) (bufs events₀ errors₀ scratch₀) (bufs events errors scratch) × (n ≤ length ids) × (length events ≡ length events₀) × (length errors ≡ length errors₀) × (length scratch ≡ length scratch₀)
+Inv-loop d₀ depth src ids ends events₀ errors₀ scratch₀ notes₀ entrypoint sets n₀ d events errors scratch notes n = Goes (depth, entrypoint) 1 (length ids - n) (source src ids ends) (tally d₀ notes₀) (tally d notes) (bufs events₀ errors₀ scratch₀) (bufs events errors scratch) × (n ≤ length ids) × (length events ≡ length events₀) × (length errors ≡ length errors₀) × (length scratch ≡ length scratch₀)
 
 abbrev μ-loop : tie.MeasureT-loop
-μ-loop d₀ depth src ids ends events₀ errors₀ scratch₀ notes₀ table sets n₀ d events errors scratch notes n = n
+μ-loop d₀ depth src ids ends events₀ errors₀ scratch₀ notes₀ entrypoint sets n₀ d events errors scratch notes n = n
 
 loop-holds : tie.Need-loop-holds Inv-loop μ-loop
 loop-holds c = (goes-as 0 (length (c .before .before .before .before .before .before .args .ids .now) - length (c .before .before .before .before .before .before .args .ids .now)) (omega arith) (items-none 1 (c .before .before .before .before .before .before .pre .1) (c .before .before .before .before .before .before .pre .2)), omega arith, refl, refl, refl)

@@ -1,28 +1,21 @@
--- Written from tools/answers/desk/items_by.py, digest 691eb8ca732b.
+-- Written from tools/answers/desk/items_by.py, digest f5d872ab2762.
 -- The items are read by the limits, and the sets' words are those that are lent.
-use mathlib.Core.Path.{ap}
-use mathlib.Core.Bool.{Bool}
-use Rattle.desk.proofs.Framing.{goes-by}
 use borrow.Author.Needs.{needs}
 use Rattle.desk.proofs.read.items_by.Statement.{statement}
 use Rattle.desk.proofs.read.items_by.Tie as tie
 use Rattle.desk.proofs.read.items_by.Reads as reads
 use Rattle.desk.proofs.read.items_by.Lts as lts
-use Rattle.desk.proofs.read.lines_by.Reads as lines-by-reads
 use Rattle.desk.proofs.read.set_words.Reads as set-words-reads
 use Rattle.items.proofs.items.Reads as items-reads
 
 cast-depth : tie.Need-cast-depth
 cast-depth c = search needs
 
-lines-by-requires : tie.Need-lines-by-requires
-lines-by-requires c κs = search needs
-
 set-words-requires : tie.Need-set-words-requires
 set-words-requires c κs = search needs
 
 items-requires : tie.Need-items-requires
-items-requires c κs = (c .before .before .before .before .before .before .before .before .before .before .before .before .before .before .before .pre .0, c .before .before .before .before .before .before .before .before .before .before .before .before .before .before .before .pre .1, c .before .before .before .before .before .before .before .before .before .before .before .before .before .before .before .pre .2, (c .before .before .before .before .before .before .before .lines-by .ensures .0, c .before .before .before .before .before .before .set-words .ensures))
+items-requires c κs = (c .before .before .before .before .before .before .before .before .before .before .before .before .before .pre .0, c .before .before .before .before .before .before .before .before .before .before .before .before .before .pre .1, c .before .before .before .before .before .before .before .before .before .before .before .before .before .pre .2, c .before .before .before .before .before .set-words .ensures)
 
 same-length : tie.Need-same-length
 same-length c = search needs
@@ -34,14 +27,13 @@ same-length-3 : tie.Need-same-length-3
 same-length-3 c = search needs
 
 returns : tie.Need-returns
-returns c = goes-by (ap (λ (e : Bool). (c .before .before .before .before .before .before .before .before .before .before .before .before .before .before .before .before .before .before .before .before .before .before .args .limits .depth, e)) (c .before .before .before .before .before .before .before .before .before .before .before .before .before .before .lines-by .ensures .1)) (c .before .before .before .before .before .before .items .ensures)
+returns c = c .before .before .before .before .before .before .items .ensures
 
 pub items-by-spec : {M : Type 1} → statement M
 items-by-spec =
     tie.close
     (tie.spec
     cast-depth
-    lines-by-requires
     set-words-requires
     items-requires
     same-length

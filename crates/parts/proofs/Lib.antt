@@ -1,0 +1,3 @@
+pub mod Exec
+pub mod Lines
+pub mod Known
