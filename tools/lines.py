@@ -10,8 +10,8 @@ import textwrap
 from pathlib import Path
 
 ROOT = Path(__file__).resolve().parent.parent
-PARTS = tuple(f"crates/{crate}/specs/Parts.antt" for crate in ("parts", "expr", "patterns", "grammar"))
-FILES = ("crates/parts/src/tuples.rt", "crates/expr/src/lib.rt", "crates/patterns/src/hex.rt", "crates/patterns/src/patterns.rt", "crates/grammar/src/rules.rt")
+PARTS = tuple(f"crates/{crate}/specs/Parts.antt" for crate in ("parts", "expr", "patterns", "labels", "grammar"))
+FILES = tuple(f"crates/{crate}/src/{file}.rt" for crate, file in (("parts", "tuples"), ("expr", "lib"), ("patterns", "hex"), ("patterns", "patterns"), ("labels", "lib"), ("statements", "lib"), ("grammar", "rules")))
 
 
 def text_of(path):

@@ -492,7 +492,7 @@ def module(crate, name, parts, more=None, above=None, but=()):
     """The answers of all functions of a module."""
     unfold = "grammar kind namesOf"
     return {
-        f: {"WHERE": f"{name}/{f}", "USES": uses("By its shape.", crate, parts), "ANS": answers(crate, name, f, unfold, more=more, above=above)}
+        f: {"WHERE": f if name == "lib" else f"{name}/{f}", "USES": uses("By its shape.", crate, parts), "ANS": answers(crate, name, f, unfold, more=more, above=above)}
         for f in functions(crate, name) if f not in but
     }
 

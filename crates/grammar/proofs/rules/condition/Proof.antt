@@ -1,4 +1,4 @@
--- Written from tools/answers/grammar/rules.py, digest 2b4a7f5999b8.
+-- Written from tools/answers/grammar/rules.py, digest 818a6a9707b1.
 -- By its shape.
 use borrow.Author.Needs.{needs}
 use native.Mathlib.Omega.{arith}
@@ -20,7 +20,7 @@ use Rattle.notes.proofs.Sticky.{sticky-exec}
 use Rattle.steps.specs.Steps.{whole}
 use Rattle.steps.proofs.Branch as branch
 use Rattle.parts.specs.Reads.{reads}
-use Rattle.grammar.specs.Parts.{head, sections, any-rule-mods, tags, idents, more-idents, metas, meta-defs, more-metas, meta-value, patterns, condition, boolean}
+use Rattle.grammar.specs.Parts.{head, sections, patterns, condition, boolean}
 use Rattle.parts.proofs.Exec.{begins, closes, makes, makes-none}
 use Rattle.parts.proofs.Lines.{from, here, plus, plusE, plusB, plusP, plusT, asksE, asksS, past-then, then-past, regroups, regrouped, stops, tries, goes, else, at-last, lost-on, lost-back, waives, waived-on, waived-back, enters, passes, Turns, turns, turns-more, turns-undone, turns-over}
 use Rattle.parts.proofs.Known.{bit-in, bit-in-still, known-hit, known-through, known-failed}

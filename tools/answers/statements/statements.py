@@ -1,0 +1,4 @@
+"""The two statements."""
+from productions import module
+
+FUNCTIONS = module("statements", "lib", "")
