@@ -11,7 +11,8 @@ from pathlib import Path
 
 ROOT = Path(__file__).resolve().parent.parent
 PARTS = tuple(f"crates/{crate}/specs/Parts.antt" for crate in ("parts", "expr", "patterns", "labels", "grammar"))
-FILES = tuple(f"crates/{crate}/src/{file}.rt" for crate, file in (("parts", "tuples"), ("expr", "lib"), ("patterns", "hex"), ("patterns", "patterns"), ("labels", "lib"), ("statements", "lib"), ("grammar", "rules")))
+MODULES = ("parts/src/tuples", "expr/src/lib", "patterns/src/hex", "patterns/src/patterns", "labels/src/lib", "statements/src/lib", "grammar/src/rules")
+FILES = tuple(f"crates/{module}.rt" for module in MODULES)
 
 
 def text_of(path):
