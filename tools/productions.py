@@ -64,7 +64,7 @@ class Walk:
         self.counts, self.needs, self.answers = {}, {}, {}
         self.touched = []
         start = "(whole ({args} .s) ({args} .notes .now))"
-        self.D = f"(from {X} {start} ({{args}} .events .now) ({{args}} .errors .now) ({{args}} .scratch .now) {self.wf})"
+        self.D = f"(from {X} {start} ({{args}} .ev .now) ({{args}} .er .now) ({{args}} .sc .now) {self.wf})"
         self.notes = "({args} .notes .now)"
         self.facts, self.T, self.held, self.regrouped = [], None, {}, False
 
