@@ -1,4 +1,6 @@
 // Zeros in what was lent.
+#![tactic(auto)]
+
 ghost use Rattle.std.specs.Prelude.{◌≡◌, length, replicate};
 
 pub fn clear(cells: &mut [u32])

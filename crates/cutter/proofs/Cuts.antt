@@ -1,5 +1,5 @@
 -- What a match makes of a row.
-use Prim.Native.Nat.{ℕ, ◌-◌, ◌≤◌, ◌<◌}
+use Prim.Native.Nat.{ℕ, ◌≤◌, ◌<◌}
 use mathlib.Core.Path.{◌≡◌, refl, sym, ap, ◌∙◌, subst}
 use mathlib.Core.List.{List}
 use mathlib.Core.Bool.{Bool, true, false, cond}
@@ -14,7 +14,7 @@ use lib.ListN.{length, take}
 use borrow.Author.Tests.{eq-eqb, ne_eqb}
 use Rattle.kinds.specs.Kinds as k
 use Rattle.tokens.specs.Glyph.{glyph}
-use Rattle.tokens.specs.Expr.{Match, Tokens, longest}
+use Rattle.tokens.specs.Expr.{Tokens, longest}
 use Rattle.tokens.specs.Tokens as t
 use Rattle.cutter.specs.Rows.{Row, keyword, next, strange_by, strange, normal_by, normal_row, hex_by, hex_row, jump_by, jump_row, row, onwards}
 use Rattle.cutter.specs.declared.place.Place.{Place}

@@ -1,4 +1,6 @@
 // Cuts rule text into rows (request (v)): the tokenizer's three modes, by a table of classes and a table of states.
+#![tactic(auto)]
+
 ghost use Rattle.std.specs.Prelude.{◌≡◌, ◌||◌, ℕ, ltb};
 ghost use Rattle.cutter.specs.Rows.{cut, returning};
 

@@ -10,7 +10,7 @@ use tokens::runner::{Runner, covered_at, follow, renewed};
 
 // The last string, regexp and block comment that failed in normal mode, and the last comment in hex mode: text such as `/* /* /* ..` would otherwise be
 // read to its end again from each place that begins one. They stand at the byte `from` of the source.
-#[derive(Drop)]
+#[derive(Clone, Copy)]
 pub struct Memo {
     pub quote: Runner,
     pub slash: Runner,

@@ -8,7 +8,7 @@ use tokens::matcher::{HEX, JUMP, NORMAL};
 
 // Where the cutting stands: how much of a pattern identifier, an equals sign and an opening brace was just seen, or in which mode it is; or, `Unclosed`, that
 // normal mode cuts within a hex pattern whose closing brace has not come.
-#[derive(Drop)]
+#[derive(Clone, Copy)]
 pub enum Place {
     Elsewhere,
     Named,

@@ -1,5 +1,5 @@
 -- While no error has been chosen, the reader and the PEG agree; and what the cache holds fails in the PEG.
-use Prim.Native.Nat.{ℕ, zero, suc, ◌+◌, ◌<◌, ◌-◌}
+use Prim.Native.Nat.{ℕ, zero, suc, ◌<◌}
 use mathlib.Core.Path.{◌≡◌, refl, ap, sym, ◌∙◌, subst}
 use mathlib.Core.Logic.{◌⊎◌, inl, inr}
 use mathlib.Core.List.{List, [], ◌∷◌, ◌++◌, map}
@@ -10,7 +10,7 @@ use lib.ListN.{length, length-append}
 use native.Mathlib.Omega.{arith}
 use Rattle.kinds.specs.Kinds as kinds
 use Rattle.kinds.specs.Sets.{id_of, pick}
-use Rattle.definition.specs.Prog.{Production, Prog, eat, unless, ifnext, opt, many, then, ◌⨟◌, ◌/◌, last, recover, node, memo}
+use Rattle.definition.specs.Prog.{Production, Prog, eat, unless, ifnext, opt, many, then, ◌⨟◌, ◌⫽◌, last, recover, node, memo}
 use Rattle.definition.specs.Grammar.{grammar, kind}
 use Rattle.definition.specs.Run.{State, Reader, Mode, ok, failed, stopped, Stop, spent, deep, Choice, wanted, unwanted, Next, end, other, hit, next, sought, skip, trivia, turn, take, back, expected, unexpected, further, furthest, join, choose, decide, halted, charge, begin, finish, if_ok, fails, eat_row, refuse_row, branch, or_else, go_on, loop, known, remember, memo_row, nodes, first_names, swallow, recovered, recovery, exec, run}
 use Rattle.definition.specs.Ford.{strip, Res}
@@ -30,7 +30,7 @@ loose (opt p) = false
 loose (many p) = false
 loose (then p) = loose p
 loose (p ⨟ q) = loose q || (loose p && not (taking q))
-loose (p / q) = false
+loose (p ⫽ q) = false
 loose (last p) = false
 loose (recover S) = true
 loose (node a) = eqb (kind a) kinds.CONDITION_BLK
@@ -45,7 +45,7 @@ sound (opt p) = not (loose p) && sound p
 sound (many p) = (not (loose p) && taking p) && sound p
 sound (then p) = sound p
 sound (p ⨟ q) = sound p && sound q
-sound (p / q) = (not (loose p) && not (loose q)) && (sound p && sound q)
+sound (p ⫽ q) = (not (loose p) && not (loose q)) && (sound p && sound q)
 sound (last p) = not (loose p) && sound p
 sound (recover S) = true
 sound (node a) = true
@@ -291,10 +291,10 @@ module _ (E : Bool) (R : List ℕ) where
   firm p r r' n (inl d) = d
   firm p r r' n (inr x) = not_loose (loose p) n x.0
 
-  pub alt_sim : (p q : Prog) (g : Reader) → T (not (loose p)) → T (not (loose q)) → Good q g → ((s : State) → Grown s (g s)) → (s : State) → Inv s → (t : State) → (Fine t → OkSim p s t) → Fine (or_else g s t) → OkSim (p / q) s (or_else g s t)
+  pub alt_sim : (p q : Prog) (g : Reader) → T (not (loose p)) → T (not (loose q)) → Good q g → ((s : State) → Grown s (g s)) → (s : State) → Inv s → (t : State) → (Fine t → OkSim p s t) → Fine (or_else g s t) → OkSim (p ⫽ q) s (or_else g s t)
   alt_sim p q g np nq G gg s i t = go t.mode t
     where
-      go : (m : Mode) (t : State) → (Fine (turn m t) → OkSim p s (turn m t)) → Fine (or_else g s (turn m t)) → OkSim (p / q) s (or_else g s (turn m t))
+      go : (m : Mode) (t : State) → (Fine (turn m t) → OkSim p s (turn m t)) → Fine (or_else g s (turn m t)) → OkSim (p ⫽ q) s (or_else g s (turn m t))
       go ok t A h = let x = A h in (x.0, (λ e. inl (alt_yes (firm p _ _ np (x.1 e)))), λ e. not_ok e)
       go failed t A h =
           let u : State = turn ok (back s (turn failed t)) in
@@ -525,11 +525,11 @@ module _ (E : Bool) (R : List ℕ) where
         let f : Reader = exec d call p o in
         guarded (then p) _ (λ s m i h. carried p (then p) s (f (trivia s)) (λ l. l) (λ _ e. then_is e) (after p f (exec_sim p t o) s m i h))
     exec_sim (p ⨟ q) t o = seq_sim p q (exec d call p o) (exec d call q o) (exec_sim p (and_left (sound p) (sound q) t) o) (exec_sim q (and_right (sound p) (sound q) t) o) (exec_grown d call cg cs ct q o) (λ s e k. shrinks d call cg cs ct q k o s e)
-    exec_sim (p / q) t o =
+    exec_sim (p ⫽ q) t o =
         let f : Reader = exec d call p true in
         let t₁ = and_left (not (loose p) && not (loose q)) (sound p && sound q) t in
         let t₂ = and_right (not (loose p) && not (loose q)) (sound p && sound q) t in
-        guarded (p / q) _ (λ s m i h. alt_sim p q (exec d call q o) (and_left (not (loose p)) (not (loose q)) t₁) (and_right (not (loose p)) (not (loose q)) t₁) (exec_sim q (and_right (sound p) (sound q) t₂) o) (exec_grown d call cg cs ct q o) s i (f (trivia s)) (after p f (exec_sim p (and_left (sound p) (sound q) t₂) true) s m i) h)
+        guarded (p ⫽ q) _ (λ s m i h. alt_sim p q (exec d call q o) (and_left (not (loose p)) (not (loose q)) t₁) (and_right (not (loose p)) (not (loose q)) t₁) (exec_sim q (and_right (sound p) (sound q) t₂) o) (exec_grown d call cg cs ct q o) s i (f (trivia s)) (after p f (exec_sim p (and_left (sound p) (sound q) t₂) true) s m i) h)
     exec_sim (last p) t o =
         let f : Reader = exec d call p true in
         guarded (last p) _ (λ s m i h. last_sim p (and_left (not (loose p)) (sound p) t) s i (f (trivia s)) (after p f (exec_sim p (and_right (not (loose p)) (sound p) t) true) s m i) h)

@@ -12,7 +12,7 @@ use Rattle.shapes.specs.Sort as Sort
 use Rattle.shapes.specs.Shapes.{EVENT, KIND, END, DEPTH, Entry, event, flat}
 use Rattle.definition.specs.Prog.{Prog}
 use Rattle.definition.specs.Grammar.{item_of}
-use Rattle.definition.specs.Run.{State, Reader, Limits, Event, opened, leaf, closed, bad, Mode, ok, failed, stopped, next, past, trivia_out, trivia, seek_out, take, turn, charge, begin, finish, nodes, exec, run, Choice, stray, Next, end, other, hit, sought, seek, errors, rule_keywords, item_keywords, read_item, stray_item, item_at, flush, again, item}
+use Rattle.definition.specs.Run.{State, Reader, Limits, Event, opened, leaf, closed, bad, Mode, ok, failed, stopped, next, past, trivia_out, trivia, seek_out, turn, charge, begin, finish, nodes, exec, run, Choice, stray, Next, end, other, hit, sought, seek, errors, rule_keywords, item_keywords, read_item, stray_item, item_at, flush, again, item}
 use Rattle.definition.specs.Render.{Source, starts_at, ends_at, span_end, bads, render, inside}
 use Rattle.definition.specs.Buffer.{height, cell, next_depth, patch, buffered, buffer}
 use Rattle.definition.specs.Open.{Nest, Adds, Open}
@@ -282,7 +282,7 @@ buffer_closes x a n m j before o b e p =
     ∙ ap₂ (λ (i : ℕ) (l : List Event). patch i a (span_end x n m) (buffer x l) ++ event Sort.END a (starts_at x n) (span_end x n m) (cell (height l - 1))) l q
 
 pub buffer_shut : (x : Source) (a n m p : ℕ) (o : List Event) → Open p o → buffer x (closed a n m ∷ o) ≡ patch p a (span_end x n m) (buffer x o) ++ event Sort.END a (starts_at x n) (span_end x n m) (cell (height o - 1))
-buffer_shut x a n m p o w = buffer_closes x a n m w.row (w) (opened w.row ∷ w) o refl w.added ∙ ap (λ (i : ℕ). patch i a (span_end x n m) (buffer x o) ++ event Sort.END a (starts_at x n) (span_end x n m) (cell (height o - 1))) (sym w.place)
+buffer_shut x a n m p o w = buffer_closes x a n m w.row w.before (opened w.row ∷ w.before) o refl w.added ∙ ap (λ (i : ℕ). patch i a (span_end x n m) (buffer x o) ++ event Sort.END a (starts_at x n) (span_end x n m) (cell (height o - 1))) (sym w.place)
 
 -- a body that adds leaves its node's opening open
 pub begun_open : (d p : ℕ) (s : State) (b : List Event) → p ≡ EVENT * length (begin d s).out → Adds (begin d s).out b → Open p b
@@ -318,7 +318,7 @@ module _ (x : Source) (a : List Event) where
 -- an open node's depth stands in its begin event
 pub begin_depth : (x : Source) (l : List ℕ) (p : ℕ) (o : List Event) → Open p o → lib.ListN.take (EVENT * length o) l ≡ buffer x o → get_or l (p - EVENT + DEPTH) 0 ≡ cell (height o - 1)
 begin_depth x l p o w t =
-    let before : List Event = w in
+    let before : List Event = w.before in
     let b : List Event = opened w.row ∷ before in
     let e : height o ≡ suc (height before) = ap height (sym w.added.joins) ∙ height_nest 0 w.added.new b (w.added.nest 0) ∙ omega arith in
     let n : EVENT * length b ≤ EVENT * length o = omega (arith, ap length w.added.joins, length-append w.added.new b) in

@@ -10,7 +10,7 @@ use lib.ListN.{length}
 use native.Mathlib.Omega.{arith}
 use Rattle.kinds.specs.Kinds as kinds
 use Rattle.kinds.specs.Sets.{id_of, pick}
-use Rattle.definition.specs.Prog.{Production, CONDITION_BLK, FOR_EXPR, WITH_EXPR, Prog, eat, unless, ifnext, opt, many, then, ◌⨟◌, ◌/◌, last, recover, node, memo}
+use Rattle.definition.specs.Prog.{Production, CONDITION_BLK, FOR_EXPR, WITH_EXPR, Prog, eat, unless, ifnext, opt, many, then, ◌⨟◌, ◌⫽◌, last, recover, node, memo}
 use Rattle.definition.specs.Grammar.{grammar, kind}
 use Rattle.definition.specs.Run.{State, Reader, Mode, ok, failed, stopped, Next, end, other, hit, next, sought, skip, trivia, turn, back, begin, finish, if_ok, fails, eat_row, refuse_row, branch, or_else, go_on, loop, known, remember, memo_row, nodes, recovered, recovery, exec, run}
 use Rattle.definition.specs.Ford.{strip, Res}
@@ -37,7 +37,7 @@ plain (opt p) = plain p
 plain (many p) = plain p
 plain (then p) = plain p
 plain (p ⨟ q) = plain p && plain q
-plain (p / q) = plain p && plain q
+plain (p ⫽ q) = plain p && plain q
 plain (last p) = plain p
 plain (recover S) = false
 plain (node a) = inner a
@@ -52,7 +52,7 @@ trailing (opt p) = false
 trailing (many p) = false
 trailing (then p) = trailing p
 trailing (p ⨟ q) = trailing q
-trailing (p / q) = trailing q
+trailing (p ⫽ q) = trailing q
 trailing (last p) = false
 trailing (recover S) = true
 trailing (node a) = eqb (kind a) kinds.CONDITION_BLK
@@ -66,7 +66,7 @@ trail (opt p) = []
 trail (many p) = []
 trail (then p) = trail p
 trail (p ⨟ q) = trail q
-trail (p / q) = trail q
+trail (p ⫽ q) = trail q
 trail (last p) = []
 trail (recover S) = S
 trail (node a) = kinds.R_BRACE ∷ []
@@ -81,7 +81,7 @@ echo S (opt p) = false
 echo S (many p) = false
 echo S (then p) = false
 echo S (p ⨟ q) = false
-echo S (p / q) = false
+echo S (p ⫽ q) = false
 echo S (last p) = false
 echo S (node a) = false
 echo S (memo a) = false
@@ -95,7 +95,7 @@ fit E o (opt p) = plain p
 fit E o (many p) = plain p
 fit E o (then p) = fit E o p
 fit E o (p ⨟ q) = (fit E o p && fit E o q) && (not (trailing p) || (dies E (trail p) q || echo (trail p) q))
-fit E o (p / q) = plain p && fit E o q
+fit E o (p ⫽ q) = plain p && fit E o q
 fit E o (last p) = plain p
 fit E o (recover S) = true
 fit E o (node a) = not o || inner a
@@ -110,7 +110,7 @@ blocked (opt p) = true
 blocked (many p) = true
 blocked (then p) = true
 blocked (p ⨟ q) = blocked p && blocked q
-blocked (p / q) = true
+blocked (p ⫽ q) = true
 blocked (last p) = true
 blocked (recover S) = false
 blocked (node a) = false
@@ -129,7 +129,7 @@ low e u (opt p) = low e u p
 low e u (many p) = low e u p
 low e u (then p) = low e u p
 low e u (p ⨟ q) = low e u p && low e u q
-low e u (p / q) = low e u p && low e u q
+low e u (p ⫽ q) = low e u p && low e u q
 low e u (last p) = low e u p
 low e u (recover S) = true
 low e u (node a) = u a
@@ -438,15 +438,15 @@ module _ (E : Bool) (R : List ℕ) (takes : List ℕ → Bool) (calls : Producti
   d_branch S p f F other s e m i r = inl i.base.clear
   d_branch S p f F (hit a is) s e m i r = bad_in p (ifnext S p) (strip s.rest) (f (trivia s)) (λ x d. ifnext_hit a (strip is) (next_hit S s.rest a is e) d) (λ t. (t, refl)) (d_after p f F s m i r)
 
-  d_or_else : (p q : Prog) (g : Reader) → Doomed q g → (s t : State) → s.mode ≡ ok → Inv s → (Running t.mode → Calm t) → (Fine t → OkSim p s t) → Running (or_else g s t).mode → Calm (or_else g s t) ⊎ Bad (p / q) (strip s.rest)
+  d_or_else : (p q : Prog) (g : Reader) → Doomed q g → (s t : State) → s.mode ≡ ok → Inv s → (Running t.mode → Calm t) → (Fine t → OkSim p s t) → Running (or_else g s t).mode → Calm (or_else g s t) ⊎ Bad (p ⫽ q) (strip s.rest)
   d_or_else p q g G s t m₀ i = go t.mode t
     where
-      go : (m : Mode) (t : State) → (Running m → Calm t) → (Fine (turn m t) → OkSim p s (turn m t)) → Running (or_else g s (turn m t)).mode → Calm (or_else g s (turn m t)) ⊎ Bad (p / q) (strip s.rest)
+      go : (m : Mode) (t : State) → (Running m → Calm t) → (Fine (turn m t) → OkSim p s (turn m t)) → Running (or_else g s (turn m t)).mode → Calm (or_else g s (turn m t)) ⊎ Bad (p ⫽ q) (strip s.rest)
       go ok t A I r = inl (A tt)
       go failed t A I r =
           let x = I (tt, A tt) in
           let u : State = turn ok (back s (turn failed t)) in
-          bad_in q (p / q) (strip s.rest) (g u) (λ _ d. alt_no (x.2 refl) d) (λ t. (t, refl)) (G u refl (inv_undone s (turn failed t) m₀ i refl x.0) r)
+          bad_in q (p ⫽ q) (strip s.rest) (g u) (λ _ d. alt_no (x.2 refl) d) (λ t. (t, refl)) (G u refl (inv_undone s (turn failed t) m₀ i refl x.0) r)
       go (stopped w) t A I r = absurd r
 
   d_recover : (d : ℕ) (o : Bool) (S : List ℕ) → Doomed (recover S) (recovery d o S)
@@ -476,7 +476,7 @@ module _ (E : Bool) (R : List ℕ) (takes : List ℕ → Bool) (calls : Producti
       echoed (many p) e = absurd e
       echoed (then p) e = absurd e
       echoed (p ⨟ q) e = absurd e
-      echoed (p / q) e = absurd e
+      echoed (p ⫽ q) e = absurd e
       echoed (last p) e = absurd e
       echoed (node a) e = absurd e
       echoed (memo a) e = absurd e
@@ -581,7 +581,7 @@ module _ (E : Bool) (R : List ℕ) (takes : List ℕ → Bool) (calls : Producti
         let t₁ = and_left (sound p) (sound q) t in
         let t₂ = and_right (sound p) (sound q) t in
         q_seq p (exec d call p true) (exec d call q true) (sim p t₁ (and_left (low takes calls p) (low takes calls q) l) true) (calm_exec p t₁ (and_left (plain p) (plain q) k) (and_left (low takes calls p) (low takes calls q) l)) (calm_exec q t₂ (and_right (plain p) (plain q) k) (and_right (low takes calls p) (low takes calls q) l)) (exec_grown d call cg cs ct q true)
-    calm_exec (p / q) t k l =
+    calm_exec (p ⫽ q) t k l =
         let f : Reader = exec d call p true in
         let t₂ = and_right (not (loose p) && not (loose q)) (sound p && sound q) t in
         let tp = and_left (sound p) (sound q) t₂ in
@@ -608,11 +608,11 @@ module _ (E : Bool) (R : List ℕ) (takes : List ℕ → Bool) (calls : Producti
     doom_exec (p ⨟ q) o t k l =
         let k₁ = and_left (fit E o p && fit E o q) (not (trailing p) || (dies E (trail p) q || echo (trail p) q)) k in
         d_seq p q (exec d call p o) (exec d call q o) (and_right (fit E o p && fit E o q) (not (trailing p) || (dies E (trail p) q || echo (trail p) q)) k) (sim p (and_left (sound p) (sound q) t) (and_left (low takes calls p) (low takes calls q) l) o) (doom_exec p o (and_left (sound p) (sound q) t) (and_left (fit E o p) (fit E o q) k₁) (and_left (low takes calls p) (low takes calls q) l)) (doom_exec q o (and_right (sound p) (sound q) t) (and_right (fit E o p) (fit E o q) k₁) (and_right (low takes calls p) (low takes calls q) l)) (exec_grown d call cg cs ct q o)
-    doom_exec (p / q) o t k l =
+    doom_exec (p ⫽ q) o t k l =
         let f : Reader = exec d call p true in
         let t₂ = and_right (not (loose p) && not (loose q)) (sound p && sound q) t in
         let tp = and_left (sound p) (sound q) t₂ in
-        d_guard (p / q) (λ s. or_else (exec d call q o) s (f (trivia s))) (λ s m i r. d_or_else p q (exec d call q o) (doom_exec q o (and_right (sound p) (sound q) t₂) (and_right (plain p) (fit E o q) k) (and_right (low takes calls p) (low takes calls q) l)) s (f (trivia s)) m i (calm_exec p tp (and_left (plain p) (fit E o q) k) (and_left (low takes calls p) (low takes calls q) l) (trivia s) (inv_trivia s i)) (λ h. after p f (sim p tp (and_left (low takes calls p) (low takes calls q) l) true) s m i h) r)
+        d_guard (p ⫽ q) (λ s. or_else (exec d call q o) s (f (trivia s))) (λ s m i r. d_or_else p q (exec d call q o) (doom_exec q o (and_right (sound p) (sound q) t₂) (and_right (plain p) (fit E o q) k) (and_right (low takes calls p) (low takes calls q) l)) s (f (trivia s)) m i (calm_exec p tp (and_left (plain p) (fit E o q) k) (and_left (low takes calls p) (low takes calls q) l) (trivia s) (inv_trivia s i)) (λ h. after p f (sim p tp (and_left (low takes calls p) (low takes calls q) l) true) s m i h) r)
     doom_exec (last p) o t k l = λ s m i r. inl (calm_exec (last p) t k l s i r)
     doom_exec (recover S) o t k l = d_recover d o S
     doom_exec (node a) o t k l = node_doom o a k l
@@ -626,7 +626,7 @@ module _ (E : Bool) (R : List ℕ) (takes : List ℕ → Bool) (calls : Producti
     blocked_same (many p) o t s e = if_ok_failed _ s e
     blocked_same (then p) o t s e = if_ok_failed _ s e
     blocked_same (p ⨟ q) o t s e = ap (exec d call q o) (blocked_same p o (and_left (blocked p) (blocked q) t) s e) ∙ blocked_same q o (and_right (blocked p) (blocked q) t) s e
-    blocked_same (p / q) o t s e = if_ok_failed _ s e
+    blocked_same (p ⫽ q) o t s e = if_ok_failed _ s e
     blocked_same (last p) o t s e = if_ok_failed _ s e
     blocked_same (recover S) o t s e = absurd t
     blocked_same (node a) o t s e = absurd t

@@ -6,7 +6,7 @@ use mathlib.Core.Bool.{Bool, true, false, ◌&&◌, not}
 use mathlib.Core.Option.{Option, none, some}
 use lib.Dec.{T, eqb, eqb→eq}
 use Rattle.kinds.specs.Sets.{id_of, pick}
-use Rattle.definition.specs.Prog.{Production, Prog, eat, unless, ifnext, opt, many, then, ◌⨟◌, ◌/◌, last, recover, node, memo}
+use Rattle.definition.specs.Prog.{Production, Prog, eat, unless, ifnext, opt, many, then, ◌⨟◌, ◌⫽◌, last, recover, node, memo}
 use Rattle.definition.specs.Grammar.{grammar}
 use Rattle.definition.specs.Run.{Next, other, hit, sought}
 use Rattle.definition.specs.Ford.{Res}
@@ -73,7 +73,7 @@ fate c S (opt p) = tried (fate c S p)
 fate c S (many p) = open-ended
 fate c S (then p) = fate c S p
 fate c S (p ⨟ q) = first_of (fate c S p) (fate c S q)
-fate c S (p / q) = else_of (fate c S p) (fate c S q)
+fate c S (p ⫽ q) = else_of (fate c S p) (fate c S q)
 fate c S (last p) = fate c S p
 fate c S (recover S') = same
 fate c S (node a) = c S a
@@ -124,7 +124,7 @@ module _ (E : Bool) (S r : List ℕ) (m : Miss (sought S r)) where
   meets_seq p q same open-ended d e = tt
   meets_seq p q open-ended y d e = tt
 
-  meets_alt : (p q : Prog) (x y : Fate) → Meets E x p r → Meets E y q r → Meets E (else_of x y) (p / q) r
+  meets_alt : (p q : Prog) (x y : Fate) → Meets E x p r → Meets E y q r → Meets E (else_of x y) (p ⫽ q) r
   meets_alt p q dead dead d e = alt_no d e
   meets_alt p q dead same d e = alt_no d e
   meets_alt p q dead open-ended d e = tt
@@ -139,7 +139,7 @@ module _ (E : Bool) (S r : List ℕ) (m : Miss (sought S r)) where
   fate_meets c h (many p) = tt
   fate_meets c h (then p) = meets_then p (fate c S p) (fate_meets c h p)
   fate_meets c h (p ⨟ q) = meets_seq p q (fate c S p) (fate c S q) (fate_meets c h p) (fate_meets c h q)
-  fate_meets c h (p / q) = meets_alt p q (fate c S p) (fate c S q) (fate_meets c h p) (fate_meets c h q)
+  fate_meets c h (p ⫽ q) = meets_alt p q (fate c S p) (fate c S q) (fate_meets c h p) (fate_meets c h q)
   fate_meets c h (last p) = meets_last p (fate c S p) (fate_meets c h p)
   fate_meets c h (recover S') = recover_is
   fate_meets c h (node a) = h a

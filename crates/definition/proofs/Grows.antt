@@ -1,5 +1,5 @@
 -- What every reader does: it takes rows off the front, adds events and pending errors, never leaves a stop, and fuel does not grow.
-use Prim.Native.Nat.{ℕ, suc, ◌+◌, ◌≤◌, zero}
+use Prim.Native.Nat.{ℕ, suc, ◌≤◌, zero}
 use mathlib.Core.Path.{◌≡◌, refl, ap, sym, ◌∙◌, subst}
 use mathlib.Core.List.{List, [], ◌∷◌, ◌++◌, append_assoc, append-nil}
 use mathlib.Core.Bool.{Bool, true, false}

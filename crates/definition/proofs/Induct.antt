@@ -5,7 +5,7 @@ use mathlib.Core.List.{List, map}
 use mathlib.Core.Bool.{Bool, true, ◌&&◌}
 use lib.Dec.{T}
 use Rattle.kinds.specs.Sets.{id_of}
-use Rattle.definition.specs.Prog.{Production, Prog, eat, unless, ifnext, opt, many, then, ◌⨟◌, ◌/◌, last, recover, node, memo}
+use Rattle.definition.specs.Prog.{Production, Prog, eat, unless, ifnext, opt, many, then, ◌⨟◌, ◌⫽◌, last, recover, node, memo}
 use Rattle.definition.specs.Grammar.{grammar, kind}
 use Rattle.definition.specs.Run.{Reader, eats, refuses, fails, thens, branches, alts, opts, loops, memos, nodes, recovery, exec, run}
 use Rattle.definition.proofs.Every.{and_left, and_right, both}
@@ -34,7 +34,7 @@ enters c (opt p) = enters c p
 enters c (many p) = enters c p
 enters c (then p) = enters c p
 enters c (p ⨟ q) = enters c p && enters c q
-enters c (p / q) = enters c p && enters c q
+enters c (p ⫽ q) = enters c p && enters c q
 enters c (last p) = enters c p
 enters c (recover S) = c (map id_of S)
 enters c (node a) = true
@@ -71,7 +71,7 @@ module _ {c : List ℕ → Bool} {G : Reader → Type 0} (K : JoinedIf c G) wher
   exec_joined_if d call g (p ⨟ q) t o =
       K.at_seq (exec d call p o) (exec d call q o) (exec_joined_if d call g p (and_left (enters c p) (enters c q) t) o)
       (exec_joined_if d call g q (and_right (enters c p) (enters c q) t) o)
-  exec_joined_if d call g (p / q) t o =
+  exec_joined_if d call g (p ⫽ q) t o =
       K.at_alt (exec d call p true) (exec d call q o) (exec_joined_if d call g p (and_left (enters c p) (enters c q) t) true)
       (exec_joined_if d call g q (and_right (enters c p) (enters c q) t) o)
   exec_joined_if d call g (last p) t o = K.at_alt (exec d call p true) fails (exec_joined_if d call g p t true) K.at_fail
@@ -96,7 +96,7 @@ any_enter (opt p) = any_enter p
 any_enter (many p) = any_enter p
 any_enter (then p) = any_enter p
 any_enter (p ⨟ q) = both (enters (λ N. true) p) (enters (λ N. true) q) (any_enter p) (any_enter q)
-any_enter (p / q) = both (enters (λ N. true) p) (enters (λ N. true) q) (any_enter p) (any_enter q)
+any_enter (p ⫽ q) = both (enters (λ N. true) p) (enters (λ N. true) q) (any_enter p) (any_enter q)
 any_enter (last p) = any_enter p
 any_enter (recover S) = tt
 any_enter (node a) = tt

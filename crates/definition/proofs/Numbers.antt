@@ -191,7 +191,7 @@ numbers_later L r f n k =
     ∙ ap (λ (t : List ℕ). numbers L n 1 (start r f) ++ t)
     (numbers_enough L (length r) m (n + 1) s l (omega arith)
     ∙ ap (numbers L m (n + 1)) (rebuilt s b)
-    ∙ numbers_h L 0 s.out s.begun (b) m (n + 1) (start s.rest s.fuel) (any_live s.out s.begun (b) (read L s.rest s.fuel).mode)
+    ∙ numbers_h L 0 s.out s.begun b.before m (n + 1) (start s.rest s.fuel) (any_live s.out s.begun b.before (read L s.rest s.fuel).mode)
     ∙ numbers_shift L n m 1 (start s.rest s.fuel))
 
 -- and of more fuel, where the reading finishes

@@ -8,7 +8,7 @@ use mathlib.Core.Option.{Option, none, some}
 use lib.Dec.{T}
 use Rattle.kinds.specs.Kinds as kinds
 use Rattle.kinds.specs.Sets.{id_of, pick}
-use Rattle.definition.specs.Prog.{Production, FOR_EXPR, WITH_EXPR, Prog, eat, unless, ifnext, opt, many, then, ◌⨟◌, ◌/◌, last, recover, node, memo}
+use Rattle.definition.specs.Prog.{Production, FOR_EXPR, WITH_EXPR, Prog, eat, unless, ifnext, opt, many, then, ◌⨟◌, ◌⫽◌, last, recover, node, memo}
 use Rattle.definition.specs.Grammar.{grammar, kind}
 use Rattle.definition.specs.Run.{Next, end, other, hit, sought}
 use Rattle.definition.specs.Ford.{Res}
@@ -30,7 +30,7 @@ bare w (opt p) = bare w p
 bare w (many p) = bare w p
 bare w (then p) = bare w p
 bare w (p ⨟ q) = bare w p && bare w q
-bare w (p / q) = bare w p && bare w q
+bare w (p ⫽ q) = bare w p && bare w q
 bare w (last p) = bare w p
 bare w (recover S) = true
 bare w (node a) = true
@@ -134,7 +134,7 @@ for_rest (ifnext S p) = unless []
 for_rest (opt p) = unless []
 for_rest (many p) = unless []
 for_rest (then p) = unless []
-for_rest (p / q) = unless []
+for_rest (p ⫽ q) = unless []
 for_rest (last p) = unless []
 for_rest (recover S) = unless []
 for_rest (node a) = unless []

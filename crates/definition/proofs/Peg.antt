@@ -5,7 +5,7 @@ use Prim.Native.Nat.{ℕ}
 use mathlib.Core.Path.{◌≡◌}
 use mathlib.Core.List.{List}
 use mathlib.Core.Bool.{Bool}
-use Rattle.definition.specs.Prog.{Production, Prog, eat, unless, ifnext, opt, many, then, ◌⨟◌, ◌/◌, last, recover, node, memo}
+use Rattle.definition.specs.Prog.{Production, Prog, eat, unless, ifnext, opt, many, then, ◌⨟◌, ◌⫽◌, last, recover, node, memo}
 use Rattle.definition.specs.Grammar.{grammar}
 use Rattle.definition.specs.Run.{Next, end, other, hit, sought}
 use Rattle.definition.specs.Ford.{Res}
@@ -30,8 +30,8 @@ pub data Peg (E : Bool) : Prog → List ℕ → Res → Type 0 where
   then_is : {p : Prog} {r : List ℕ} {x : Res} → Peg E p r x → Peg E (then p) r x
   seq_yes : {p q : Prog} {r r' : List ℕ} {x : Res} → Peg E p r (Res.yes r') → Peg E q r' x → Peg E (p ⨟ q) r x
   seq_no : {p q : Prog} {r : List ℕ} → Peg E p r Res.no → Peg E (p ⨟ q) r Res.no
-  alt_yes : {p q : Prog} {r r' : List ℕ} → Peg E p r (Res.yes r') → Peg E (p / q) r (Res.yes r')
-  alt_no : {p q : Prog} {r : List ℕ} {x : Res} → Peg E p r Res.no → Peg E q r x → Peg E (p / q) r x
+  alt_yes : {p q : Prog} {r r' : List ℕ} → Peg E p r (Res.yes r') → Peg E (p ⫽ q) r (Res.yes r')
+  alt_no : {p q : Prog} {r : List ℕ} {x : Res} → Peg E p r Res.no → Peg E q r x → Peg E (p ⫽ q) r x
   last_is : {p : Prog} {r : List ℕ} {x : Res} → Peg E p r x → Peg E (last p) r x
   recover_is : {S r : List ℕ} → Peg E (recover S) r (Res.yes r)
   node_is : {a : Production} {r : List ℕ} {x : Res} → Peg E (grammar E a) r x → Peg E (node a) r x

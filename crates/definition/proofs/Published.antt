@@ -9,7 +9,7 @@ use lib.Dec.{eqb, eqb→eq, eqb_refl, T}
 use native.Mathlib.Nat.{le_refl}
 use native.Mathlib.Omega.{arith}
 use Rattle.kinds.specs.Sets.{id_of, pick}
-use Rattle.definition.specs.Prog.{Production, RULE_DECL, IMPORT_STMT, INCLUDE_STMT, Prog, eat, unless, ifnext, opt, many, then, ◌⨟◌, ◌/◌, last, recover, node, memo}
+use Rattle.definition.specs.Prog.{Production, RULE_DECL, IMPORT_STMT, INCLUDE_STMT, Prog, eat, unless, ifnext, opt, many, then, ◌⨟◌, ◌⫽◌, last, recover, node, memo}
 use Rattle.definition.specs.Grammar.{grammar}
 use Rattle.definition.specs.Run.{Next, end, other, hit, sought, item_keywords}
 use Rattle.definition.proofs.Peg.{Miss, Peg, eat_yes, eat_no, unless_yes, unless_no, ifnext_hit, ifnext_miss, opt_yes, opt_no, many_yes, many_no, then_is, seq_yes, seq_no, alt_yes, alt_no, last_is, recover_is, node_is, memo_is}
@@ -242,10 +242,10 @@ step E N H (p ⨟ q) r n x l d = by (inv_seq E d)
     by : (Failed E (ford p) r n × (x ≡ Res.no)) ⊎ Both E (ford p) (ford q) r n x → Peg E (p ⨟ q) r x
     by (inl z) = subst (Peg E (p ⨟ q) r) (sym z.1) (seq_no (H p r z.0.m Res.no (omega (arith, l, z.0.less)) z.0.part))
     by (inr z) = seq_yes (H p r z.first.m (Res.yes z.first.to) (omega (arith, l, z.first.less)) z.first.part) (H q z.first.to z.m x (omega (arith, l, z.less)) z.second)
-step E N H (p / q) r n x l d = by (inv_choice E d)
+step E N H (p ⫽ q) r n x l d = by (inv_choice E d)
   where
-    by : ((z : Went E (ford p) r n) × (x ≡ Res.yes z.to)) ⊎ Else E (ford p) (ford q) r n x → Peg E (p / q) r x
-    by (inl z) = subst (Peg E (p / q) r) (sym z.1) (alt_yes (H p r z.0.m (Res.yes z.0.to) (omega (arith, l, z.0.less)) z.0.part))
+    by : ((z : Went E (ford p) r n) × (x ≡ Res.yes z.to)) ⊎ Else E (ford p) (ford q) r n x → Peg E (p ⫽ q) r x
+    by (inl z) = subst (Peg E (p ⫽ q) r) (sym z.1) (alt_yes (H p r z.0.m (Res.yes z.0.to) (omega (arith, l, z.0.less)) z.0.part))
     by (inr z) = alt_no (H p r z.first.m Res.no (omega (arith, l, z.first.less)) z.first.part) (H q r z.m x (omega (arith, l, z.less)) z.second)
 step E N H (last p) r n x l d = last_is (step E N H p r n x l d)
 step E N H (recover S) r n x l d = subst (Peg E (recover S) r) (sym (inv_empty E d)) recover_is
@@ -265,7 +265,7 @@ peg_is_ford p r x = ((λ g. to_ford g), λ z. from_ford p z.1)
 
 -- an item, in the module's words
 abbrev pub an_item : Prog
-an_item = node RULE_DECL / node IMPORT_STMT / last (node INCLUDE_STMT)
+an_item = node RULE_DECL ⫽ node IMPORT_STMT ⫽ last (node INCLUDE_STMT)
 
 pub item_dies : (E : Bool) → T (dies E item_keywords an_item)
 unfolding grammar id_of

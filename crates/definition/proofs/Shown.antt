@@ -209,6 +209,6 @@ module _ (pre a e : List ℕ) (B : Before pre a e) (y : Source) where
       let s : State = items L n (start x.ids f) in
       let v : State = read L y.ids s.fuel in
       let d = damage_stays L x.ids f n r in
-      let z : read L x.ids f ≡ h 0 s.out s.begun d.0 v = d.1 ∙ ap (λ (l : List ℕ). h 0 s.out s.begun d.0 (read L l s.fuel)) q in
+      let z : read L x.ids f ≡ h 0 s.out s.begun d.0.before v = d.1 ∙ ap (λ (l : List ℕ). h 0 s.out s.begun d.0.before (read L l s.fuel)) q in
       let i = read_tidy L y.ids s.fuel in
       (ap (λ (u : State). u.mode) z, ap (λ (u : State). u.rest) z, ap (λ (u : State). u.fuel) z ∙ add-zero v.fuel, ap (λ (u : State). inside x u.out) z ∙ inside_later v.out s.out i.0 i.1, ap (λ (u : State). records L x u.out []) z ∙ records_later L v.out s.out i.0)

@@ -1,5 +1,5 @@
 -- A program that takes a row whenever it ends in good order, and one that ends so only where it began so: two tests over the syntax.
-use Prim.Native.Nat.{ℕ, zero, suc, ◌+◌, ◌≤◌, ◌<◌}
+use Prim.Native.Nat.{ℕ, zero, suc, ◌≤◌, ◌<◌}
 use mathlib.Core.Path.{◌≡◌, refl, ap, sym, ◌∙◌, subst}
 use mathlib.Core.Logic.{◌⊎◌, inl, inr}
 use mathlib.Core.List.{List, [], ◌∷◌, ◌++◌}
@@ -8,7 +8,7 @@ use lib.Dec.{T}
 use lib.ListN.{length, length-append}
 use native.Mathlib.Omega.{arith}
 use Rattle.kinds.specs.Sets.{trivial}
-use Rattle.definition.specs.Prog.{Production, Prog, eat, unless, ifnext, opt, many, then, ◌⨟◌, ◌/◌, last, recover, node, memo}
+use Rattle.definition.specs.Prog.{Production, Prog, eat, unless, ifnext, opt, many, then, ◌⨟◌, ◌⫽◌, last, recover, node, memo}
 use Rattle.definition.specs.Grammar.{grammar, kind}
 use Rattle.definition.specs.Run.{State, Reader, Mode, ok, failed, stopped, Stop, spent, deep, Next, end, other, hit, next, skip, trivia, turn, back, halted, charge, begin, finish, if_ok, eat_row, or_else, fails, known, remember, memo_row, exec, run}
 use Rattle.definition.specs.Ford.{strip}
@@ -27,7 +27,7 @@ strict (opt p) = true
 strict (many p) = true
 strict (then p) = true
 strict (p ⨟ q) = strict p && strict q
-strict (p / q) = true
+strict (p ⫽ q) = true
 strict (last p) = true
 strict (recover S) = false
 strict (node a) = true
@@ -42,7 +42,7 @@ taking (opt p) = false
 taking (many p) = false
 taking (then p) = taking p
 taking (p ⨟ q) = taking q || (taking p && strict q)
-taking (p / q) = taking p && taking q
+taking (p ⫽ q) = taking p && taking q
 taking (last p) = taking p
 taking (recover S) = false
 taking (node a) = true
@@ -178,7 +178,7 @@ module _ (d : ℕ) (call : Bool → Production → Reader)
   strict_exec (many p) t o s e = (if_ok_ok _ s e).0
   strict_exec (then p) t o s e = (if_ok_ok _ s e).0
   strict_exec (p ⨟ q) t o s e = strict_exec p (and_left (strict p) (strict q) t) o s (strict_exec q (and_right (strict p) (strict q) t) o (exec d call p o s) e)
-  strict_exec (p / q) t o s e = (if_ok_ok _ s e).0
+  strict_exec (p ⫽ q) t o s e = (if_ok_ok _ s e).0
   strict_exec (last p) t o s e = (if_ok_ok _ s e).0
   strict_exec (recover S) t o s e = absurd t
   strict_exec (node a) t o s e = cs o a s e
@@ -206,13 +206,13 @@ module _ (d : ℕ) (call : Bool → Production → Reader)
       go : T (taking q) ⊎ T (taking p && strict q) → size (exec d call p o s) ≤ size s → size (exec d call (p ⨟ q) o s) ≤ size (exec d call p o s) → (T (taking q) → size (exec d call (p ⨟ q) o s) < size (exec d call p o s)) → (T (taking p) → (exec d call p o s).mode ≡ ok → size (exec d call p o s) < size s) → size (exec d call (p ⨟ q) o s) < size s
       go (inl t) a b c f = let z = c t in omega arith
       go (inr t) a b c f = let z = f (and_left (taking p) (strict q) t) (strict_exec q (and_right (taking p) (strict q) t) o (exec d call p o s) e) in omega arith
-  shrinks (p / q) t o s e =
+  shrinks (p ⫽ q) t o s e =
       let g = if_ok_ok (or_else (exec d call q o) s (exec d call p true (trivia s))) s e in
       let u : State = exec d call p true (trivia s) in
       go (or_else_ok (exec d call q o) s u (ap (λ (u : State). u.mode) (sym g.1) ∙ e)) (ap size g.1) (size_trivia s) (shrinks p (and_left (taking p) (taking q) t) true (trivia s)) (shrinks q (and_right (taking p) (taking q) t) o (turn ok (back s u))) (ap (λ (u : State). u.mode) (sym g.1) ∙ e)
     where
       go : let u : State = exec d call p true (trivia s) in let v : State = or_else (exec d call q o) s u in let w : State = exec d call q o (turn ok (back s u)) in
-          ((u.mode ≡ ok) × (v ≡ u)) ⊎ (v ≡ w) → size (exec d call (p / q) o s) ≡ size v → size (trivia s) ≡ size s → (u.mode ≡ ok → size u < size (trivia s)) → (w.mode ≡ ok → size w < size s) → v.mode ≡ ok → size (exec d call (p / q) o s) < size s
+          ((u.mode ≡ ok) × (v ≡ u)) ⊎ (v ≡ w) → size (exec d call (p ⫽ q) o s) ≡ size v → size (trivia s) ≡ size s → (u.mode ≡ ok → size u < size (trivia s)) → (w.mode ≡ ok → size w < size s) → v.mode ≡ ok → size (exec d call (p ⫽ q) o s) < size s
       go (inl x) a b c f e = let z = c x.0 in omega (arith, ap size x.1)
       go (inr x) a b c f e = let z = f (ap (λ (u : State). u.mode) (sym x) ∙ e) in omega (arith, ap size x)
   shrinks (last p) t o s e =

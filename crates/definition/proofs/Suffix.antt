@@ -129,7 +129,7 @@ pub start_between : (r : List ℕ) (f : ℕ) → Between (start r f)
 start_between r f = record { fresh = start_fresh r f; before = []; drafted = refl }
 
 -- such a state is a start, with what was written before
-pub rebuilt : (s : State) (b : Between s) → s ≡ h 0 s.out s.begun (b) (start s.rest s.fuel)
+pub rebuilt : (s : State) (b : Between s) → s ≡ h 0 s.out s.begun b.before (start s.rest s.fuel)
 rebuilt s b =
     ap (λ (m : Mode). st m s.fuel s.want s.unwant s.chosen s.cache s.drafts) b.fresh.is_ok
     ∙ ap (λ (f : ℕ). st ok f s.want s.unwant s.chosen s.cache s.drafts) (sym (add-zero s.fuel))
@@ -144,12 +144,12 @@ rebuilt s b =
 
 -- THE THEOREM, on states: wherever the reader, not stopped, stands after n items, the whole reading is the reading of the rows that are
 -- left as a file of their own with the fuel that is left, behind what was written before. Rows are named from the end: nothing else differs.
-pub damage_stays : (L : Limits) (r : List ℕ) (f n : ℕ) → let s : State = items L n (start r f) in Running s.mode → (b : Between s) × (read L r f ≡ h 0 s.out s.begun (b) (read L s.rest s.fuel))
+pub damage_stays : (L : Limits) (r : List ℕ) (f n : ℕ) → let s : State = items L n (start r f) in Running s.mode → (b : Between s) × (read L r f ≡ h 0 s.out s.begun b.before (read L s.rest s.fuel))
 damage_stays L r f n k =
     let s : State = items L n (start r f) in
     let b : Between s = items_between L n (start r f) (start_between r f) k in
     let l : length s.rest ≤ length r = end_length s.rest r (items_rows L n (start r f)) in
-    (b, enough L (length r) (n + length r) (start r f) (omega arith) (omega arith) ∙ chain L n (length r) (start r f) ∙ enough L (length r) (length s.rest) s l (omega arith) ∙ ap (items L (length s.rest)) (rebuilt s b) ∙ (items_h L 0 s.out s.begun (b) (length s.rest) (start s.rest s.fuel) (any_live s.out s.begun (b) (read L s.rest s.fuel).mode)).1)
+    (b, enough L (length r) (n + length r) (start r f) (omega arith) (omega arith) ∙ chain L n (length r) (start r f) ∙ enough L (length r) (length s.rest) s l (omega arith) ∙ ap (items L (length s.rest)) (rebuilt s b) ∙ (items_h L 0 s.out s.begun b.before (length s.rest) (start s.rest s.fuel) (any_live s.out s.begun b.before (read L s.rest s.fuel).mode)).1)
 
 -- one item more
 pub next_item : (L : Limits) (r : List ℕ) (f n i : ℕ) (is : List ℕ) → let s : State = items L n (start r f) in s.mode ≡ ok → s.rest ≡ i ∷ is → items L (n + 1) (start r f) ≡ item L s

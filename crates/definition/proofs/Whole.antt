@@ -1,6 +1,6 @@
 -- The whole reading: more fuel, or events written before, change nothing else. So the rows that are left, read as a file of their own,
 -- give what is left of the reading: rows are named from the end, so nothing else differs.
-use Prim.Native.Nat.{ℕ, zero, suc, ◌+◌}
+use Prim.Native.Nat.{ℕ, zero, suc}
 use mathlib.Core.Path.{◌≡◌, refl, ap, ◌∙◌}
 use mathlib.Core.List.{List, [], ◌∷◌, ◌++◌}
 use mathlib.Core.Bool.{false}

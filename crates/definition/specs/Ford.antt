@@ -3,7 +3,7 @@
 -- consumed). The grammar R gives each nonterminal its expression. Terminals are token ids.
 use Rattle.std.specs.Prelude.{ℕ, suc, ◌+◌, ◌≡◌, List, [], ◌∷◌, Bool, true, false}
 use Rattle.kinds.specs.Sets.{id_of, trivial}
-use Rattle.definition.specs.Prog.{Production, RULE_DECL, IMPORT_STMT, INCLUDE_STMT, Prog, eat, unless, ifnext, opt, many, then, ◌⨟◌, ◌/◌, last, recover, node, memo}
+use Rattle.definition.specs.Prog.{Production, RULE_DECL, IMPORT_STMT, INCLUDE_STMT, Prog, eat, unless, ifnext, opt, many, then, ◌⨟◌, ◌⫽◌, last, recover, node, memo}
 use Rattle.definition.specs.Grammar.{grammar}
 
 infixr 20 ◌·◌
@@ -50,7 +50,7 @@ ford (opt p) = ford p ∣ ε
 ford (many p) = star (ford p)
 ford (then p) = ford p
 ford (p ⨟ q) = ford p · ford q
-ford (p / q) = ford p ∣ ford q
+ford (p ⫽ q) = ford p ∣ ford q
 ford (last p) = ford p
 ford (recover S) = ε
 ford (node a) = nt a

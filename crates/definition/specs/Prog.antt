@@ -23,12 +23,12 @@ productions =
 -- `expect_d` with its set and the names that it enters; `not`; `if_next`; `opt`; a repetition; `then`; the last alternative of an `alt`; one step
 -- after another; an alternative before others; `recover`; a production; a `cached` production
 infixr 20 ◌⨟◌
-infixr 15 ◌/◌
+infixr 15 ◌⫽◌
 pub data Prog : Type 0 where
   eat : List ℕ → List ℕ → Prog
   unless : List ℕ → Prog
   ifnext : List ℕ → Prog → Prog
   opt many then last : Prog → Prog
-  ◌⨟◌ ◌/◌ : Prog → Prog → Prog
+  ◌⨟◌ ◌⫽◌ : Prog → Prog → Prog
   recover : List ℕ → Prog
   node memo : Production → Prog

@@ -5,7 +5,7 @@ use mathlib.Core.List.{List, [], ◌∷◌, ◌++◌, map, foldl}
 use Rattle.std.proofs.Math.Option.{Option, none, some}
 use Rattle.kinds.specs.Kinds as k
 use Rattle.kinds.specs.Sets.{id_of, kind_of, pick, trivial}
-use Rattle.definition.specs.Prog.{Production, Prog, eat, unless, ifnext, opt, many, then, ◌⨟◌, ◌/◌, last, recover, node, memo}
+use Rattle.definition.specs.Prog.{Production, Prog, eat, unless, ifnext, opt, many, then, ◌⨟◌, ◌⫽◌, last, recover, node, memo}
 use Rattle.definition.specs.Grammar.{grammar, kind, item_of}
 
 -- "Stopped (out of fuel or too deep) is never left"
@@ -355,7 +355,7 @@ exec d call (opt p) o s = opts (λ t. exec d call p true t) s
 exec d call (many p) o s = loops (λ t. exec d call p true t) s
 exec d call (then p) o s = thens (λ t. exec d call p o t) s
 exec d call (p ⨟ q) o s = exec d call q o (exec d call p o s)
-exec d call (p / q) o s = alts (λ t. exec d call p true t) (λ t. exec d call q o t) s
+exec d call (p ⫽ q) o s = alts (λ t. exec d call p true t) (λ t. exec d call q o t) s
 exec d call (last p) o s = alts (λ t. exec d call p true t) fails s
 exec d call (recover S) o s = recovery d o S s
 exec d call (node a) o s = call o a s

@@ -163,7 +163,7 @@ module _ (L : P.Limits) (x : Source) (fuel evcap R : ℕ) {d : Tally} {t : Whole
     field : {A : Type 0} (f : Whole → A) → f t ≡ f (with_ev t.ev (with_full t.full d.state))
     field f = ap f put.is
 
-    pub finished : (first rest : List ℕ) → first ≡ event Sort.BEGIN k.SOURCE_FILE 0 (length x.bytes) 0 → Finished L x fuel (record { state = t; before = d }) (first ++ (ev₂ ++ rest)) er
+    pub finished : (first rest : List ℕ) → first ≡ event Sort.BEGIN k.SOURCE_FILE 0 (length x.bytes) 0 → Finished L x fuel (record { state = t; before = d.before }) (first ++ (ev₂ ++ rest)) er
     finished first rest e =
         record {
           events = events_are first rest e;
@@ -192,7 +192,7 @@ module _ (L : P.Limits) (x : Source) (fuel : ℕ) (xs er₀ sc₀ l₀ : List �
 
   pub frames : {bounds : ℕ × Bool} {d : Tally} {t : Whole} {ev₁ ev₂ er sc : List ℕ} → sc₀ ≡ replicate (length sc₀) 0 → EVENT ≤ length xs → (E : ℕ) → length xs ≡ E → take EVENT xs ≡ event Sort.BEGIN k.SOURCE_FILE 0 (length x.bytes) 0 → reach L ≡ bounds → L.depth + 2 < 4294967296 →
       Goes bounds 1 (length x.ids) x first d (bufs (mid_of EVENT (length xs - EVENT) xs) er₀ sc₀) (bufs ev₁ er sc) → Put (event Sort.END k.SOURCE_FILE 0 (length x.bytes) 0) d.state t ev₁ ev₂ →
-      Framed L x fuel E (length er₀) (record { state = t; before = d }) (put_mid EVENT (length xs - EVENT) xs ev₂) er
+      Framed L x fuel E (length er₀) (record { state = t; before = d.before }) (put_mid EVENT (length xs - EVENT) xs ev₂) er
   frames {bounds} {d} {t} {ev₁} {ev₂} {er} {sc} none h E whole front deep low g put =
       record {
         full = exceeded L x fuel (length xs - EVENT) (length er₀) B g.wf put ∙ ap (λ (n : ℕ). over n (length er₀) (moments L x (reading L x fuel))) room;

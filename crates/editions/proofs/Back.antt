@@ -249,10 +249,10 @@ event_up n d a h u =
     ∙ ap (λ (x : Bool). cond x (becomes false (opened (sort_of (parted 9 a)) d) (a ++ (9 ∷ decimal (field (sort_of (parted 9 a)) d)))) stray) u
 
 -- the `L` line
-pub head_step : (up : Bool) → step_at up 1 0 (head_text (from up)) ≡ becomes false 0 (head_text (to up))
+pub head_step_lem : (up : Bool) → step_at up 1 0 (head_text (from up)) ≡ becomes false 0 (head_text (to up))
 unfolding decimal step_at head_step
-head_step true = refl
-head_step false = refl
+head_step_lem true = refl
+head_step_lem false = refl
 
 -- a line that ends the listing stays as it is
 pub end_stays : (up : Bool) (n d : ℕ) (l : List ℕ) → (n ≡ 1 → ⊥) → ends (sort_of (parted 9 l)) n d ≡ true → step_at up n d l ≡ becomes true 0 l

@@ -28,7 +28,7 @@ use Rattle.editions.specs.Editions.{allowed, opened, field, right, ends, stray, 
 use Rattle.editions.specs.Program.{Small, Distinct, Recorded, Event, begin, token, close, fault, Counted, Events, Could, was_read, was_refused, was_unread}
 use Rattle.editions.proofs.Texts.{is_some}
 use Rattle.editions.proofs.Steps.{result_ends, alone_ends}
-use Rattle.editions.proofs.Back.{Goes, last, more, field_decides, own_right, event_up, end_stays, head_free, head_step, remade, Buts, down_and_back}
+use Rattle.editions.proofs.Back.{Goes, last, more, field_decides, own_right, event_up, end_stays, head_free, head_step_lem, remade, Buts, down_and_back}
 
 -- WORDS
 
@@ -444,7 +444,7 @@ headed up {w} r =
       is =
           ap (λ (t : List ℕ). made_of up (head_line (from up) ++ t)) r.is
           ∙ ap (made_of up) (head_ended (from up) (ended r.all))
-          ∙ remade up (head_text (from up) ∷ r.all) (head_text (to up) ∷ r.written) (head_free (from up), r.free) (more {k = 0} (head_step up) r.goes);
+          ∙ remade up (head_text (from up) ∷ r.all) (head_text (to up) ∷ r.written) (head_free (from up), r.free) (more {k = 0} (head_step_lem up) r.goes);
       down = λ i. go up i (r.down i);
     }
   where
@@ -477,7 +477,7 @@ could_return {w} h =
     let one : ended c.written ≡ w 1 = c.down refl in
     let r = down_and_back (w 2) c.written c.is in
     record {
-      before = r;
+      before = r.before;
       after = r.after;
       written = c.written;
       down = c.is;

@@ -1,5 +1,5 @@
 -- Which line of an edition 2 listing is refused for its last field, over a listing of lines that read but for that. Assumes nothing.
-use Prim.Native.Nat.{ℕ, zero, suc, ◌+◌, ◌≤◌, ◌<◌}
+use Prim.Native.Nat.{ℕ, zero, suc, ◌≤◌, ◌<◌}
 use mathlib.Core.Path.{◌≡◌, refl, sym, ap, ap₂, subst, ◌∙◌}
 use mathlib.Core.List.{List, [], ◌∷◌, ◌++◌}
 use mathlib.Core.Bool.{Bool, true, false, cond, not, ◌&&◌}
@@ -20,7 +20,7 @@ use Rattle.editions.specs.Editions.{opened, allowed, right, ends, shed, Step, st
 use Rattle.editions.specs.Editions.{Made, bad, lines, ahead, next, opened_behind, made, made_of, ended, refused, answered, converted}
 use Rattle.editions.proofs.Marks.{parted_ended, shed_sound}
 use Rattle.editions.proofs.Back.{Goes, last, more, came, made_more, Asks, of_node, of_error, of_last, of_none, asks, no_event}
-use Rattle.editions.proofs.Back.{goes_on, event_most, field_decides, head_step, end_stays, head_free}
+use Rattle.editions.proofs.Back.{goes_on, event_most, field_decides, head_step_lem, end_stays, head_free}
 
 -- A LINE WITHOUT ITS LAST FIELD
 
@@ -165,6 +165,9 @@ some_line (more e g) i = let z : ◌≡◌ {A = ℕ} 0 1 = cc in omega arith
 
 decides : (o : ℕ → Option (List ℕ)) (n d : ℕ) (ls ts : List (List ℕ)) → (n ≡ 0 → ⊥) → Goes true (suc n) d ls ts → Fits o (suc n) ls
     → made false (suc n) d (fielded o (suc n) ls ++ ([] ∷ [])) ≡ first_wrong o (suc n) d ls
+decides o n d [] ts h g f = elim g [ ]
+decides o n d (l ∷ []) [] h g f = elim g [ ]
+decides o n d (l ∷ j ∷ ls) [] h g f = elim g [ ]
 decides o n d (l ∷ []) (t ∷ []) h (last {k = k} e) f =
     ap (λ (s : Step). next (suc n) s ([] ∷ []) (made false (suc (suc n)) (opened_behind s) ([] ∷ [])))
     (end_stays false (suc n) d l (λ i. omega arith) (was_end (suc n) d l t k (λ i. omega arith) e))
@@ -214,7 +217,7 @@ behind_head up edition other ls e h =
 pub fields_decide : (ls ts : List (List ℕ)) → AllFree 10 ls → made_of true (ended (head_text 1 ∷ ls)) ≡ lines ts → (o : ℕ → Option (List ℕ)) → Fits o 2 ls
     → (room : List ℕ) → converted false (ended (head_text 2 ∷ fielded o 2 ls)) room ≡ answered (ahead (head_text 1 ∷ []) (first_wrong o 2 0 ls)) room
 unfolding converted
-fields_decide ls ts e m o f room = go (made true 2 0 (ls ++ ([] ∷ []))) refl (sym (behind_head true 1 2 ls e (head_step true)) ∙ m)
+fields_decide ls ts e m o f room = go (made true 2 0 (ls ++ ([] ∷ []))) refl (sym (behind_head true 1 2 ls e (head_step_lem true)) ∙ m)
   where
     go : (k : Made) → made true 2 0 (ls ++ ([] ∷ [])) ≡ k → ahead (head_text 2 ∷ []) k ≡ lines ts
         → answered (made_of false (ended (head_text 2 ∷ fielded o 2 ls))) room ≡ answered (ahead (head_text 1 ∷ []) (first_wrong o 2 0 ls)) room
@@ -223,7 +226,7 @@ fields_decide ls ts e m o f room = go (made true 2 0 (ls ++ ([] ∷ []))) refl (
         let c = came true 2 0 (ls ++ ([] ∷ [])) us i in
         let g : Goes true 2 0 ls us = subst (λ (ks : List (List ℕ)). Goes true 2 0 ks us) (sym (same_before [] ls c.all c.is)) c.goes in
         ap (λ (k : Made). answered k room)
-        (behind_head false 2 1 (fielded o 2 ls) (fielded_free o 2 ls e f) (head_step false)
+        (behind_head false 2 1 (fielded o 2 ls) (fielded_free o 2 ls e f) (head_step_lem false)
         ∙ ap (ahead (head_text 1 ∷ [])) (decides o 1 0 ls us (λ i. omega arith) g f))
 
 -- the refusal is 16 with exactly that line's number, and the room is as it was lent

@@ -1,4 +1,6 @@
 // A listing of one edition as one of the other (document 02, requests (ix) and (x)): over lent text, into lent room.
+#![tactic(auto)]
+
 mod convert;
 mod fields;
 mod sort;

@@ -8,7 +8,7 @@ use crate::words::{is_decimal, is_plain, same};
 use shapes::sort;
 
 // What is written for a line: its first bytes, and behind them, where it is shown, a number as a field.
-#[derive(Drop)]
+#[derive(Clone, Copy)]
 pub struct Out {
     // Whether no line stands behind it.
     pub last: bool,

@@ -1,4 +1,6 @@
 // A list of events that was lent: whether it is one (refusal 9), and an event at a place. The merger, the list of rules and the outline stand on it.
+#![tactic(auto)]
+
 ghost use Rattle.std.specs.Prelude.{◌≡◌, ◌+◌, ◌≤◌, length};
 ghost use Rattle.shapes.specs.Shapes.{EVENT};
 ghost use Rattle.definition.specs.Merge as D;
@@ -7,7 +9,7 @@ ghost use Rattle.events.specs.Events.{entry_of, entry_at};
 use shapes::event::{DEPTH, END, EVENT, KIND, START};
 use shapes::sort;
 
-#[derive(Drop)]
+#[derive(Clone, Copy)]
 pub struct Event {
     pub sort: u32,
     pub kind: u32,

@@ -16,8 +16,8 @@ use Rattle.expr.specs.declared.Item.{Item}
 use Rattle.expr.specs.declared.Item.TheVariants.{Ident, Term, Expr, PrimaryExpr, BooleanTerm, BooleanExpr}
 
 -- a row of a set by another name of the set
-pub as_set : {S S' N : List ℕ} → S ≡ S' → {x : Source} {s r : Whole} {ev ev' : List ℕ} → Events (P.eats S N) x s r ev ev' → Events (P.eats S' N) x s r ev ev'
-as_set {N = N} e {x} {s} {r} {ev} {ev'} y = subst (λ (S : List ℕ). Events (P.eats S N) x s r ev ev') e y
+pub as_set : {S S' : List ℕ} (N : List ℕ) → S ≡ S' → {x : Source} {s r : Whole} {ev ev' : List ℕ} → Events (P.eats S N) x s r ev ev' → Events (P.eats S' N) x s r ev ev'
+as_set N e {x} {s} {r} {ev} {ev'} y = subst (λ (S : List ℕ). Events (P.eats S N) x s r ev ev') e y
 
 -- an item by which it is
 pub told : (E : Bool) (d : ℕ) {x : Source} {s r : Whole} {b b' : Bufs} {i v : Item} → i ≡ v → Did (reads E d true (item_of v)) x s r b b' → Did (reads E d true (item_of i)) x s r b b'

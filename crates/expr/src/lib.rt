@@ -1,5 +1,7 @@
 // The productions of expressions, each under its own name. They call one another: what falls is d, the nodes that may still be opened. What they are handed
 // is told in crate `parts`.
+#![tactic(auto)]
+
 ghost use Rattle.std.specs.Prelude.{◌<◌, true};
 ghost use Rattle.definition.specs.Prog.{then, node, memo};
 ghost use Rattle.definition.specs.Prog as G;
@@ -21,7 +23,7 @@ const EXPRESSION: usize = 55;
 const OPERATOR: usize = 56;
 
 // What a repetition reads behind each separator.
-#[derive(Drop)]
+#[derive(Clone, Copy)]
 pub enum Item {
     Ident,
     Term,
@@ -32,6 +34,7 @@ pub enum Item {
 }
 
 // EXPR, which is not read again where it failed before.
+#[cycle(expressions)]
 fn expr(
     mut s: State,
     d: usize,
@@ -69,6 +72,7 @@ fn expr(
 }
 
 // EXPR <- TERM ((ADD | SUB | MUL | DIV | MOD | SHL | SHR | BITWISE_AND | BITWISE_OR | BITWISE_XOR) TERM)*
+#[cycle(expressions)]
 fn sum(
     mut s: State,
     d: usize,
@@ -116,6 +120,7 @@ fn sum(
 }
 
 // TERM, which is not read again where it failed before.
+#[cycle(expressions)]
 fn term(
     mut s: State,
     d: usize,
@@ -154,6 +159,7 @@ fn term(
 
 // TERM <- (FLOAT_LIT | INTEGER_LIT | STRING_LIT | REGEXP | FILESIZE_KW | ENTRYPOINT_KW) / PATTERN_COUNT if IN_KW (IN_KW RANGE) / (PATTERN_OFFSET |
 // PATTERN_LENGTH) if L_BRACKET (L_BRACKET (EXPR R_BRACKET)) / MINUS TERM / BITWISE_NOT TERM / L_PAREN EXPR R_PAREN / PRIMARY_EXPR (DOT PRIMARY_EXPR)*
+#[cycle(expressions)]
 fn unit(
     mut s: State,
     d: usize,
@@ -185,6 +191,7 @@ fn unit(
 }
 
 // The alternatives of TERM.
+#[cycle(expressions)]
 fn lit(
     mut s: State,
     d: usize,
@@ -235,6 +242,7 @@ fn lit(
 }
 
 // MINUS TERM / BITWISE_NOT TERM / L_PAREN EXPR R_PAREN / PRIMARY_EXPR (DOT PRIMARY_EXPR)*
+#[cycle(expressions)]
 fn sign(
     mut s: State,
     d: usize,
@@ -287,6 +295,7 @@ fn sign(
 }
 
 // PRIMARY_EXPR (DOT PRIMARY_EXPR)*
+#[cycle(expressions)]
 fn dot(
     mut s: State,
     d: usize,
@@ -335,6 +344,7 @@ fn dot(
 }
 
 // if IN_KW (IN_KW RANGE)
+#[cycle(expressions)]
 fn span(
     mut s: State,
     d: usize,
@@ -365,6 +375,7 @@ fn span(
 }
 
 // if L_BRACKET (L_BRACKET (EXPR R_BRACKET))
+#[cycle(expressions)]
 fn nth(
     mut s: State,
     d: usize,
@@ -396,6 +407,7 @@ fn nth(
 }
 
 // RANGE <- L_PAREN EXPR DOT DOT EXPR R_PAREN
+#[cycle(expressions)]
 fn range(
     mut s: State,
     d: usize,
@@ -436,6 +448,7 @@ fn range(
 }
 
 // PRIMARY_EXPR <- FUNC_CALL / IDENT L_BRACKET EXPR R_BRACKET / IDENT
+#[cycle(expressions)]
 fn primary(
     mut s: State,
     d: usize,
@@ -493,6 +506,7 @@ fn primary(
 }
 
 // The alternatives of PRIMARY_EXPR.
+#[cycle(expressions)]
 fn id(
     mut s: State,
     d: usize,
@@ -542,6 +556,7 @@ fn id(
 }
 
 // FUNC_CALL <- IDENT L_PAREN (BOOLEAN_EXPR (COMMA BOOLEAN_EXPR)*)? R_PAREN
+#[cycle(expressions)]
 fn call(
     mut s: State,
     d: usize,
@@ -616,6 +631,7 @@ fn call(
 }
 
 // (BOOLEAN_EXPR (COMMA BOOLEAN_EXPR)*)?
+#[cycle(expressions)]
 fn list(
     mut s: State,
     d: usize,
@@ -665,6 +681,7 @@ fn list(
 }
 
 // BOOLEAN_EXPR <- BOOLEAN_TERM ((AND_KW | OR_KW) BOOLEAN_TERM)*
+#[cycle(expressions)]
 pub fn bool_expr(
     mut s: State,
     d: usize,
@@ -740,6 +757,7 @@ pub fn bool_expr(
 // BOOLEAN_TERM <- PATTERN_IDENT if (AT_KW | IN_KW) (AT_KW EXPR / IN_KW RANGE) / (TRUE_KW | FALSE_KW) / (NOT_KW | DEFINED_KW) BOOLEAN_TERM / FOR_EXPR /
 // OF_EXPR / WITH_EXPR / EXPR ((EQ | NE | LE | LT | GE | GT | CONTAINS_KW | ICONTAINS_KW | STARTSWITH_KW | ISTARTSWITH_KW | ENDSWITH_KW | IENDSWITH_KW |
 // IEQUALS_KW | MATCHES_KW) EXPR)* / L_PAREN BOOLEAN_EXPR R_PAREN
+#[cycle(expressions)]
 fn bool_term(
     mut s: State,
     d: usize,
@@ -797,6 +815,7 @@ fn bool_term(
 }
 
 // The alternatives of BOOLEAN_TERM.
+#[cycle(expressions)]
 fn fact(
     mut s: State,
     d: usize,
@@ -848,6 +867,7 @@ fn fact(
 
 // FOR_EXPR / OF_EXPR / WITH_EXPR / EXPR ((EQ | NE | LE | LT | GE | GT | CONTAINS_KW | ICONTAINS_KW | STARTSWITH_KW | ISTARTSWITH_KW | ENDSWITH_KW |
 // IENDSWITH_KW | IEQUALS_KW | MATCHES_KW) EXPR)* / L_PAREN BOOLEAN_EXPR R_PAREN
+#[cycle(expressions)]
 fn all(
     mut s: State,
     d: usize,
@@ -894,6 +914,7 @@ fn all(
 
 // EXPR ((EQ | NE | LE | LT | GE | GT | CONTAINS_KW | ICONTAINS_KW | STARTSWITH_KW | ISTARTSWITH_KW | ENDSWITH_KW | IENDSWITH_KW | IEQUALS_KW |
 // MATCHES_KW) EXPR)* / L_PAREN BOOLEAN_EXPR R_PAREN
+#[cycle(expressions)]
 fn test(
     mut s: State,
     d: usize,
@@ -951,6 +972,7 @@ fn test(
 }
 
 // if (AT_KW | IN_KW) (AT_KW EXPR / IN_KW RANGE)
+#[cycle(expressions)]
 fn spot(
     mut s: State,
     d: usize,
@@ -996,6 +1018,7 @@ fn spot(
 
 // FOR_EXPR <- FOR_KW QUANTIFIER (OF_KW (THEM_KW / PATTERN_IDENT_TUPLE) / IDENT (COMMA IDENT)* IN_KW ITERABLE) COLON L_PAREN (BOOLEAN_EXPR recover
 // R_PAREN) R_PAREN
+#[cycle(expressions)]
 fn for_expr(
     mut s: State,
     d: usize,
@@ -1037,6 +1060,7 @@ fn for_expr(
 }
 
 // OF_KW (THEM_KW / PATTERN_IDENT_TUPLE) / IDENT (COMMA IDENT)* IN_KW ITERABLE
+#[cycle(expressions)]
 fn over(
     mut s: State,
     d: usize,
@@ -1096,6 +1120,7 @@ fn over(
 }
 
 // COLON L_PAREN (BOOLEAN_EXPR recover R_PAREN) R_PAREN
+#[cycle(expressions)]
 fn body(
     mut s: State,
     d: usize,
@@ -1126,6 +1151,7 @@ fn body(
 }
 
 // OF_EXPR <- QUANTIFIER OF_KW ((THEM_KW / PATTERN_IDENT_TUPLE) if (AT_KW | IN_KW) (AT_KW EXPR / IN_KW RANGE) / BOOLEAN_EXPR_TUPLE !(AT_KW | IN_KW))
+#[cycle(expressions)]
 fn of_expr(
     mut s: State,
     d: usize,
@@ -1163,6 +1189,7 @@ fn of_expr(
 }
 
 // (THEM_KW / PATTERN_IDENT_TUPLE) if (AT_KW | IN_KW) (AT_KW EXPR / IN_KW RANGE) / BOOLEAN_EXPR_TUPLE !(AT_KW | IN_KW)
+#[cycle(expressions)]
 fn whom(
     mut s: State,
     d: usize,
@@ -1204,6 +1231,7 @@ fn whom(
 }
 
 // WITH_EXPR <- WITH_KW (WITH_DECLS recover (COLON | L_PAREN)) COLON L_PAREN (BOOLEAN_EXPR recover R_PAREN) R_PAREN
+#[cycle(expressions)]
 fn with_expr(
     mut s: State,
     d: usize,
@@ -1289,6 +1317,7 @@ fn with_expr(
 }
 
 // WITH_DECLS <- WITH_DECL (COMMA WITH_DECL)*
+#[cycle(expressions)]
 fn decls(
     mut s: State,
     d: usize,
@@ -1362,6 +1391,7 @@ fn decls(
 }
 
 // (COMMA WITH_DECL)*
+#[cycle(expressions)]
 fn and(
     mut s: State,
     d: usize,
@@ -1398,6 +1428,7 @@ fn and(
 }
 
 // WITH_DECL <- IDENT EQUAL EXPR
+#[cycle(expressions)]
 fn decl(
     mut s: State,
     d: usize,
@@ -1453,6 +1484,7 @@ fn decl(
 }
 
 // QUANTIFIER <- (ALL_KW | NONE_KW | ANY_KW) / TERM PERCENT / EXPR !PERCENT
+#[cycle(expressions)]
 fn quant(
     mut s: State,
     d: usize,
@@ -1510,6 +1542,7 @@ fn quant(
 }
 
 // The alternatives of QUANTIFIER.
+#[cycle(expressions)]
 fn how(
     mut s: State,
     d: usize,
@@ -1557,6 +1590,7 @@ fn how(
 }
 
 // ITERABLE <- RANGE / EXPR_TUPLE / EXPR
+#[cycle(expressions)]
 fn iter(
     mut s: State,
     d: usize,
@@ -1588,6 +1622,7 @@ fn iter(
 }
 
 // The alternatives of ITERABLE.
+#[cycle(expressions)]
 fn vals(
     mut s: State,
     d: usize,
@@ -1632,6 +1667,7 @@ fn vals(
 }
 
 // EXPR_TUPLE <- L_PAREN EXPR (COMMA EXPR)* R_PAREN
+#[cycle(expressions)]
 fn exprs(
     mut s: State,
     d: usize,
@@ -1707,6 +1743,7 @@ fn exprs(
 }
 
 // BOOLEAN_EXPR_TUPLE <- L_PAREN BOOLEAN_EXPR (COMMA BOOLEAN_EXPR)* R_PAREN
+#[cycle(expressions)]
 fn bools(
     mut s: State,
     d: usize,
@@ -1782,6 +1819,7 @@ fn bools(
 }
 
 // A repetition: a row of the set and an item behind it. Its rows are a bound that is never reached.
+#[cycle(expressions)]
 fn more(
     sep: usize,
     code: usize,
@@ -1824,6 +1862,7 @@ fn more(
 }
 
 // An item of a repetition.
+#[cycle(expressions)]
 fn each(
     item: Item,
     s: State,

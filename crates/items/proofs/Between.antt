@@ -230,7 +230,7 @@ goes_then {bounds} {x} {d} {r} {q} {b} {b₁} {b₂} o n k y z =
 -- AN ITEM
 
 -- what is to be forgotten has its place in the scratch words
-pub settle_asks : (x : Source) {bounds : ℕ × Bool} {s : Whole} {before : ℕ} {h u : Tally} {b b' : Bufs} {ev' : List ℕ} → Hands bounds x s before h b b' → ((sc : List ℕ) → Wf x (bufs b'.events b'.errors sc) h.state → Tells x h.state (h) u (bufs b'.events b'.errors sc) (bufs ev' b'.errors sc)) → 2 * u.state.far ≤ 64 * length b'.scratch
+pub settle_asks : (x : Source) {bounds : ℕ × Bool} {s : Whole} {before : ℕ} {h u : Tally} {b b' : Bufs} {ev' : List ℕ} → Hands bounds x s before h b b' → ((sc : List ℕ) → Wf x (bufs b'.events b'.errors sc) h.state → Tells x h.state h.before u (bufs b'.events b'.errors sc) (bufs ev' b'.errors sc)) → 2 * u.state.far ≤ 64 * length b'.scratch
 settle_asks x {b' = b'} H T = let v = (T b'.scratch H.wf).wf in omega (arith, v.0.0.far_in, v.1.scratch)
 
 replicate_add : (n m i : ℕ) → replicate n i ++ replicate m i ≡ replicate (n + m) i
@@ -243,8 +243,8 @@ item_wf o x b s s₁ rows low w e = subst (Wf x b) (sym e) ((w.0.0, w.0.1, recor
 
 -- d₁ is that state
 module _ {bounds : ℕ × Bool} (o : ℕ) (x : Source) (d h u r : Tally) (d₁ s : Whole) (ev ev₁ ev₂ ev₃ er er₂ sc sc₂ sc₃ : List ℕ) (rows : Rows x) (low : o ≤ length x.ids) (w : Wf x (bufs ev er sc) d.state) (st : Settled d.state) (ready : (d.state.full ≡ 0) × (d.state.mode ≡ 0) × (d.state.pos < length x.ids))
-    (starts : d₁ ≡ with_number o d.state) (T : Events P.trivia x d₁ s ev ev₁) (H : Hands bounds x s (d) h (bufs ev₁ er sc) (bufs ev₂ er₂ sc₂)) (U : Tells x h.state (h) u (bufs ev₂ er₂ sc₂) (bufs ev₃ er₂ sc₂))
-    (is : r.state ≡ settled u.state) (same : r ≡ u) (F : Forgot u.state.first u.state.far sc₂ sc₃) (long : length sc₃ ≡ length sc₂) where
+    (starts : d₁ ≡ with_number o d.state) (T : Events P.trivia x d₁ s ev ev₁) (H : Hands bounds x s d.before h (bufs ev₁ er sc) (bufs ev₂ er₂ sc₂)) (U : Tells x h.state h.before u (bufs ev₂ er₂ sc₂) (bufs ev₃ er₂ sc₂))
+    (is : r.state ≡ settled u.state) (same : r.before ≡ u.before) (F : Forgot u.state.first u.state.far sc₂ sc₃) (long : length sc₃ ≡ length sc₂) where
   z : d.state.full ≡ 0
   z = ready.0
 
@@ -302,19 +302,19 @@ module _ {bounds : ℕ × Bool} (o : ℕ) (x : Source) (d h u r : Tally) (d₁ s
     t₁ : Stands p x s (bufs ev₁ er sc) a₁
     t₁ = (passed.did er sc w₁).does p a noted
 
-    free : Free p s (d) a₁
+    free : Free p s d.before a₁
     free y = (none, B.count z, omega (arith, (B.few z good).1, rows.lines.few))
 
-    K : Handed x s (d) h (bufs ev₂ er₂ sc₂) p c
+    K : Handed x s d.before h (bufs ev₂ er₂ sc₂) p c
     K = H.does p a₁ i t₁ free
 
     abbrev q : Past
     q = since p K.records
 
-    bound : h.state.full ≡ 0 → h + length c.chosen ≤ d + (length x.ids - d.state.pos) + 1
+    bound : h.state.full ≡ 0 → h.before + length c.chosen ≤ d.before + (length x.ids - d.state.pos) + 1
     bound y = omega (arith, K.few y, passed.first, st.1)
 
-    numbered : Numbered q h.state (h) c
+    numbered : Numbered q h.state h.before c
     numbered y = (K.count y, omega (arith, bound y, (B.few z good).1, rows.lines.few))
 
     t₃ : Stands (told q x c) x u.state (bufs ev₃ er₂ sc₂) (tell c)
@@ -332,7 +332,7 @@ module _ {bounds : ℕ × Bool} (o : ℕ) (x : Source) (d h u r : Tally) (d₁ s
     new_length : length new ≡ length c.chosen
     new_length = sym (bare_length new) ∙ ap length (bare_of o (recorded L x c.chosen)) ∙ recorded_length L x c.chosen
 
-    counted : r.state.full ≡ 0 → r ≡ h + length c.chosen
+    counted : r.state.full ≡ 0 → r.before ≡ h.before + length c.chosen
     counted y = let v = U.room (was y) in omega (arith, same, U.count q c K.stands numbered (was y), K.count v, length-append K.records new, new_length)
 
     further : r.state.full ≡ 0 → r.state.mode ≡ 0 → d.state.pos < r.state.pos
@@ -391,7 +391,7 @@ module _ {bounds : ℕ × Bool} (o : ℕ) (x : Source) (d h u r : Tally) (d₁ s
               ((λ o. absurd (omega arith)), few d.state.pos f j.0 j.1 (omega arith));
         }
       where
-        few : (i : ℕ) → i < r.state.pos → (i ≡ 0 → d ≡ 0) → d ≤ i * 65536 + 1 → r ≤ d + (length x.ids - i) + 1 → r ≤ r.state.pos * 65536 + 1
+        few : (i : ℕ) → i < r.state.pos → (i ≡ 0 → d.before ≡ 0) → d.before ≤ i * 65536 + 1 → r.before ≤ d.before + (length x.ids - i) + 1 → r.before ≤ r.state.pos * 65536 + 1
         few zero f o b k = omega (arith, o refl, rows.lines.few)
         few (suc i) f o b k = omega (arith, rows.lines.few)
 

@@ -110,7 +110,7 @@ module _ (x : Source) (s s₁ : Whole) (before st en : ℕ) (ev er er₁ sc : Li
     noted_stands : Stands p x s₁ (bufs ev er₁ sc) (noted a)
     noted_stands = record { over = noted_over; means = noted_means }
 
-  pub strays : {d : Tally} {r : Whole} {ev₁ ev₂ : List ℕ} → Tells x s₁ before d (bufs ev er₁ sc) (bufs ev₁ er₁ sc) → Events junk_node x d.state r ev₁ ev₂ → Strays x s before (record { state = r; before = d }) (bufs ev er sc) (bufs ev₂ er₁ sc)
+  pub strays : {d : Tally} {r : Whole} {ev₁ ev₂ : List ℕ} → Tells x s₁ before d (bufs ev er₁ sc) (bufs ev₁ er₁ sc) → Events junk_node x d.state r ev₁ ev₂ → Strays x s before (record { state = r; before = d.before }) (bufs ev er sc) (bufs ev₂ er₁ sc)
   strays {d} {r} {ev₁} {ev₂} T J =
       let D = J.did er₁ sc T.wf in
       record {

@@ -98,7 +98,7 @@ module _ (x : Source) (s : Whole) (before : ℕ) (d : Tally) (ev ev' er sc : Lis
   q = notes (next_depth ev s.ev) before 0 (take (s.er - s.item) (drop s.item er))
 
   abbrev after : Tally
-  after = record { state = with_item s.er d.state; before = d }
+  after = record { state = with_item s.er d.state; before = d.before }
 
   module _ (p : Past) (a : P.State) (t : Stands p x s (bufs ev er sc) a) (n : Numbered p s before a) where
     abbrev out' : List Event

@@ -1,4 +1,6 @@
 // Items, one after another.
+#![tactic(auto)]
+
 ghost use Rattle.std.specs.Prelude.{◌≡◌, List, [], ℕ, ◌*◌, ◌≤◌, ◌<◌, length};
 ghost use Rattle.definition.specs.Render.{Source};
 ghost use Rattle.notes.specs.Whole.{er_of, ercap_of, far_of, first_of, item_of};

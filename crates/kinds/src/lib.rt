@@ -1,4 +1,6 @@
 // Ids, kinds and token sets.
+#![tactic(auto)]
+
 ghost use Rattle.std.specs.Prelude.{◌≡◌, [], get_or};
 ghost use Rattle.std.proofs.Math.ListN.{get_elem?};
 ghost use Rattle.kinds.specs.Sets.{is_id, trivial, id_of, kind_of, pick, ids_of, set_of};

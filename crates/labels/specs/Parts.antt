@@ -1,7 +1,7 @@
 -- Parts of the grammar's lines of modifiers, tags and meta that have a function of their own.
 use Rattle.std.specs.Prelude.{[], ◌∷◌}
 use Rattle.kinds.specs.Kinds as k
-use Rattle.definition.specs.Prog.{Prog, RULE_MODS, RULE_TAGS, META_BLK, META_DEF, ifnext, opt, many, ◌⨟◌, ◌/◌, last, recover, node}
+use Rattle.definition.specs.Prog.{Prog, RULE_MODS, RULE_TAGS, META_BLK, META_DEF, ifnext, opt, many, ◌⨟◌, ◌⫽◌, last, recover, node}
 use Rattle.definition.specs.Grammar.{set, one, some}
 
 -- of RULE_DECL
@@ -29,4 +29,4 @@ meta_defs = some (node META_DEF)
 
 abbrev pub meta_value : Prog
 meta_value =
-    (opt (one k.MINUS) ⨟ set (k.INTEGER_LIT ∷ k.FLOAT_LIT ∷ [])) / last (set (k.STRING_LIT ∷ k.TRUE_KW ∷ k.FALSE_KW ∷ []))
+    (opt (one k.MINUS) ⨟ set (k.INTEGER_LIT ∷ k.FLOAT_LIT ∷ [])) ⫽ last (set (k.STRING_LIT ∷ k.TRUE_KW ∷ k.FALSE_KW ∷ []))

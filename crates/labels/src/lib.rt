@@ -1,4 +1,6 @@
 // What tells of a rule and is not searched for: its modifiers, its tags and its meta. What the functions are handed is told in crate `parts`.
+#![tactic(auto)]
+
 ghost use Rattle.definition.specs.Prog.{node};
 ghost use Rattle.definition.specs.Prog as G;
 ghost use Rattle.definition.specs.Grammar.{grammar};

@@ -29,8 +29,8 @@ onward_least : (bs : List ℕ) (n : ℕ) → n ≤ onward n bs
 onward_least [] n = omega arith
 onward_least (b ∷ bs) n = omega (arith, onward_least bs (n * 10 + (b - 48)))
 
-is_digit : (b : ℕ) → 48 ≤ b → b ≤ 57 → is_digit b ≡ true
-is_digit b l h = rw (le-leb 48 b l, le-leb b 57 h)
+is_digit_lem : (b : ℕ) → 48 ≤ b → b ≤ 57 → is_digit b ≡ true
+is_digit_lem b l h = rw (le-leb 48 b l, le-leb b 57 h)
 
 too_low : (b : ℕ) → b < 48 → is_digit b ≡ false
 too_low b h = rw (lt-leb 48 b h)
@@ -91,7 +91,7 @@ module _ {bs : List ℕ} {n i : ℕ} (g : Reading bs n i) where
       record {
         within = omega arith;
         small = k;
-        digits = rw add-one (next_digits h ∙ ap (λ (t : Bool). t && all_digits (drop (suc i) bs)) (is_digit _ lo hi));
+        digits = rw add-one (next_digits h ∙ ap (λ (t : Bool). t && all_digits (drop (suc i) bs)) (is_digit_lem _ lo hi));
         spells = rw add-one (next_spells h);
       }
 
@@ -181,13 +181,13 @@ reads =
     (λ n h.
     record {
       some_digit = omega (arith, length_one n h);
-      digits = ap all_digits (sym (decimal_one n h)) ∙ ap (λ (t : Bool). t && true) (is_digit (48 + n) (omega arith) (omega arith));
+      digits = ap all_digits (sym (decimal_one n h)) ∙ ap (λ (t : Bool). t && true) (is_digit_lem (48 + n) (omega arith) (omega arith));
       value_of = ap value (sym (decimal_one n h)) ∙ omega arith;
     })
     (λ n h r.
     record {
       some_digit = omega (arith, length_more n h);
-      digits = ap all_digits (sym (decimal_more n h)) ∙ digits_more (decimal (n / 10)) (48 + n % 10) r.digits (is_digit (48 + n % 10) (omega arith) (omega arith));
+      digits = ap all_digits (sym (decimal_more n h)) ∙ digits_more (decimal (n / 10)) (48 + n % 10) r.digits (is_digit_lem (48 + n % 10) (omega arith) (omega arith));
       value_of =
           ap value (sym (decimal_more n h))
           ∙ onward_more (decimal (n / 10)) 0 (48 + n % 10)

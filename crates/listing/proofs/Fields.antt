@@ -15,7 +15,6 @@ use Rattle.listing.specs.Read.{number_of}
 use Rattle.listing.specs.declared.read.Line.TheVariants as line
 use Rattle.listing.specs.declared.read.Next.TheVariants as next
 use Rattle.listing.specs.declared.read.Number.{Number}
-use Rattle.listing.specs.declared.read.Number.TheVariants as n
 use Rattle.listing.proofs.Pieces.{part, marked, unmarked, one_piece, part_length, part_whole}
 
 -- the number that the code's answer stands for

@@ -1,4 +1,6 @@
 // The program's input and its listing, line by line.
+#![tactic(auto)]
+
 mod read;
 mod write;
 

@@ -1,4 +1,6 @@
 // Joins neighbouring ERROR nodes of an event list (document 01, module 8). Nothing is written before all three refusals are judged.
+#![tactic(auto)]
+
 mod judge;
 mod marks;
 mod pen;

@@ -1,5 +1,7 @@
 // Messages of error records (document 02, request (i)): "The text is built of pieces, and a piece is a part of the source or a part of the
 // name text, never a copy."
+#![tactic(auto)]
+
 mod answer;
 mod reading;
 mod record;

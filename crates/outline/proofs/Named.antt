@@ -11,7 +11,7 @@ use lib.ListN.{length}
 use native.Mathlib.Omega.{arith}
 use Rattle.kinds.specs.Kinds as kd
 use Rattle.kinds.specs.Sets.{id_of, kind_of, trivial}
-use Rattle.definition.specs.Prog.{Production, RULE_DECL, RULE_MODS, Prog, eat, unless, ifnext, opt, many, then, ◌⨟◌, ◌/◌, last, recover, node, memo}
+use Rattle.definition.specs.Prog.{Production, RULE_DECL, RULE_MODS, Prog, eat, unless, ifnext, opt, many, then, ◌⨟◌, ◌⫽◌, last, recover, node, memo}
 use Rattle.definition.specs.Grammar.{grammar, kind, item_of, one}
 use Rattle.definition.specs.Run.{State, Reader, Limits, Event, opened, leaf, closed, bad, Choice, stray, Mode, ok, failed, stopped, Next, end, other, hit, next, sought, skip, past, trivia_out, trivia, seek_out, skip_to, turn, put, back, begin, finish, if_ok, eat_row, eats, refuse_row, branch, or_else, alts, go_on, loop, fails, known, remember, memo_row, choose, first_names, swallow, recovered, recovery, exec, run, errors, rule_keywords, item_keywords, read_item, stray_item, item_at, flush, again, item, items, start, read}
 use Rattle.definition.proofs.Gap.{gap_out}
@@ -233,7 +233,7 @@ module _ (most : ℕ) where
       exec_low (many p) o s = guarded (λ s. loop (exec d call p true) (suc (length s.rest)) s) (λ s. loop_low (exec d call p true) (exec_low p true) (suc (length s.rest)) s) s
       exec_low (then p) o s = guarded (λ s. exec d call p o (trivia s)) (after (exec d call p o) (exec_low p o)) s
       exec_low (p ⨟ q) o s = λ ns l h. exec_low q o (exec d call p o s) ns l (exec_low p o s ns l h)
-      exec_low (p / q) o s = alts_low (exec d call p true) (exec d call q o) (exec_low p true) (exec_low q o) s
+      exec_low (p ⫽ q) o s = alts_low (exec d call p true) (exec d call q o) (exec_low p true) (exec_low q o) s
       exec_low (last p) o s = alts_low (exec d call p true) fails (exec_low p true) (guarded (turn failed) (λ t ns l h. h)) s
       exec_low (recover S) o s = recovery_low d o S s
       exec_low (node a) o s = C o a s
@@ -272,7 +272,7 @@ module _ (most : ℕ) where
   second (many p) = many p
   second (then p) = then p
   second (p ⨟ q) = q
-  second (p / q) = p / q
+  second (p ⫽ q) = p ⫽ q
   second (last p) = last p
   second (recover S) = recover S
   second (node a) = node a

@@ -11,7 +11,7 @@ use borrow.Author.Tests.{eq-eqb, ne_eqb}
 use lib.Dec.{eqb, T}
 use lib.ListN.{length}
 use Rattle.shapes.specs.Shapes.{EVENT}
-use Rattle.definition.specs.Prog.{Production, Prog, eat, unless, ifnext, opt, many, then, ◌⨟◌, ◌/◌, last, recover, node, memo}
+use Rattle.definition.specs.Prog.{Production, Prog, eat, unless, ifnext, opt, many, then, ◌⨟◌, ◌⫽◌, last, recover, node, memo}
 use Rattle.definition.specs.Grammar.{grammar, kind}
 use Rattle.definition.specs.Run as P
 use Rattle.definition.specs.Render.{Source}
@@ -61,7 +61,7 @@ guarded (opt p) = true
 guarded (many p) = true
 guarded (then p) = true
 guarded (p ⨟ q) = guarded p && guarded q
-guarded (p / q) = true
+guarded (p ⫽ q) = true
 guarded (last p) = true
 guarded (recover S) = false
 guarded (node a) = false
@@ -81,7 +81,7 @@ module _ (d : ℕ) (call : Bool → Production → P.Reader) where
       go true true t i j = ap (P.exec d call q o) (i tt) ∙ j tt
       go true false t i j = absurd t
       go false v t i j = absurd t
-  guarded_idle (p / q) o t n a h e = if_ok_no _ n a h e
+  guarded_idle (p ⫽ q) o t n a h e = if_ok_no _ n a h e
   guarded_idle (last p) o t n a h e = if_ok_no _ n a h e
   guarded_idle (recover S) o t n a h e = absurd t
   guarded_idle (node b) o t n a h e = absurd t

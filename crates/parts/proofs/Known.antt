@@ -1,5 +1,5 @@
 -- A production that remembers its failures, by its kind and bit: the ways through it. Assumes nothing.
-use Prim.Native.Nat.{ℕ, ◌+◌, ◌-◌, ◌/◌, ◌<◌, max}
+use Prim.Native.Nat.{ℕ, ◌+◌, ◌/◌, ◌<◌, max}
 use mathlib.Core.Path.{◌≡◌, sym, ap, subst, ◌∙◌}
 use mathlib.Core.List.{List}
 use mathlib.Core.Bool.{Bool, true, false}
@@ -19,7 +19,6 @@ use Rattle.notes.proofs.Sticky.{sticky_run}
 use Rattle.steps.proofs.Memo.{memo_hit, memo_through, memo_failed}
 use Rattle.notes.proofs.Bits.{Memo, kind_of, bit_of}
 use Rattle.notes.proofs.Bits as bits
-use Rattle.kinds.specs.Kinds as k
 use Rattle.parts.specs.Reads.{Bit}
 
 -- a production that remembers its failures, by its kind and bit

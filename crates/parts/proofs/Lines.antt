@@ -8,8 +8,7 @@ use native.Mathlib.Decide.{ℕ_discrete}
 use borrow.Author.Tests.{eq-eqb, ne_eqb}
 use lib.Dec.{eqb, T}
 use lib.ListN.{length}
-use Rattle.kinds.specs.Kinds as k
-use Rattle.definition.specs.Prog.{Prog, ifnext, opt, many, then, ◌⨟◌, ◌/◌, last}
+use Rattle.definition.specs.Prog.{Prog, ifnext, opt, then, ◌⨟◌, ◌⫽◌, last}
 use Rattle.definition.specs.Run as P
 use Rattle.definition.specs.Run.{Mode, ok, failed, stopped, spent, deep}
 use Rattle.definition.specs.Render.{Source}
@@ -129,7 +128,7 @@ abbrev pub Try : Bool → ℕ → Source → Whole → Whole → Bufs → Bufs �
 Try E d x s r b b' p = s.mode ≡ 0 → Did (λ a. a) x s s b b → Did (λ a. reads E d true p (P.trivia a)) x s r b b'
 
 module _ {F : P.Reader} {E : Bool} {d : ℕ} {o : Bool} {x : Source} {s₀ s : Whole} {m : ℕ × ℕ} {b₀ b : Bufs} where
-  module _ {p q : Prog} (t : Tries F E d o (p / q) x s₀ s m b₀ b) {r : Whole} {b' : Bufs} (y : Try E d x s r b b' p) where
+  module _ {p q : Prog} (t : Tries F E d o (p ⫽ q) x s₀ s m b₀ b) {r : Whole} {b' : Bufs} (y : Try E d x s r b b' p) where
     -- it did not fail
     pub goes : (r.mode ≡ 1 → ⊥) → Did F x s₀ r b₀ b'
     goes n = t.go (alt_on (reads E d true p) (reads E d o q) (λ c. sticky_exec c x E d p true) (λ c. sticky_exec c x E d q o) t.good (y t.good t.here) n)

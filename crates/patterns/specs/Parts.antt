@@ -1,6 +1,6 @@
 -- Parts of the lines of patterns that have a function of their own.
 use Rattle.kinds.specs.Kinds as k
-use Rattle.definition.specs.Prog.{Prog, PATTERN_DEF, PATTERN_MODS, PATTERN_MOD, HEX_PATTERN, HEX_SUB_PATTERN, HEX_JUMP, opt, many, then, ◌⨟◌, ◌/◌, last, node}
+use Rattle.definition.specs.Prog.{Prog, PATTERN_DEF, PATTERN_MODS, PATTERN_MOD, HEX_PATTERN, HEX_SUB_PATTERN, HEX_JUMP, opt, many, then, ◌⨟◌, ◌⫽◌, last, node}
 use Rattle.definition.specs.Grammar.{one, some, cond, hex_unit}
 
 -- of PATTERNS_BLK, PATTERN_DEF, PATTERN_MODS and PATTERN_MOD
@@ -11,7 +11,7 @@ abbrev pub pattern_defs : Prog
 pattern_defs = some (node PATTERN_DEF)
 
 abbrev pub pattern_value : Prog
-pattern_value = one k.STRING_LIT / one k.REGEXP / last (node HEX_PATTERN)
+pattern_value = one k.STRING_LIT ⫽ one k.REGEXP ⫽ last (node HEX_PATTERN)
 
 abbrev pub any_mods : Prog
 any_mods = opt (node PATTERN_MODS)
@@ -42,4 +42,4 @@ abbrev pub hex_choices : Prog
 hex_choices = many (one k.PIPE ⨟ then (node HEX_SUB_PATTERN))
 
 abbrev pub jump_range : Prog
-jump_range = (opt (one k.INTEGER_LIT) ⨟ one k.HYPHEN ⨟ opt (one k.INTEGER_LIT)) / last (one k.INTEGER_LIT)
+jump_range = (opt (one k.INTEGER_LIT) ⨟ one k.HYPHEN ⨟ opt (one k.INTEGER_LIT)) ⫽ last (one k.INTEGER_LIT)

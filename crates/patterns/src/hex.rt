@@ -67,7 +67,7 @@ pub fn hex_pattern(
 }
 
 // HEX_SUB_PATTERN <- (HEX_BYTE / HEX_ALTERNATIVE) (HEX_JUMP* (HEX_BYTE / HEX_ALTERNATIVE))*
-#[cycle(hex_alternative_hex_choices_hex_sub_pattern_hex_unit_hex_units)]
+#[cycle(hexes)]
 fn hex_sub_pattern(
     mut s: State,
     d: usize,
@@ -126,7 +126,7 @@ fn hex_sub_pattern(
 }
 
 // HEX_BYTE / HEX_ALTERNATIVE
-#[cycle(hex_alternative_hex_choices_hex_sub_pattern_hex_unit_hex_units)]
+#[cycle(hexes)]
 fn hex_unit(
     mut s: State,
     d: usize,
@@ -167,7 +167,7 @@ fn hex_unit(
 }
 
 // (HEX_JUMP* (HEX_BYTE / HEX_ALTERNATIVE))*
-#[cycle(hex_alternative_hex_choices_hex_sub_pattern_hex_unit_hex_units)]
+#[cycle(hexes)]
 fn hex_units(
     mut s: State,
     d: usize,
@@ -205,7 +205,7 @@ fn hex_units(
 }
 
 // HEX_ALTERNATIVE <- L_PAREN HEX_SUB_PATTERN (PIPE HEX_SUB_PATTERN)* R_PAREN
-#[cycle(hex_alternative_hex_choices_hex_sub_pattern_hex_unit_hex_units)]
+#[cycle(hexes)]
 fn hex_alternative(
     mut s: State,
     d: usize,
@@ -262,7 +262,7 @@ fn hex_alternative(
 }
 
 // (PIPE HEX_SUB_PATTERN)*
-#[cycle(hex_alternative_hex_choices_hex_sub_pattern_hex_unit_hex_units)]
+#[cycle(hexes)]
 fn hex_choices(
     mut s: State,
     d: usize,

@@ -1,4 +1,6 @@
 // A reading that names its settings edition: the edition's fuel and limits, and then the reader.
+#![tactic(auto)]
+
 ghost use Rattle.std.specs.Prelude.{◌≡◌, List, ℕ, ◌≤◌, length};
 ghost use Rattle.refusals.specs.Judge.{desk};
 ghost use Rattle.desk.specs.Framing.{limits_of, after_of};

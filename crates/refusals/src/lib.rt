@@ -1,4 +1,6 @@
 // The desk's refusals 1 to 6; 5 is given no more.
+#![tactic(auto)]
+
 ghost use Rattle.std.specs.Prelude.{◌≡◌, List, ℕ, length};
 ghost use Rattle.definition.specs.Answer.{any, no_id, tile, refusal};
 ghost use Rattle.refusals.specs.Judge.{desk};

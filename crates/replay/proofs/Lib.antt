@@ -3,4 +3,4 @@ pub mod Entries
 pub mod Shown
 pub mod Tallying
 pub mod Replaying
-pub mod Written
+pub mod ReadsBack

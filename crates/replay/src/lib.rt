@@ -1,4 +1,6 @@
 // A day read again (document 02, request (xii)): the lines of a day, the tally of its files, and what a replay writes.
+#![tactic(auto)]
+
 mod lines;
 mod tally;
 

@@ -5,7 +5,7 @@ ghost use Rattle.replay.specs.Tally.{sort_of, amount_of, differ, was_read, gives
 use shapes::outcome;
 
 // The answer to a file: the count of its error records by the outcome, or the refusal's number.
-#[derive(Drop)]
+#[derive(Clone, Copy)]
 pub enum Answer {
     Done(u32),
     Spent(u32),
@@ -14,7 +14,7 @@ pub enum Answer {
 }
 
 // What became of a file: its new answer, or it is missing, or of another length than was recorded.
-#[derive(Drop)]
+#[derive(Clone, Copy)]
 pub enum Fate {
     Read(Answer),
     Missing,
@@ -22,14 +22,14 @@ pub enum Fate {
 }
 
 // A file's result.
-#[derive(Drop)]
+#[derive(Clone, Copy)]
 pub struct File {
     pub recorded: Answer,
     pub fate: Fate,
 }
 
 // How many files were read; how many of them had each new outcome, how many were refused, how many differ; and how many were not read.
-#[derive(Drop)]
+#[derive(Clone, Copy)]
 pub struct Tally {
     pub files: u64,
     pub done: u64,

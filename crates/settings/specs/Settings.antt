@@ -1,7 +1,7 @@
 -- Settings with a history (document 02, requests (xi) and (xiv)): "one record a line: edition number, the three values, fields parted by tabs. Edition 1
 -- has no line: it is today's values with the fuel given to the call. Lines rise from 2 without gaps; a new one is added at the end and none is changed."
 -- "(a fourth value, 1 for allowed; editions written before have 1)"
-use Rattle.std.specs.Prelude.{ℕ, zero, suc, ◌+◌, ◌-◌, ◌^◌, List, [], ◌∷◌, ◌++◌, map, Bool, cond, ◌&&◌, eqb, leb, ltb, length, replicate}
+use Rattle.std.specs.Prelude.{ℕ, zero, suc, ◌-◌, ◌^◌, List, [], ◌∷◌, ◌++◌, map, Bool, cond, ◌&&◌, eqb, leb, ltb, length, replicate}
 use Rattle.std.proofs.Math.Option.{Option, none, some}
 use Rattle.listing.specs.Numbers.{number, decimal}
 use Rattle.listing.specs.Lines.{parted}

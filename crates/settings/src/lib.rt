@@ -1,4 +1,6 @@
 // Settings with a history (document 02, request (xi)): one line an edition, from edition 2 on; edition 1 has no line.
+#![tactic(auto)]
+
 mod adding;
 mod lines;
 

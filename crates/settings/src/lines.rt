@@ -9,7 +9,7 @@ ghost use Rattle.settings.specs.Answer.{reply_of, line_from, scan_of};
 use listing::{Number, piece_end, read_number};
 
 // What an edition sets.
-#[derive(Drop)]
+#[derive(Clone, Copy)]
 pub struct Values {
     pub fuel: u32,
     // How many nodes may be open besides SOURCE_FILE.

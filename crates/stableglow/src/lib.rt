@@ -1,4 +1,6 @@
-// The public face: what C and Rust link.
+// The public face. Crate stableglow_c exports it: what C and Rust link.
+#![tactic(auto)]
+
 ghost use Rattle.std.specs.Prelude.{◌≡◌, ℕ, List};
 ghost use Rattle.desk.specs.Framing.{after_of};
 ghost use Rattle.reading.specs.Reading.{reading};
@@ -19,8 +21,7 @@ use reading::Named;
 use shapes::refusal;
 
 // Cuts rule text into rows. Returns the refusal's number, 0 for an answer; the count of rows stands in `count`.
-#[unsafe(no_mangle)]
-pub extern "C" fn stableglow_cut(
+pub fn stableglow_cut(
     source: &[u8],
     ids: &mut [u32],
     starts: &mut [u32],
@@ -70,8 +71,7 @@ fn tell(reading: Reading, answer: &mut [u32; 5]) -> u32
 // Reads rows into events and error records by the named edition of the settings text, which for edition 1 may be empty; the fuel is edition 1's. Returns
 // the refusal's number, 0 for an answer; `answer` holds outcome, rows covered, counts of events and of error records, fuel left, and on refusal 19 the
 // settings line.
-#[unsafe(no_mangle)]
-pub extern "C" fn stableglow_read(
+pub fn stableglow_read(
     source: &[u8],
     ids: &[u32],
     starts: &[u32],
@@ -102,8 +102,7 @@ pub extern "C" fn stableglow_read(
 }
 
 // Joins neighbouring ERROR nodes of an event list into the room. Returns the refusal's number, 0 for an answer; the count of events stands in `count`.
-#[unsafe(no_mangle)]
-pub extern "C" fn stableglow_merge(events: &[u32], room: &mut [u32], count: &mut [u32; 1]) -> u32
+pub fn stableglow_merge(events: &[u32], room: &mut [u32], count: &mut [u32; 1]) -> u32
     ensures { faced result count.new room.new ≡ face (merging events.now room.old) }
 {
     let merged = merger::merge(events, room);
@@ -129,8 +128,7 @@ pub extern "C" fn stableglow_merge(events: &[u32], room: &mut [u32], count: &mut
 
 // Writes the message of the error record that the numbers begin with into the room. Returns the refusal's number, 0 for an answer; the count of bytes
 // stands in `length`.
-#[unsafe(no_mangle)]
-pub extern "C" fn stableglow_message(
+pub fn stableglow_message(
     source: &[u8],
     numbers: &[u32],
     room: &mut [u8],
@@ -181,8 +179,7 @@ fn told(listed: Listed, count: &mut [u32; 1]) -> u32
 }
 
 // Lists the rules of an event list in the room, eight numbers each. Returns the refusal's number, 0 for an answer; the count of rules stands in `count`.
-#[unsafe(no_mangle)]
-pub extern "C" fn stableglow_rules(events: &[u32], room: &mut [u32], count: &mut [u32; 1]) -> u32
+pub fn stableglow_rules(events: &[u32], room: &mut [u32], count: &mut [u32; 1]) -> u32
     ensures { faced result count.new room.new ≡ list_face (ruling events.now room.old) }
 {
     let listed = outline::rules(events, room);
@@ -191,8 +188,7 @@ pub extern "C" fn stableglow_rules(events: &[u32], room: &mut [u32], count: &mut
 
 // Lists the nodes below the one that the event at index `at` opens, to a depth, in the room, four numbers each. Returns the refusal's number, 0 for an
 // answer; the count of nodes stands in `count`.
-#[unsafe(no_mangle)]
-pub extern "C" fn stableglow_outline(
+pub fn stableglow_outline(
     events: &[u32],
     at: usize,
     depth: u32,

@@ -1,4 +1,6 @@
 // The two statements that are items: an import and an include. What they are handed is told in crate `parts`.
+#![tactic(auto)]
+
 ghost use Rattle.definition.specs.Prog.{node};
 ghost use Rattle.definition.specs.Prog as G;
 ghost use Rattle.notes.specs.Means.{source, bufs};

@@ -15,7 +15,7 @@ use Rattle.shapes.specs.Shapes.{EVENT}
 use Rattle.definition.specs.Run as P
 use Rattle.definition.specs.Run.{Mode, ok, failed, stopped, Next, end, other, hit, Choice}
 use Rattle.definition.specs.Open.{Open}
-use Rattle.definition.specs.Render.{Source, held, records}
+use Rattle.definition.specs.Render.{Source, held}
 use Rattle.definition.proofs.Buffer.{adding}
 use Rattle.notes.specs.Whole.{Whole}
 use Rattle.notes.specs.Bits.{ifb}

@@ -67,7 +67,7 @@ skip_none S {p} {x} {s} {a = a} w t e =
     let q : P.skip_to S a ≡ P.mark a = λ i. P.mark (P.put (seek_end S a.rest (e z) i) (seek_out_end S a.rest a.out (e z) i) a) in
     record { all = λ y. sym (ap bare q); over = sym (ap (over_of p x) q ∙ still w t) })
 
-module _ {S : List ℕ} {x : Source} {s₀ s : Whole} {ev₀ ev : List ℕ} (k : Taking (P.skip_to S) x s₀ s ev₀ ev) where
+module _ (S : List ℕ) {x : Source} {s₀ s : Whole} {ev₀ ev : List ℕ} (k : Taking (P.skip_to S) x s₀ s ev₀ ev) where
   pub skip_on : (st : ℕ) {r : Whole} {ev' : List ℕ} → s.pos < length x.ids → P.next S (drop s.pos x.ids) ≡ other → st ≡ get_or (0 ∷ x.ends) s.pos 0 → Put (placed Sort.TOKEN (get_or x.ids s.pos 0) st (get_or x.ends s.pos 0) ev s.ev) s r ev ev' → Taking (P.skip_to S) x s₀ (with_pos (s.pos + 1) r) ev₀ ev'
   skip_on st h y q u =
       takes k (get_or x.ids s.pos 0) st h q u

@@ -1,5 +1,5 @@
 -- What the steps' contracts are stated with: the state with its notes, and steps that touch some of the lent lists.
-use Rattle.std.specs.Prelude.{ℕ, ◌-◌, ◌≤◌, ◌≡◌, List, Bool, length, get_or, drop}
+use Rattle.std.specs.Prelude.{ℕ, ◌≤◌, ◌≡◌, List, Bool, length, get_or, drop}
 use Rattle.kinds.specs.Answers.{words}
 use Rattle.definition.specs.Run as P
 use Rattle.notes.specs.Whole.{Whole}

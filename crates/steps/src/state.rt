@@ -15,7 +15,7 @@ use shapes::event::{DEPTH, END, EVENT, KIND, START};
 use shapes::{full, mode, sort};
 
 // What is handed in and handed back at every step. What is looked at seldom is noted in a list that is lent beside it (crate `notes`).
-#[derive(Drop)]
+#[derive(Clone, Copy)]
 pub struct State {
     // How many rows are covered.
     pub pos: usize,
@@ -30,7 +30,7 @@ pub struct State {
 }
 
 // A place to come back to.
-#[derive(Drop)]
+#[derive(Clone, Copy)]
 pub struct Mark {
     pub pos: usize,
     pub ev: usize,

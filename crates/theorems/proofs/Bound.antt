@@ -6,7 +6,7 @@ use mathlib.Core.Bool.{Bool, true, false, ◌&&◌, not}
 use lib.Dec.{T}
 use lib.ListN.{length}
 use native.Mathlib.Omega.{arith}
-use Rattle.definition.specs.Prog.{Production, Prog, eat, unless, ifnext, opt, many, then, ◌⨟◌, ◌/◌, last, recover, node, memo}
+use Rattle.definition.specs.Prog.{Production, Prog, eat, unless, ifnext, opt, many, then, ◌⨟◌, ◌⫽◌, last, recover, node, memo}
 use Rattle.definition.specs.Grammar.{grammar, kind}
 use Rattle.definition.specs.Run.{State, Reader, Mode, ok, failed, stopped, Stop, spent, deep, trivia, turn, halted, charge, begin, finish, nodes, if_ok, go_on, loop, recovery, exec, run}
 use Rattle.definition.proofs.Every.{and_left, and_right, productions, each, never}
@@ -24,8 +24,8 @@ pub data Within (p : Prog) : Prog → Type 0 where
   in_last : {q : Prog} → Within p q → Within p (last q)
   in_first : {q r : Prog} → Within p q → Within p (q ⨟ r)
   in_second : {q r : Prog} → Within p r → Within p (q ⨟ r)
-  in_left : {q r : Prog} → Within p q → Within p (q / r)
-  in_right : {q r : Prog} → Within p r → Within p (q / r)
+  in_left : {q r : Prog} → Within p q → Within p (q ⫽ r)
+  in_right : {q r : Prog} → Within p r → Within p (q ⫽ r)
 
 -- what is repeated takes a row
 repeated : (p q : Prog) → Within (many p) q → T (sound q) → T (taking p)
@@ -71,7 +71,7 @@ idle (opt p) = true
 idle (many p) = true
 idle (then p) = true
 idle (p ⨟ q) = idle p && idle q
-idle (p / q) = true
+idle (p ⫽ q) = true
 idle (last p) = true
 idle (recover S) = true
 idle (node a) = false
@@ -108,7 +108,7 @@ module _ (d : ℕ) (call : Bool → Production → Reader) (w : Stop) where
   idles (p ⨟ q) t o s e =
       let x = idles p (and_left (idle p) (idle q) t) o s e in
       ap (exec d call q o) x ∙ idles q (and_right (idle p) (idle q) t) o s e
-  idles (p / q) t o s e = if_ok_stopped _ w s e
+  idles (p ⫽ q) t o s e = if_ok_stopped _ w s e
   idles (last p) t o s e = if_ok_stopped _ w s e
   idles (recover S) t o s e = recovery_stopped d o S w s e
   idles (node a) t o s e = absurd t

@@ -1,6 +1,6 @@
 -- What is known of the errors that are chosen. An unexpected row is one that was matched inside `not`, so it is a row of the file and has text: form 5
 -- ("Unexpected: 5 empty") cannot occur. What is expected has names, at least one, and none twice.
-use Prim.Native.Nat.{ℕ, zero, suc, ◌+◌, ◌-◌, ◌≤◌, ◌<◌}
+use Prim.Native.Nat.{ℕ, zero, suc, ◌-◌, ◌≤◌, ◌<◌}
 use mathlib.Core.Path.{◌≡◌, refl, ap, sym, subst}
 use mathlib.Core.List.{List, [], ◌∷◌, ◌++◌}
 use mathlib.Core.Bool.{Bool, true, false, ◌&&◌}

@@ -8,7 +8,7 @@ use lib.ListN.{length, drop, take, replicate, length-drop, length-append}
 use native.Mathlib.Omega.{arith}
 use Rattle.kinds.specs.Kinds as k
 use Rattle.shapes.specs.Shapes.{Entry, flat, Rec}
-use Rattle.definition.specs.Prog.{RULE_DECL, IMPORT_STMT, INCLUDE_STMT, ◌/◌, last, node}
+use Rattle.definition.specs.Prog.{RULE_DECL, IMPORT_STMT, INCLUDE_STMT, ◌⫽◌, last, node}
 use Rattle.definition.specs.Run.{State, Limits, Event, opened, closed, bad, stray, Next, end, other, hit, next, past, sought, rule_keywords, item_keywords, skip, item, items, start, read}
 use Rattle.definition.specs.Render.{Source, Reading, bads, inside, records, item_numbers, mode_outcome, rendered, moments}
 use Rattle.definition.specs.Buffer.{buffer}
@@ -64,7 +64,7 @@ module _ (L : Limits) (d : Desk) (n : ℕ) where
     abbrev rest : Desk
     rest = remaining d s sc ev er
 
-    -- what `damage-shown` says of the source x, p its place
+    -- what `damage_shown` says of the source x, p its place
     abbrev Says : Source → ℕ → Type 0
     Says x p = let s : State = items L n (start x.ids d.fuel) in Running s.mode → s.rest ≡ rest.ids → let t : State = read L x.ids d.fuel in let v : State = read L rest.ids s.fuel in let y : Source = source_of rest in
         (t.mode ≡ v.mode) × (t.rest ≡ v.rest) × (t.fuel ≡ v.fuel) × (inside x t.out ≡ inside x s.out ++ shifts p (bads s.out) (inside y v.out)) × (records L x t.out [] ≡ records L x s.out [] ++ shift_records p (records L y v.out []))
@@ -113,11 +113,11 @@ module _ (L : Limits) (d : Desk) (n : ℕ) where
         let D = damage_stays L d.ids d.fuel n m in
         let Z : ℕ = length d.events in
         let F : ℕ = length d.errors in
-        let whole : reading L d ≡ h 0 s.out s.begun D.0 (reading L rest) = D.1 ∙ ap (λ (l : List ℕ). h 0 s.out s.begun D.0 (read L l s.fuel)) (sym rest_ids) in
+        let whole : reading L d ≡ h 0 s.out s.begun D.0.before (reading L rest) = D.1 ∙ ap (λ (l : List ℕ). h 0 s.out s.begun D.0.before (read L l s.fuel)) (sym rest_ids) in
         let f = over_fits Z F (moments L (source_of d) (reading L d)) G.roomy in
         let g = subst (λ (t : State). Fits Z F (moments L (source_of d) t)) whole f in
-        let g' = subst (λ (x : Source). Fits Z F (moments L x (h 0 s.out s.begun D.0 (reading L rest)))) (cut_whole d s sc ev er rows) g in
-        let a = fits_alone (front d s sc ev er rows) (take (rows_before d s) d.ids) (take (rows_before d s) d.ends) (cut_before d s sc ev er rows) (source_of rest) L Z F s.fuel s.out s.begun D.0 g' in
+        let g' = subst (λ (x : Source). Fits Z F (moments L x (h 0 s.out s.begun D.0.before (reading L rest)))) (cut_whole d s sc ev er rows) g in
+        let a = fits_alone (front d s sc ev er rows) (take (rows_before d s) d.ids) (take (rows_before d s) d.ends) (cut_before d s sc ev er rows) (source_of rest) L Z F s.fuel s.out s.begun D.0.before g' in
         let ms = moments L (source_of rest) (reading L rest) in
         is_given L rest (remaining_unrefused G.unrefused w) (fits_over (length ev) (length er) ms (fits_more Z (length ev) F (length er) ms v u a))
 
@@ -159,7 +159,7 @@ module _ (L : Limits) (d : Desk) (n : ℕ) where
 
   -- right behind an accepted import or include
   pub statement_behind : (x r : List ℕ) (m : ℕ) → Running s.mode → s.rest ≡ x ++ r → Solid x → Ford (rules L.entrypoint) any_statement (strip s.rest) m (Res.yes (strip r)) → let v : State = standing L d (n + 1) in Running v.mode → Stood r v
-  statement_behind x r _ m e q g = behind x r m e q (statement_stands L s x r (fresh m) e q (from_ford (node IMPORT_STMT / last (node INCLUDE_STMT)) g))
+  statement_behind x r _ m e q g = behind x r m e q (statement_stands L s x r (fresh m) e q (from_ford (node IMPORT_STMT ⫽ last (node INCLUDE_STMT)) g))
 
   -- right behind a junk run
   pub junk_behind : (j r : List ℕ) (a : ℕ) (is : List ℕ) → Running s.mode → skip s.rest ≡ j ++ r → Keyless j → Solid j → Astray j → next rule_keywords r ≡ hit a is → Junk L d n s (standing L d (n + 1)) j r

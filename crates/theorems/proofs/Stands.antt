@@ -9,7 +9,7 @@ use lib.ListN.{length, length-append}
 use native.Mathlib.Omega.{arith}
 use Rattle.kinds.specs.Kinds as kinds
 use Rattle.kinds.specs.Sets.{id_of, kind_of, pick, trivial}
-use Rattle.definition.specs.Prog.{Production, RULE_DECL, IMPORT_STMT, INCLUDE_STMT, Prog, ◌/◌, last, node}
+use Rattle.definition.specs.Prog.{Production, RULE_DECL, IMPORT_STMT, INCLUDE_STMT, Prog, ◌⫽◌, last, node}
 use Rattle.definition.specs.Grammar.{grammar, rule_decl, item_of}
 use Rattle.definition.specs.Run.{State, Limits, Event, opened, leaf, closed, bad, Choice, stray, Mode, ok, failed, stopped, Next, end, other, hit, next, sought, skip, past, trivia_out, trivia, seek, seek_out, rule_keywords, statement_keywords, item_keywords, read_item, stray_item, item_at, errors, flush, again, item}
 use Rattle.definition.specs.Ford.{strip, Res}
@@ -211,7 +211,7 @@ rule_stands L s x r f e d g n k =
 
 -- THE THEOREM: rows x at item position, the last of them no trivia, that the PEG accepts as an import or an include: unless stopped, the reader stands right
 -- behind them, between two items, and no error is written, whatever the next row is
-pub statement_stands : (L : Limits) (s : State) (x r : List ℕ) → Fresh s → s.rest ≡ x ++ r → Solid x → Peg L.entrypoint (node IMPORT_STMT / last (node INCLUDE_STMT)) (strip s.rest) (Res.yes (strip r)) → let v : State = item L s in Running v.mode →
+pub statement_stands : (L : Limits) (s : State) (x r : List ℕ) → Fresh s → s.rest ≡ x ++ r → Solid x → Peg L.entrypoint (node IMPORT_STMT ⫽ last (node INCLUDE_STMT)) (strip s.rest) (Res.yes (strip r)) → let v : State = item L s in Running v.mode →
     Fresh v × (v.rest ≡ r) × (bads v.out ≡ bads s.out)
 unfolding grammar id_of
 statement_stands L s x r f e d g k = by g
@@ -223,6 +223,6 @@ statement_stands L s x r f e d g k = by g
         let G = subst (λ (l : List ℕ). Peg L.entrypoint (node q) l (Res.yes (strip r))) (sym (strip_gap s.mode s.rest)) g in
         behind_last L s x r kinds.STRING_LIT h.0 h.1 (node q) (λ v. refl) f e d h.2 h.3 (λ u. statement_calm L q b st (trivia s) (strip r) F.is_ok (fresh_inv L.entrypoint (trivia s) F) u G) k
 
-    by : Peg L.entrypoint (node IMPORT_STMT / last (node INCLUDE_STMT)) (strip s.rest) (Res.yes (strip r)) → let v : State = item L s in Fresh v × (v.rest ≡ r) × (bads v.out ≡ bads s.out)
+    by : Peg L.entrypoint (node IMPORT_STMT ⫽ last (node INCLUDE_STMT)) (strip s.rest) (Res.yes (strip r)) → let v : State = item L s in Fresh v × (v.rest ≡ r) × (bads v.out ≡ bads s.out)
     by (alt_yes g) = stands IMPORT_STMT kinds.IMPORT_KW import tt ((refl, refl), tt) g
     by (alt_no n (last_is g)) = stands INCLUDE_STMT kinds.INCLUDE_KW include tt ((refl, refl), tt) g

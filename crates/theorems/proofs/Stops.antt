@@ -8,7 +8,7 @@ use lib.Dec.{T, eqb}
 use lib.ListN.{length}
 use Rattle.kinds.specs.Kinds as kinds
 use Rattle.kinds.specs.Sets.{id_of}
-use Rattle.definition.specs.Prog.{Production, IMPORT_STMT, INCLUDE_STMT, Prog, eat, unless, ifnext, opt, many, then, ◌⨟◌, ◌/◌, last, recover, node, memo}
+use Rattle.definition.specs.Prog.{Production, IMPORT_STMT, INCLUDE_STMT, Prog, eat, unless, ifnext, opt, many, then, ◌⨟◌, ◌⫽◌, last, recover, node, memo}
 use Rattle.definition.specs.Grammar.{grammar, kind, rule_decl, item_of}
 use Rattle.definition.specs.Run.{State, Limits, Reader, Mode, ok, failed, stopped, Next, end, other, hit, next, turn, back, if_ok, trivia, eat_row, branch, or_else, alts, go_on, loop, known, remember, memo_row, fails, begin, finish, nodes, exec, run, read_item}
 use Rattle.definition.specs.Remaining.{Running}
@@ -24,7 +24,7 @@ is_node (opt p) = false
 is_node (many p) = false
 is_node (then p) = false
 is_node (p ⨟ q) = false
-is_node (p / q) = false
+is_node (p ⫽ q) = false
 is_node (last p) = false
 is_node (recover S) = false
 is_node (node a) = true
@@ -38,7 +38,7 @@ behind b (opt p) = behind false p
 behind b (many p) = behind false p
 behind b (then p) = behind false p
 behind b (p ⨟ q) = behind b p && behind (is_node p) q
-behind b (p / q) = behind false p && behind false q
+behind b (p ⫽ q) = behind false p && behind false q
 behind b (last p) = behind false p
 behind b (recover S) = b
 behind b (node a) = true
@@ -91,7 +91,7 @@ steady (opt p) = false
 steady (many p) = steady p
 steady (then p) = false
 steady (p ⨟ q) = steady p && steady q
-steady (p / q) = false
+steady (p ⫽ q) = false
 steady (last p) = false
 steady (recover S) = false
 steady (node a) = false
@@ -106,7 +106,7 @@ safe (opt p) = safe p
 safe (many p) = safe p
 safe (then p) = safe p
 safe (p ⨟ q) = safe p && safe q && (idle q || steady p)
-safe (p / q) = safe p && safe q
+safe (p ⫽ q) = safe p && safe q
 safe (last p) = safe p
 safe (recover S) = true
 safe (node a) = true
@@ -209,7 +209,7 @@ module _ (d : ℕ) (quiet call : Bool → Production → Reader) (H : (o : Bool)
   steady_runs (many p) t o s r = if_ok_runs (λ s. loop (exec d call p true) (suc (length s.rest)) s) (λ s e. loop_runs (exec d call p true) (steady_runs p t true) (suc (length s.rest)) s e) s r
   steady_runs (then p) t o s r = absurd t
   steady_runs (p ⨟ q) t o s r = steady_runs q (and_right (steady p) (steady q) t) o (exec d call p o s) (steady_runs p (and_left (steady p) (steady q) t) o s r)
-  steady_runs (p / q) t o s r = absurd t
+  steady_runs (p ⫽ q) t o s r = absurd t
   steady_runs (last p) t o s r = absurd t
   steady_runs (recover S) t o s r = absurd t
   steady_runs (node a) t o s r = absurd t
@@ -240,7 +240,7 @@ module _ (d : ℕ) (quiet call : Bool → Production → Reader) (H : (o : Bool)
       let a = and_left (safe p && safe q) (idle q || steady p) t in
       let b = and_right (safe p && safe q) (idle q || steady p) t in
       ap (exec d calls q o) (calm_same p (and_left (safe p) (safe q) a) o s r) ∙ follows p q o b (calm_same q (and_right (safe p) (safe q) a) o) s r
-  calm_same (p / q) t o s r = alt_same (exec d calls p true) (exec d call p true) (calm_same p (and_left (safe p) (safe q) t) true) (exec d calls q o) (exec d call q o) (calm_same q (and_right (safe p) (safe q) t) o) s
+  calm_same (p ⫽ q) t o s r = alt_same (exec d calls p true) (exec d call p true) (calm_same p (and_left (safe p) (safe q) t) true) (exec d calls q o) (exec d call q o) (calm_same q (and_right (safe p) (safe q) t) o) s
   calm_same (last p) t o s r = alt_same (exec d calls p true) (exec d call p true) (calm_same p t true) fails fails (λ t r. refl) s
   calm_same (recover S) t o s r = refl
   calm_same (node a) t o s r = call_same quiet o a s r ∙ H o a s r

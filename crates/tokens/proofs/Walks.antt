@@ -30,7 +30,7 @@ skipped m at (suc k) ts b (x ∷ xs) = skipped m at k ts b xs
 pub nothing_left : (m at k : ℕ) (b : Match) (xs : List ℕ) → walk m at k [] b xs ≡ b
 nothing_left m at k b [] = refl
 nothing_left m at (suc k) b (x ∷ xs) = nothing_left m at k b xs
-nothing_left m at zero b (x ∷ xs) = nothing_left m _ _ b xs
+nothing_left m at zero b (x ∷ xs) = nothing_left m (at + (glyph m (x ∷ xs)).1) ((glyph m (x ∷ xs)).1 - 1) b xs
 
 -- one character
 pub taken : (m at : ℕ) (ts : Tokens) (b : Match) (x : ℕ) (xs : List ℕ) (g : ℕ × ℕ) → g ≡ glyph m (x ∷ xs) → 0 < g.1

@@ -10,7 +10,7 @@ use crate::matcher::{COLUMNS, NONE};
 use crate::table::PAIRS;
 
 // A match that failed, followed on: behind `skip` bytes its state ends no row. State 0 follows nothing.
-#[derive(Drop)]
+#[derive(Clone, Copy)]
 pub struct Runner {
     pub state: usize,
     pub skip: usize,

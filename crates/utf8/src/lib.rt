@@ -1,4 +1,6 @@
 // The UTF-8 test of document 01, module 2, by the Unicode Standard's table (request (iii)), and where the bad byte is (request (vi)).
+#![tactic(auto)]
+
 ghost use Rattle.std.specs.Prelude.{◌≡◌};
 ghost use Rattle.utf8.specs.Utf8.{followers, characters, begun, next, utf8, bad_byte};
 ghost use Rattle.utf8.specs.Due.{led, ranges, owed};

@@ -1,0 +1,6 @@
+-- `editions::step::last_tab` meets its contract: no tab stands behind a place.
+use Rattle.editions.proofs.Steps.{mark_at}
+use Rattle.editions.proofs.step.last_tab.Goals as goal
+
+pub returns-then-line-i-eq9 : goal.returns-then-line-i-eq9
+returns-then-line-i-eq9 c = mark_at c.loop-i.invariant c.loop-i-test.true c.if-line-i-eq9.true

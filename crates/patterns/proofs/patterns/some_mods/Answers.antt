@@ -1,0 +1,29 @@
+-- By its shape.
+use mathlib.Core.Bool.{true}
+use Prim.Native.Nat.{◌-◌}
+use Rattle.definition.specs.Prog.{node}
+use Rattle.definition.specs.Prog as G
+use Rattle.definition.specs.Grammar.{grammar, kind}
+use Rattle.notes.specs.Means.{source, names_of}
+use Rattle.steps.specs.Steps.{whole}
+use Rattle.patterns.specs.Parts.{some_mods}
+use Rattle.parts.proofs.Lines.{from, plus, plus_t, then_past, stops}
+use Rattle.patterns.proofs.patterns.some_mods.Goals as goal
+
+pub returns-then-s-ne-OK : goal.returns-then-s-ne-OK
+unfolding grammar kind names_of
+returns-then-s-ne-OK c = stops (from (source c.args.src.now c.args.ids.now c.args.ends.now) (whole c.args.s c.args.notes.now) c.args.ev.now c.args.er.now c.args.sc.now c.requires.1) c.args.ep c.args.d c.args.may some_mods tt c.if-s-ne-OK.true
+
+pub trivia-s-requires : goal.trivia-s-requires
+trivia-s-requires c = (c.requires.0.lines, ((from (source c.args.src.now c.args.ids.now c.args.ends.now) (whole c.args.s c.args.notes.now) c.args.ev.now c.args.er.now c.args.sc.now c.requires.1).wf.0.2.events, (from (source c.args.src.now c.args.ids.now c.args.ends.now) (whole c.args.s c.args.notes.now) c.args.ev.now c.args.er.now c.args.sc.now c.requires.1).wf.1.events))
+
+pub pattern_mod-s-requires : goal.pattern_mod-s-requires
+pattern_mod-s-requires c = (c.requires.0, (plus_t (from (source c.args.src.now c.args.ids.now c.args.ends.now) (whole c.args.s c.args.notes.now) c.args.ev.now c.args.er.now c.args.sc.now c.requires.1) (c.trivia-s.ensures.0 c.args.src.now c.args.notes.now)).wf, c.requires.2)
+
+pub more_mods-s-requires : goal.more_mods-s-requires
+unfolding grammar kind names_of
+more_mods-s-requires c = (c.requires.0, (then_past c.args.ep c.args.d c.args.may (node G.PATTERN_MOD) c.if-s-ne-OK.false (plus (plus_t (from (source c.args.src.now c.args.ids.now c.args.ends.now) (whole c.args.s c.args.notes.now) c.args.ev.now c.args.er.now c.args.sc.now c.requires.1) (c.trivia-s.ensures.0 c.args.src.now c.args.notes.now)) c.pattern_mod-s.ensures)).wf, c.requires.2)
+
+pub returns : goal.returns
+unfolding grammar kind names_of
+returns c = (plus (then_past c.args.ep c.args.d c.args.may (node G.PATTERN_MOD) c.if-s-ne-OK.false (plus (plus_t (from (source c.args.src.now c.args.ids.now c.args.ends.now) (whole c.args.s c.args.notes.now) c.args.ev.now c.args.er.now c.args.sc.now c.requires.1) (c.trivia-s.ensures.0 c.args.src.now c.args.notes.now)) c.pattern_mod-s.ensures)) c.more_mods-s.ensures)
