@@ -5,17 +5,22 @@
 //
 // SETTINGS is the name of a file of settings text, `-` where there is none; the fuel is that of edition 1. A file is read with the limits and rooms of
 // `intake`, so that its answer is the desk's. What keeps it from that it says on standard error.
+#![tactic(auto)]
+
 ghost use Rattle.std.specs.Prelude.{◌≤◌, length};
 ghost use Rattle.replay.specs.Answer.{Again};
 
+use console::{argument, open, print_decimal, read_full, write};
 use cutter::Cut;
 use desk::read::Reading;
-use libc::{STDERR_FILENO, STDIN_FILENO, STDOUT_FILENO};
 use listing::{Number, piece_end};
 use reading::Named;
 use replay::{Answer, Fate, File, Line, Replayed, Tally, Written};
 use settings::Chosen;
 use shapes::{outcome, refusal};
+use std::env::{Env, FillError};
+use std::io::{Input, Read};
+use std::rt::Files;
 
 // "It takes 65,536 bytes and 4,096 rows (more is refusal 1)".
 const MOST_BYTES: usize = 65536;
@@ -42,7 +47,7 @@ enum Size {
 }
 
 // What is asked of every file.
-#[derive(Drop)]
+#[derive(Clone, Copy)]
 struct Asked {
     edition: u32,
     fuel: u32,
@@ -54,12 +59,8 @@ enum Words {
     Missing,
 }
 
-fn write(text: &[u8]) {
-    io::write_all(STDOUT_FILENO, text);
-}
-
-fn say(text: &[u8]) {
-    io::write_all(STDERR_FILENO, text);
+fn say(err: &impl Print, text: &[u8]) {
+    write(err, text);
 }
 
 // The first bytes, as many as there are.
@@ -71,17 +72,14 @@ fn first(bytes: &[u8], n: usize) -> &[u8] {
 }
 
 // All that the room has place for.
-fn read_room(fd: i32, room: &mut [u8]) -> Size
+fn read_room(file: &mut impl Read, room: &mut [u8]) -> Size
     requires { length room.old ≤ 65537 }
 {
     let mut size = 0;
     while size < room.len() {
-        let rest = &mut room[size..];
-        let got = libc::read(fd, rest);
-        if got < 0 {
+        let Ok(n) = file.read(&mut room[size..]) else {
             return Size::Unknown;
-        }
-        let n = io::count(got, rest);
+        };
         if n == 0 {
             return Size::Is(size as u32);
         }
@@ -91,24 +89,19 @@ fn read_room(fd: i32, room: &mut [u8]) -> Size
 }
 
 // How many bytes come next; they themselves are not wanted.
-fn pass_bytes(fd: i32) -> Size {
+fn pass_bytes(file: &mut impl Read) -> Size {
     let mut bytes = [0u8; 4096];
-    let got = libc::read(fd, &mut bytes);
-    if got < 0 {
+    let Ok(n) = file.read(&mut bytes) else {
         return Size::Unknown;
-    }
-    let n = io::count(got, &bytes);
-    if 4096 < n {
-        return Size::Unknown;
-    }
+    };
     Size::Is(n as u32)
 }
 
 // How long a file is of which so many bytes are read.
-fn whole_size(fd: i32, read: u32) -> Size {
+fn whole_size(file: &mut impl Read, read: u32) -> Size {
     let mut size = read;
     while size < MOST_SIZE {
-        let Size::Is(n) = pass_bytes(fd) else {
+        let Size::Is(n) = pass_bytes(file) else {
             return Size::Unknown;
         };
         if n == 0 {
@@ -122,28 +115,25 @@ fn whole_size(fd: i32, read: u32) -> Size {
     Size::Unknown
 }
 
-fn read_source(fd: i32, room: &mut [u8]) -> Source
+fn read_source(file: &mut impl Read, room: &mut [u8]) -> Source
     requires { length room.old ≤ 65537 }
 {
-    let Size::Is(kept) = read_room(fd, room) else {
+    let Size::Is(kept) = read_room(file, room) else {
         return Source::Unreadable;
     };
-    let Size::Is(size) = whole_size(fd, kept) else {
+    let Size::Is(size) = whole_size(file, kept) else {
         return Source::Unreadable;
     };
     Source::Bytes(kept as usize, size)
 }
 
-fn open_source(name: &[u8], room: &mut [u8]) -> Source
+fn open_source(rt: &impl Files, name: &[u8], room: &mut [u8]) -> Source
     requires { length room.old ≤ 65537 }
 {
-    let fd = os::open_read(name);
-    if fd < 0 {
+    let Some(mut file) = open(rt, name) else {
         return Source::Unreadable;
-    }
-    let source = read_source(fd, room);
-    libc::close(fd);
-    source
+    };
+    read_source(&mut file, room)
 }
 
 fn ended(number: u32, errors: u32) -> Answer {
@@ -218,46 +208,62 @@ fn answer_to(source: &[u8], settings: &[u8], asked: Asked) -> Answer {
 }
 
 // A name with a tab or a line feed cannot be recorded. No path is longer than 4,096 bytes, so a line has room.
-fn write_entry(name: &[u8], size: u32, edition: u32, answer: Answer) {
+fn write_entry(
+    rt: &impl Print,
+    err: &impl Print,
+    name: &[u8],
+    size: u32,
+    edition: u32,
+    answer: Answer,
+) {
     let mut room = [0u8; 8192];
     match replay::entry_line(name, size, edition, answer, &mut room) {
-        Written::Unwritable => say(b"day: a name with a tab or a line feed cannot be recorded\n"),
-        Written::Full => say(b"day: a name is too long\n"),
-        Written::Length(n) => write(first(&room, n)),
+        Written::Unwritable => say(
+            err,
+            b"day: a name with a tab or a line feed cannot be recorded\n",
+        ),
+        Written::Full => say(err, b"day: a name is too long\n"),
+        Written::Length(n) => write(rt, first(&room, n)),
     }
 }
 
-fn record_file(name: &[u8], settings: &[u8], asked: Asked) {
+fn record_file(
+    rt: &(impl Files + Print),
+    err: &impl Print,
+    name: &[u8],
+    settings: &[u8],
+    asked: Asked,
+) {
     let mut source = [0u8; 65537];
-    match open_source(name, &mut source) {
+    match open_source(rt, name, &mut source) {
         Source::Unreadable => {
-            say(b"day: cannot be read: ");
-            say(name);
-            say(b"\n");
+            say(err, b"day: cannot be read: ");
+            say(err, name);
+            say(err, b"\n");
         }
         Source::Bytes(kept, size) => {
             let answer = answer_to(first(&source, kept), settings, asked);
-            write_entry(name, size, asked.edition, answer);
+            write_entry(rt, err, name, size, asked.edition, answer);
         }
     }
 }
 
 // The files are the arguments from the sixth word on.
-fn record(settings: &[u8], asked: Asked) {
-    let count = os::arg_count();
-    let mut i: usize = 5;
-    while i < count {
+fn record(rt: &(impl Files + Env + Print), err: &impl Print, settings: &[u8], asked: Asked) {
+    for i in 5..usize::MAX {
         let mut name = [0u8; 4096];
-        let n = os::arg(i, &mut name);
-        record_file(first(&name, n), settings, asked);
-        i += 1;
+        match rt.arg(i, &mut name) {
+            Ok(n) => record_file(rt, err, first(&name, n), settings, asked),
+            Err(FillError::TooLong) => record_file(rt, err, b"", settings, asked),
+            Err(FillError::NotPresent) => return,
+        }
     }
 }
 
 // A file that cannot be read counts as missing.
-fn fate_of(name: &[u8], size: u32, settings: &[u8], asked: Asked) -> Fate {
+fn fate_of(rt: &impl Files, name: &[u8], size: u32, settings: &[u8], asked: Asked) -> Fate {
     let mut source = [0u8; 65537];
-    match open_source(name, &mut source) {
+    match open_source(rt, name, &mut source) {
         Source::Unreadable => Fate::Missing,
         Source::Bytes(kept, now) => {
             if now != size {
@@ -268,17 +274,23 @@ fn fate_of(name: &[u8], size: u32, settings: &[u8], asked: Asked) -> Fate {
     }
 }
 
-fn write_file(name: &[u8], file: File) {
+fn write_file(rt: &impl Print, err: &impl Print, name: &[u8], file: File) {
     let mut room = [0u8; 8192];
     match replay::file_line(name, file, &mut room) {
         Written::Unwritable => (),
-        Written::Full => say(b"day: a name is too long to be shown\n"),
-        Written::Length(n) => write(first(&room, n)),
+        Written::Full => say(err, b"day: a name is too long to be shown\n"),
+        Written::Length(n) => write(rt, first(&room, n)),
     }
 }
 
 // "Replay reads the day with another edition named": for what became of its files, the totals of the day.
-fn replay_day(text: &[u8], settings: &[u8], asked: Asked) -> Replayed
+fn replay_day(
+    rt: &(impl Files + Print),
+    err: &impl Print,
+    text: &[u8],
+    settings: &[u8],
+    asked: Asked,
+) -> Replayed
     ensures { Again text.now result }
 {
     let mut tally = replay::none();
@@ -300,12 +312,12 @@ fn replay_day(text: &[u8], settings: &[u8], asked: Asked) -> Replayed
             return Replayed::BadLine(line, tally);
         };
         let name = &part[..end];
-        let fate = fate_of(name, size, settings, asked);
+        let fate = fate_of(rt, name, size, settings, asked);
         let file = File {
             recorded: answer,
             fate,
         };
-        write_file(name, file);
+        write_file(rt, err, name, file);
         tally = replay::with_file(tally, file);
         line += 1;
         at = to + 1;
@@ -313,85 +325,101 @@ fn replay_day(text: &[u8], settings: &[u8], asked: Asked) -> Replayed
     Replayed::All(tally)
 }
 
-fn write_tally(t: Tally) {
+fn write_tally(rt: &impl Print, t: Tally) {
     let mut room = [0u8; 256];
     let n = replay::totals_line(t, &mut room);
-    write(&room[..n]);
+    write(rt, &room[..n]);
 }
 
-fn write_refusal(line: u64) {
+fn write_refusal(rt: &impl Print, line: u64) {
     let mut room = [0u8; 256];
     let n = replay::bad_line(line, &mut room);
-    write(&room[..n]);
+    write(rt, &room[..n]);
 }
 
-fn write_totals(r: Replayed) {
+fn write_totals(rt: &impl Print, r: Replayed) {
     match r {
-        Replayed::All(tally) => write_tally(tally),
+        Replayed::All(tally) => write_tally(rt, tally),
         Replayed::BadLine(line, tally) => {
-            write_tally(tally);
-            write_refusal(line);
+            write_tally(rt, tally);
+            write_refusal(rt, line);
         }
     }
 }
 
-fn replay_input(settings: &[u8], asked: Asked) {
+fn replay_input(
+    rt: &(impl Files + Input + Print),
+    err: &impl Print,
+    settings: &[u8],
+    asked: Asked,
+) {
     let mut text = [0u8; 262145];
-    let n = io::read_full(STDIN_FILENO, &mut text);
+    let n = read_full(&mut rt.reader(), &mut text);
     if MOST_OF_DAY < n {
-        say(b"day: the day has more than 262,144 bytes\n");
+        say(err, b"day: the day has more than 262,144 bytes\n");
         return;
     }
-    write_totals(replay_day(first(&text, n), settings, asked));
+    write_totals(rt, replay_day(rt, err, first(&text, n), settings, asked));
 }
 
 // A line of the settings that does not read is told before any file is.
-fn run(recording: bool, settings: &[u8], asked: Asked) {
+fn run(
+    rt: &(impl Files + Env + Input + Print),
+    err: &impl Print,
+    recording: bool,
+    settings: &[u8],
+    asked: Asked,
+) {
     if let Chosen::BadLine(line) = settings::choose(settings, asked.edition, asked.fuel) {
-        say(b"day: refusal 19, settings line ");
-        io::print_decimal(STDERR_FILENO, line as u64);
-        say(b"\n");
+        say(err, b"day: refusal 19, settings line ");
+        print_decimal(err, line as u64);
+        say(err, b"\n");
         return;
     }
     if recording {
-        record(settings, asked);
+        record(rt, err, settings, asked);
         return;
     }
-    replay_input(settings, asked);
+    replay_input(rt, err, settings, asked);
 }
 
 // The edition and the fuel.
-fn numbers() -> Words {
+fn numbers(rt: &impl Env) -> Words {
     let mut text = [0u8; 32];
-    let n = os::arg(3, &mut text);
+    let n = argument(rt, 3, &mut text);
     let Number::Is(edition) = listing::read_number(first(&text, n)) else {
         return Words::Missing;
     };
-    let m = os::arg(4, &mut text);
+    let m = argument(rt, 4, &mut text);
     let Number::Is(fuel) = listing::read_number(first(&text, m)) else {
         return Words::Missing;
     };
     Words::Are(Asked { edition, fuel })
 }
 
-fn with_settings(recording: bool, asked: Asked) {
+fn with_settings(
+    rt: &(impl Files + Env + Input + Print),
+    err: &impl Print,
+    recording: bool,
+    asked: Asked,
+) {
     let mut name = [0u8; 4096];
-    let n = os::arg(2, &mut name);
+    let n = argument(rt, 2, &mut name);
     if n == 1 {
         if name[0] == b'-' {
-            run(recording, b"", asked);
+            run(rt, err, recording, b"", asked);
             return;
         }
     }
     let mut text = [0u8; 65537];
-    match open_source(first(&name, n), &mut text) {
-        Source::Unreadable => say(b"day: the settings cannot be read\n"),
+    match open_source(rt, first(&name, n), &mut text) {
+        Source::Unreadable => say(err, b"day: the settings cannot be read\n"),
         Source::Bytes(kept, _) => {
             if MOST_BYTES < kept {
-                say(b"day: the settings have more than 65,536 bytes\n");
+                say(err, b"day: the settings have more than 65,536 bytes\n");
                 return;
             }
-            run(recording, first(&text, kept), asked);
+            run(rt, err, recording, first(&text, kept), asked);
         }
     }
 }
@@ -410,22 +438,24 @@ fn same(a: &[u8], b: &[u8]) -> bool {
     true
 }
 
-fn main() {
+fn main(rt: HostRuntime) {
+    let err = rt.stderr();
     let mut command = [0u8; 8];
-    let n = os::arg(1, &mut command);
-    let Words::Are(asked) = numbers() else {
+    let n = argument(&rt, 1, &mut command);
+    let Words::Are(asked) = numbers(&rt) else {
         say(
+            &err,
             b"day: give record or replay, a settings file or -, the edition and the fuel, and behind record the files\n",
         );
         return;
     };
     if same(first(&command, n), b"record") {
-        with_settings(true, asked);
+        with_settings(&rt, &err, true, asked);
         return;
     }
     if same(first(&command, n), b"replay") {
-        with_settings(false, asked);
+        with_settings(&rt, &err, false, asked);
         return;
     }
-    say(b"day: record or replay\n");
+    say(&err, b"day: record or replay\n");
 }

@@ -1,15 +1,20 @@
 // Reads the rows of one file from standard input, and writes what the reader and the merger make of them (document 01, "Small files"), by edition 1 or by
 // the edition that the arguments name: --settings FILE --edition N. The listing is of edition 1, or of the edition that --listing names, 1 or 2.
+#![tactic(auto)]
+
 ghost use Rattle.std.specs.Prelude.{◌+◌, ◌≤◌, length};
 
+use console::{argument, open, print_decimal, write};
 use desk::read::Reading;
-use libc::{STDERR_FILENO, STDIN_FILENO, STDOUT_FILENO};
 use listing::{Line, Next, Number};
 use merger::Merged;
 use reading::Named;
 use settings::Chosen;
 use shapes::event::{DEPTH, END, EVENT, KIND, START};
 use shapes::refusal;
+use std::env::Env;
+use std::io::Read;
+use std::rt::Files;
 
 // "It takes 65,536 bytes and 4,096 rows (more is refusal 1)".
 const MOST_BYTES: usize = 65536;
@@ -17,7 +22,7 @@ const MOST_BYTES: usize = 65536;
 const MOST_ROWS: usize = 4096;
 
 // How far the lines were taken. One row and one byte too many are counted, and no more, since that is all that refusal 1 asks.
-#[derive(Drop)]
+#[derive(Clone, Copy)]
 struct Taken {
     // How many lines have read.
     lines: u64,
@@ -42,7 +47,7 @@ enum Source {
 }
 
 // The settings edition by which the file is read, how long the settings text is, and the edition of the listing.
-#[derive(Drop)]
+#[derive(Clone, Copy)]
 struct Edition {
     number: u32,
     size: usize,
@@ -58,29 +63,27 @@ enum Asked {
 
 // The number, from 1, of the line behind those that have read. No run has so many lines that it wraps.
 fn next_number(t: Taken) -> u64 {
-    std::num::wrapping_add_u64(t.lines, 1)
+    t.lines.wrapping_add(1)
 }
 
 // One read into the bytes from a place on: how many came, 0 where the input ends or a read fails.
-fn read_on(fd: i32, bytes: &mut [u8], at: usize) -> usize
+fn read_on(input: &mut impl Read, bytes: &mut [u8], at: usize) -> usize
     requires { at ≤ length bytes.old }
     ensures { at + result ≤ length bytes.old }
 {
-    let rest = &mut bytes[at..];
-    let got = libc::read(fd, rest);
-    io::count(got, rest)
+    match input.read(&mut bytes[at..]) {
+        Ok(n) => n,
+        Err(_) => 0,
+    }
 }
 
-// All that the room has place for. Only a read that fails is told apart from the end, by `libc::read` itself.
-fn read_source(fd: i32, room: &mut [u8]) -> Source {
+// All that the room has place for. Only a read that fails is told apart from the end.
+fn read_source(file: &mut impl Read, room: &mut [u8]) -> Source {
     let mut size = 0;
     while size < room.len() {
-        let rest = &mut room[size..];
-        let got = libc::read(fd, rest);
-        if got < 0 {
+        let Ok(n) = file.read(&mut room[size..]) else {
             return Source::Unreadable;
-        }
-        let n = io::count(got, rest);
+        };
         if n == 0 {
             return Source::Bytes(size);
         }
@@ -89,22 +92,19 @@ fn read_source(fd: i32, room: &mut [u8]) -> Source {
     Source::Bytes(size)
 }
 
-fn open_source(name: &[u8], room: &mut [u8]) -> Source {
-    let fd = os::open_read(name);
-    if fd < 0 {
+fn open_source(rt: &impl Files, name: &[u8], room: &mut [u8]) -> Source {
+    let Some(mut file) = open(rt, name) else {
         return Source::Unreadable;
-    }
-    let source = read_source(fd, room);
-    libc::close(fd);
-    source
+    };
+    read_source(&mut file, room)
 }
 
 // The first line. The file is read at once, since one that cannot be opened or read counts as this line, whatever lines follow.
-fn take_source(line: &[u8], source: &mut [u8; 65537]) -> Step {
+fn take_source(rt: &impl Files, line: &[u8], source: &mut [u8; 65537]) -> Step {
     let Line::Source { from, to, fuel } = listing::read_line(line) else {
         return Step::Unread(1);
     };
-    let Source::Bytes(size) = open_source(&line[from..to], source) else {
+    let Source::Bytes(size) = open_source(rt, &line[from..to], source) else {
         return Step::Unread(1);
     };
     Step::On(Taken {
@@ -142,6 +142,7 @@ fn take_row(
 }
 
 fn take_line(
+    rt: &impl Files,
     t: Taken,
     line: &[u8],
     source: &mut [u8; 65537],
@@ -150,13 +151,14 @@ fn take_line(
     ends: &mut [u32; 4096],
 ) -> Step {
     if t.lines == 0 {
-        return take_source(line, source);
+        return take_source(rt, line, source);
     }
     take_row(t, line, ids, starts, ends)
 }
 
 // The lines whose ends are in the bytes.
 fn take_lines(
+    rt: &impl Files,
     first: Taken,
     bytes: &[u8],
     source: &mut [u8; 65537],
@@ -170,7 +172,7 @@ fn take_lines(
         let Next::Whole { to, next } = listing::next_line(bytes, at) else {
             break;
         };
-        let step = take_line(t, &bytes[at..to], source, ids, starts, ends);
+        let step = take_line(rt, t, &bytes[at..to], source, ids, starts, ends);
         let Step::On(after) = step else {
             return step;
         };
@@ -183,6 +185,7 @@ fn take_lines(
 
 // What stands behind the last line feed, if anything does: the last line may lack its own. "Empty input .. counts as line 1."
 fn take_last(
+    rt: &impl Files,
     t: Taken,
     line: &[u8],
     source: &mut [u8; 65537],
@@ -191,7 +194,7 @@ fn take_last(
     ends: &mut [u32; 4096],
 ) -> Step {
     if line.len() != 0 {
-        return take_line(t, line, source, ids, starts, ends);
+        return take_line(rt, t, line, source, ids, starts, ends);
     }
     if t.lines == 0 {
         return Step::Unread(1);
@@ -217,6 +220,8 @@ fn move_front(bytes: &mut [u8], at: usize, end: usize) -> usize
 // The whole input, in pieces. The buffer has place for more than the longest line that reads: where it is full of one line, nothing more can come, and
 // that line, taken as the last, does not read. A proved loop has to end, so this one counts down from a number that no run uses up.
 fn take_input(
+    rt: &impl Files,
+    input: &mut impl Read,
     buffer: &mut [u8],
     source: &mut [u8; 65537],
     ids: &mut [u32; 4096],
@@ -233,12 +238,12 @@ fn take_input(
     let mut held = 0;
     let mut turns = 0xffff_ffff_ffff_ffffu64;
     while 0 < turns {
-        let more = read_on(STDIN_FILENO, buffer, held);
+        let more = read_on(input, buffer, held);
         if more == 0 {
-            return take_last(t, &buffer[..held], source, ids, starts, ends);
+            return take_last(rt, t, &buffer[..held], source, ids, starts, ends);
         }
         let end = held + more;
-        let step = take_lines(t, &buffer[..end], source, ids, starts, ends);
+        let step = take_lines(rt, t, &buffer[..end], source, ids, starts, ends);
         let Step::On(next) = step else {
             return step;
         };
@@ -249,43 +254,44 @@ fn take_input(
     Step::Unread(next_number(t))
 }
 
-fn write_head(edition: u32) {
+fn write_head(rt: &impl Print, edition: u32) {
     let mut room = [0u8; 4096];
     let k = listing::head_line(edition, &mut room);
-    io::write_all(STDOUT_FILENO, &room[..k]);
+    write(rt, &room[..k]);
 }
 
-fn write_unread(number: u64) {
+fn write_unread(rt: &impl Print, number: u64) {
     let mut room = [0u8; 4096];
     let k = listing::unread_line(number, &mut room);
-    io::write_all(STDOUT_FILENO, &room[..k]);
+    write(rt, &room[..k]);
 }
 
-fn write_refusal(refusal: u32) {
+fn write_refusal(rt: &impl Print, refusal: u32) {
     let mut room = [0u8; 4096];
     let k = listing::refusal_line(refusal, &mut room);
-    io::write_all(STDOUT_FILENO, &room[..k]);
+    write(rt, &room[..k]);
 }
 
-fn say(text: &[u8]) {
-    io::write_all(STDERR_FILENO, text);
+fn say(err: &impl Print, text: &[u8]) {
+    write(err, text);
 }
 
 // 19 comes before the file is judged; its line is told beside the listing, which has no place for it.
-fn write_bad_line(line: u32) {
-    write_refusal(refusal::SETTINGS);
-    say(b"intake: the settings text does not read, line ");
-    io::print_decimal(STDERR_FILENO, line as u64);
-    say(b"\n");
+fn write_bad_line(rt: &impl Print, err: &impl Print, line: u32) {
+    write_refusal(rt, refusal::SETTINGS);
+    say(err, b"intake: the settings text does not read, line ");
+    print_decimal(err, line as u64);
+    say(err, b"\n");
 }
 
-fn write_result(outcome: u32, rows: u32, fuel: u32) {
+fn write_result(rt: &impl Print, outcome: u32, rows: u32, fuel: u32) {
     let mut room = [0u8; 4096];
     let k = listing::result_line(outcome, rows, fuel, &mut room);
-    io::write_all(STDOUT_FILENO, &room[..k]);
+    write(rt, &room[..k]);
 }
 
 fn write_event(
+    rt: &impl Print,
     edition: u32,
     sort: u32,
     second: u32,
@@ -296,14 +302,15 @@ fn write_event(
 ) {
     let mut room = [0u8; 4096];
     let k = listing::event_line(edition, sort, second, start, end, depth, errors, &mut room);
-    io::write_all(STDOUT_FILENO, &room[..k]);
+    write(rt, &room[..k]);
 }
 
-fn write_events(edition: u32, events: &[u32], errors: &[u32]) {
+fn write_events(rt: &impl Print, edition: u32, events: &[u32], errors: &[u32]) {
     let mut i = 0;
     while i < events.len() / EVENT {
         let at = i * EVENT;
         write_event(
+            rt,
             edition,
             events[at],
             events[at + KIND],
@@ -326,23 +333,23 @@ fn first_events(list: &[u32], count: usize) -> &[u32] {
 }
 
 // The reader's list is merged and written. Whether it was, so that the result can follow.
-fn write_merged(edition: u32, events: &[u32], errors: &[u32]) -> bool {
+fn write_merged(rt: &impl Print, edition: u32, events: &[u32], errors: &[u32]) -> bool {
     let mut room = [0u32; 16384];
     match merger::merge(events, &mut room) {
         Merged::Malformed => {
-            write_refusal(refusal::MALFORMED);
+            write_refusal(rt, refusal::MALFORMED);
             false
         }
         Merged::Unpaired => {
-            write_refusal(refusal::UNPAIRED);
+            write_refusal(rt, refusal::UNPAIRED);
             false
         }
         Merged::Full => {
-            write_refusal(refusal::EVENTS);
+            write_refusal(rt, refusal::EVENTS);
             false
         }
         Merged::Events(n) => {
-            write_events(edition, first_events(&room, n), errors);
+            write_events(rt, edition, first_events(&room, n), errors);
             true
         }
     }
@@ -356,9 +363,9 @@ fn row_count(covered: usize) -> u32 {
     covered as u32
 }
 
-fn write_reading(edition: u32, reading: Reading, events: &[u32], errors: &[u32]) {
+fn write_reading(rt: &impl Print, edition: u32, reading: Reading, events: &[u32], errors: &[u32]) {
     match reading {
-        Reading::Refused(n) => write_refusal(n),
+        Reading::Refused(n) => write_refusal(rt, n),
         Reading::Answered {
             outcome,
             covered,
@@ -366,8 +373,8 @@ fn write_reading(edition: u32, reading: Reading, events: &[u32], errors: &[u32])
             errors: _,
             left,
         } => {
-            if write_merged(edition, first_events(events, count), errors) {
-                write_result(outcome, row_count(covered), left);
+            if write_merged(rt, edition, first_events(events, count), errors) {
+                write_result(rt, outcome, row_count(covered), left);
             }
         }
     }
@@ -375,6 +382,8 @@ fn write_reading(edition: u32, reading: Reading, events: &[u32], errors: &[u32])
 
 // "It .. has room for 4,096 events and 16,384 numbers of error records." 129 words of scratch are what 4,096 rows ask for.
 fn answer(
+    rt: &impl Print,
+    err: &impl Print,
     text: &[u8],
     edition: Edition,
     source: &[u8],
@@ -399,12 +408,14 @@ fn answer(
         &mut errors,
     );
     match named {
-        Named::BadLine(line) => write_bad_line(line),
-        Named::Read(reading) => write_reading(edition.listing, reading, &events, &errors),
+        Named::BadLine(line) => write_bad_line(rt, err, line),
+        Named::Read(reading) => write_reading(rt, edition.listing, reading, &events, &errors),
     }
 }
 
 fn answer_within(
+    rt: &impl Print,
+    err: &impl Print,
     t: Taken,
     text: &[u8],
     edition: Edition,
@@ -418,14 +429,16 @@ fn answer_within(
     let size = t.size;
     let rows = t.rows;
     if MOST_BYTES < size {
-        write_refusal(refusal::LONG);
+        write_refusal(rt, refusal::LONG);
         return;
     }
     if MOST_ROWS < rows {
-        write_refusal(refusal::LONG);
+        write_refusal(rt, refusal::LONG);
         return;
     }
     answer(
+        rt,
+        err,
         text,
         edition,
         &source[..size],
@@ -438,6 +451,8 @@ fn answer_within(
 
 // As arrays, so that their lengths are known from their types.
 fn answer_taken(
+    rt: &impl Print,
+    err: &impl Print,
     t: Taken,
     text: &[u8],
     edition: Edition,
@@ -447,9 +462,9 @@ fn answer_taken(
     ends: &[u32; 4096],
 ) {
     match settings::choose(text, edition.number, t.fuel) {
-        Chosen::BadLine(line) => write_bad_line(line),
-        Chosen::Unknown => answer_within(t, text, edition, source, ids, starts, ends),
-        Chosen::Named(_) => answer_within(t, text, edition, source, ids, starts, ends),
+        Chosen::BadLine(line) => write_bad_line(rt, err, line),
+        Chosen::Unknown => answer_within(rt, err, t, text, edition, source, ids, starts, ends),
+        Chosen::Named(_) => answer_within(rt, err, t, text, edition, source, ids, starts, ends),
     }
 }
 
@@ -469,8 +484,8 @@ fn same(word: &[u8], wanted: &[u8]) -> bool {
     true
 }
 
-fn take_settings(name: &[u8], e: Edition, room: &mut [u8; 65537]) -> Asked {
-    let Source::Bytes(size) = open_source(name, room) else {
+fn take_settings(rt: &impl Files, name: &[u8], e: Edition, room: &mut [u8; 65537]) -> Asked {
+    let Source::Bytes(size) = open_source(rt, name, room) else {
         return Asked::Wrong;
     };
     if MOST_BYTES < size {
@@ -505,16 +520,22 @@ fn take_listing(word: &[u8], e: Edition) -> Asked {
 }
 
 // A word and its value, where they are there.
-fn take_pair(at: usize, next: usize, e: Edition, room: &mut [u8; 65537]) -> Asked {
+fn take_pair(
+    rt: &(impl Files + Env),
+    at: usize,
+    next: usize,
+    e: Edition,
+    room: &mut [u8; 65537],
+) -> Asked {
     let mut word = [0u8; 4096];
-    let n = os::arg(at, &mut word);
+    let n = argument(rt, at, &mut word);
     if n == 0 {
         return Asked::By(e);
     }
     let mut value = [0u8; 4096];
-    let m = os::arg(next, &mut value);
+    let m = argument(rt, next, &mut value);
     if same(&word[..n], b"--settings") {
-        return take_settings(&value[..m], e, room);
+        return take_settings(rt, &value[..m], e, room);
     }
     if same(&word[..n], b"--edition") {
         return take_edition(&value[..m], e);
@@ -536,25 +557,29 @@ fn text_of(e: Edition, room: &[u8; 65537]) -> &[u8] {
 }
 
 // Up to three arguments with their values, in any order.
-fn take_arguments(room: &mut [u8; 65537]) -> Asked {
+fn take_arguments(rt: &(impl Files + Env), room: &mut [u8; 65537]) -> Asked {
     let first = Edition {
         number: 1,
         size: 0,
         listing: 1,
     };
-    let Asked::By(one) = take_pair(1, 2, first, room) else {
+    let Asked::By(one) = take_pair(rt, 1, 2, first, room) else {
         return Asked::Wrong;
     };
-    let Asked::By(two) = take_pair(3, 4, one, room) else {
+    let Asked::By(two) = take_pair(rt, 3, 4, one, room) else {
         return Asked::Wrong;
     };
-    take_pair(5, 6, two, room)
+    take_pair(rt, 5, 6, two, room)
 }
 
-fn main() {
+fn main(rt: HostRuntime) {
+    let err = rt.stderr();
     let mut room = [0u8; 65537];
-    let Asked::By(edition) = take_arguments(&mut room) else {
-        say(b"intake: the arguments are --settings FILE, --edition N and --listing 1 or 2\n");
+    let Asked::By(edition) = take_arguments(&rt, &mut room) else {
+        say(
+            &err,
+            b"intake: the arguments are --settings FILE, --edition N and --listing 1 or 2\n",
+        );
         return;
     };
     let mut buffer = [0u8; 16384];
@@ -562,11 +587,21 @@ fn main() {
     let mut ids = [0u32; 4096];
     let mut starts = [0u32; 4096];
     let mut ends = [0u32; 4096];
-    write_head(edition.listing);
-    let step = take_input(&mut buffer, &mut source, &mut ids, &mut starts, &mut ends);
+    write_head(&rt, edition.listing);
+    let step = take_input(
+        &rt,
+        &mut rt.reader(),
+        &mut buffer,
+        &mut source,
+        &mut ids,
+        &mut starts,
+        &mut ends,
+    );
     match step {
-        Step::Unread(number) => write_unread(number),
+        Step::Unread(number) => write_unread(&rt, number),
         Step::On(t) => answer_taken(
+            &rt,
+            &err,
             t,
             text_of(edition, &room),
             edition,

@@ -1,7 +1,10 @@
 // Says whether the page docs/KINDS.md, read from standard input, and the code's own tables agree; then how many ids the sets have.
+#![tactic(auto)]
+
 ghost use Rattle.std.specs.Prelude.{◌≤◌, length};
 
-use libc::{STDIN_FILENO, STDOUT_FILENO};
+use console::{print_decimal, read_full, write};
+use itoa::Buffer;
 
 // The table that a line stands in, from 1, or 0 above the first; and the number that its next row must have.
 #[derive(Drop)]
@@ -42,16 +45,15 @@ fn after(line: &[u8], at: usize, bytes: &[u8]) -> usize {
         return NOWHERE;
     }
     let to = at + bytes.len();
-    if check::same(&line[at..to], bytes) {
+    if &line[at..to] == bytes {
         return to;
     }
     NOWHERE
 }
 
 fn after_number(line: &[u8], at: usize, n: u32) -> usize {
-    let mut digits = [0u8; 20];
-    let k = io::decimal(n as u64, &mut digits);
-    after(line, at, &digits[..k])
+    let mut digits = Buffer::new();
+    after(line, at, digits.format(n).as_bytes())
 }
 
 fn after_kind(line: &[u8], at: usize, kind: u32) -> usize {
@@ -107,10 +109,10 @@ fn is_right(table: usize, n: u32, line: &[u8]) -> bool {
 // Whether the line is the heading of the table.
 fn heads(table: usize, line: &[u8]) -> bool {
     match table {
-        1 => check::same(line, b"## Ids"),
-        2 => check::same(line, b"## Kinds"),
-        3 => check::same(line, b"## Names"),
-        4 => check::same(line, b"## Descriptions"),
+        1 => line == b"## Ids".as_slice(),
+        2 => line == b"## Kinds".as_slice(),
+        3 => line == b"## Names".as_slice(),
+        4 => line == b"## Descriptions".as_slice(),
         _ => false,
     }
 }
@@ -243,28 +245,28 @@ fn members(other: bool, sets: &[[u64; 2]; 56]) -> u32 {
     found
 }
 
-fn count(table: usize, name: &[u8]) {
-    io::print_decimal(STDOUT_FILENO, size(table) as u64);
-    io::write_all(STDOUT_FILENO, name);
+fn count(rt: &impl Print, table: usize, name: &[u8]) {
+    print_decimal(rt, size(table) as u64);
+    write(rt, name);
 }
 
-fn main() {
-    let mut text = io::large_buffer();
-    let n = io::read_full(STDIN_FILENO, &mut text);
+fn main(rt: HostRuntime) {
+    let mut text = [0u8; 65536];
+    let n = read_full(&mut rt.reader(), &mut text);
     let line = differs(&text[..n]);
     if line == 0 {
-        count(1, b" ids, ");
-        count(2, b" kinds, ");
-        count(3, b" names, ");
-        count(4, b" descriptions: page and code agree\n");
+        count(&rt, 1, b" ids, ");
+        count(&rt, 2, b" kinds, ");
+        count(&rt, 3, b" names, ");
+        count(&rt, 4, b" descriptions: page and code agree\n");
         let sets = kinds::SETS;
-        io::print_decimal(STDOUT_FILENO, members(false, &sets) as u64);
-        io::write_all(STDOUT_FILENO, b" ids in 56 sets, ");
-        io::print_decimal(STDOUT_FILENO, members(true, &sets) as u64);
-        io::write_all(STDOUT_FILENO, b" for a kind of another number\n");
+        print_decimal(&rt, members(false, &sets) as u64);
+        write(&rt, b" ids in 56 sets, ");
+        print_decimal(&rt, members(true, &sets) as u64);
+        write(&rt, b" for a kind of another number\n");
         return;
     }
-    io::write_all(STDOUT_FILENO, b"line ");
-    io::print_decimal(STDOUT_FILENO, line as u64);
-    io::write_all(STDOUT_FILENO, b": page and code differ\n");
+    write(&rt, b"line ");
+    print_decimal(&rt, line as u64);
+    write(&rt, b": page and code differ\n");
 }

@@ -1,50 +1,52 @@
 // Runs the merger on small lists and on two long ones. A line has the case, the refusal's number or 0, the count of events, and the room after. Each
 // room is lent full of fives. 87 is ERROR and 88 SOURCE_FILE in docs/KINDS.md.
-use libc::STDOUT_FILENO;
+#![tactic(auto)]
+
+use console::{print_decimal, write};
 use merger::Merged;
 use shapes::event::{DEPTH, END, EVENT, KIND, START};
 
-fn number(n: u64) {
-    io::write_all(STDOUT_FILENO, b" ");
-    io::print_decimal(STDOUT_FILENO, n);
+fn number(rt: &impl Print, n: u64) {
+    write(rt, b" ");
+    print_decimal(rt, n);
 }
 
-fn line_end() {
-    io::write_all(STDOUT_FILENO, b"\n");
+fn line_end(rt: &impl Print) {
+    write(rt, b"\n");
 }
 
-fn answer(name: &[u8], r: Merged) {
-    io::write_all(STDOUT_FILENO, name);
+fn answer(rt: &impl Print, name: &[u8], r: Merged) {
+    write(rt, name);
     match r {
-        Merged::Malformed => io::write_all(STDOUT_FILENO, b" 9 0 :"),
-        Merged::Unpaired => io::write_all(STDOUT_FILENO, b" 10 0 :"),
-        Merged::Full => io::write_all(STDOUT_FILENO, b" 7 0 :"),
+        Merged::Malformed => write(rt, b" 9 0 :"),
+        Merged::Unpaired => write(rt, b" 10 0 :"),
+        Merged::Full => write(rt, b" 7 0 :"),
         Merged::Events(n) => {
-            number(0);
-            number(n as u64);
-            io::write_all(STDOUT_FILENO, b" :")
+            number(rt, 0);
+            number(rt, n as u64);
+            write(rt, b" :")
         }
     };
 }
 
-fn numbers(l: &[u32]) {
+fn numbers(rt: &impl Print, l: &[u32]) {
     let mut i = 0;
     while i < l.len() {
-        number(l[i] as u64);
+        number(rt, l[i] as u64);
         i += 1;
     }
-    line_end();
+    line_end(rt);
 }
 
-fn show(name: &[u8], events: &[u32], room: &mut [u32]) {
-    answer(name, merger::merge(events, room));
-    numbers(room);
+fn show(rt: &impl Print, name: &[u8], events: &[u32], room: &mut [u32]) {
+    answer(rt, name, merger::merge(events, room));
+    numbers(rt, room);
 }
 
-fn line(name: &[u8], events: &[u32], size: usize) {
+fn line(rt: &impl Print, name: &[u8], events: &[u32], size: usize) {
     let mut room = [5u32; 40];
     if size <= 40 {
-        show(name, events, &mut room[..size]);
+        show(rt, name, events, &mut room[..size]);
     }
 }
 
@@ -59,68 +61,68 @@ fn put(events: &mut [u32], n: usize, sort: u32, kind: u32, start: u32, end: u32,
 }
 
 // P9 with just enough room, with more, and with five numbers less and one less; the empty list.
-fn rooms() {
+fn rooms(rt: &impl Print) {
     let events = [
         1u32, 87, 0, 1, 0, 3, 87, 0, 1, 0, 1, 87, 1, 3, 0, 3, 87, 1, 3, 0,
     ];
-    line(b"P9", &events, 10);
-    line(b"more", &events, 16);
-    line(b"five less", &events, 5);
-    line(b"one less", &events, 9);
-    line(b"empty", &events[..0], 3);
-    line(b"nothing", &events[..0], 0);
+    line(rt, b"P9", &events, 10);
+    line(rt, b"more", &events, 16);
+    line(rt, b"five less", &events, 5);
+    line(rt, b"one less", &events, 9);
+    line(rt, b"empty", &events[..0], 3);
+    line(rt, b"nothing", &events[..0], 0);
 }
 
 // Lists that are no event lists; 9 is given before 10 and 7.
-fn malformed() {
+fn malformed(rt: &impl Print) {
     let events = [1u32, 87, 0, 1, 0, 3, 87, 0, 1, 0];
-    line(b"length 1", &events[..1], 5);
-    line(b"length 8", &events[..8], 5);
-    line(b"length 9", &events[..9], 5);
+    line(rt, b"length 1", &events[..1], 5);
+    line(rt, b"length 8", &events[..8], 5);
+    line(rt, b"length 9", &events[..9], 5);
     let zero = [1u32, 87, 0, 1, 0, 0, 87, 0, 1, 1];
-    line(b"sort 0", &zero, 10);
+    line(rt, b"sort 0", &zero, 10);
     let five = [1u32, 87, 0, 1, 0, 5, 87, 0, 1, 1];
-    line(b"sort 5", &five, 5);
+    line(rt, b"sort 5", &five, 5);
 }
 
 // Depths that are not the counted ones: of a begin, a token, an error event and an end.
-fn depths() {
+fn depths(rt: &impl Print) {
     let begin = [1u32, 87, 0, 1, 1, 3, 87, 0, 1, 1];
-    line(b"begin at 1", &begin, 10);
+    line(rt, b"begin at 1", &begin, 10);
     let token = [1u32, 88, 0, 1, 0, 2, 4, 0, 1, 0, 3, 88, 0, 1, 0];
-    line(b"token at 0", &token, 15);
+    line(rt, b"token at 0", &token, 15);
     let error = [1u32, 88, 0, 1, 0, 4, 0, 0, 1, 2, 3, 88, 0, 1, 0];
-    line(b"error at 2", &error, 15);
+    line(rt, b"error at 2", &error, 15);
     let end = [1u32, 88, 0, 1, 0, 3, 88, 0, 1, 1];
-    line(b"end at 1", &end, 10);
+    line(rt, b"end at 1", &end, 10);
 }
 
 // Ends with none open, at depth 0 and at the greatest that a cell holds.
-fn ends() {
+fn ends(rt: &impl Print) {
     let first = [3u32, 88, 0, 1, 0, 1, 88, 1, 2, 0];
-    line(b"end first", &first, 10);
+    line(rt, b"end first", &first, 10);
     let greatest = [3u32, 88, 0, 1, 4294967295, 1, 88, 1, 2, 0];
-    line(b"greatest", &greatest, 10);
+    line(rt, b"greatest", &greatest, 10);
     let many = [1u32, 88, 0, 1, 0, 3, 88, 0, 1, 0, 3, 88, 0, 1, 0];
-    line(b"end too many", &many, 15);
+    line(rt, b"end too many", &many, 15);
 }
 
 // ERROR nodes that do not pair; 10 is given before 7. Other nodes need not pair.
-fn unpaired() {
+fn unpaired(rt: &impl Print) {
     let end = [1u32, 88, 0, 1, 0, 3, 87, 0, 1, 0];
-    line(b"none open", &end, 10);
+    line(rt, b"none open", &end, 10);
     let begin = [1u32, 87, 0, 1, 0, 2, 4, 0, 1, 1];
-    line(b"never closed", &begin, 10);
+    line(rt, b"never closed", &begin, 10);
     let twice = [
         1u32, 88, 0, 1, 0, 1, 87, 0, 1, 1, 3, 87, 0, 1, 1, 3, 87, 0, 1, 0,
     ];
-    line(b"closed twice", &twice, 5);
+    line(rt, b"closed twice", &twice, 5);
     let other = [1u32, 88, 0, 1, 0, 3, 89, 0, 1, 0, 1, 88, 2, 3, 0];
-    line(b"other nodes", &other, 15);
+    line(rt, b"other nodes", &other, 15);
 }
 
 // One pass leaves the inner pair.
-fn inner() {
+fn inner(rt: &impl Print) {
     let mut events = [0u32; 50];
     put(&mut events, 0, 1, 87, 0, 1, 0);
     put(&mut events, 1, 1, 87, 0, 1, 1);
@@ -132,11 +134,11 @@ fn inner() {
     put(&mut events, 7, 2, 6, 1, 2, 2);
     put(&mut events, 8, 3, 87, 1, 2, 1);
     put(&mut events, 9, 3, 87, 1, 2, 0);
-    line(b"[[a]] [[b]]", &events, 40);
+    line(rt, b"[[a]] [[b]]", &events, 40);
 }
 
 // The least start and the greatest end, whatever the ends had.
-fn spans() {
+fn spans(rt: &impl Print) {
     let mut events = [0u32; 30];
     put(&mut events, 0, 1, 87, 5, 6, 0);
     put(&mut events, 1, 3, 87, 0, 0, 0);
@@ -144,11 +146,11 @@ fn spans() {
     put(&mut events, 3, 3, 87, 0, 0, 0);
     put(&mut events, 4, 1, 87, 4294967295, 2, 0);
     put(&mut events, 5, 3, 87, 4294967295, 0, 0);
-    line(b"any spans", &events, 10);
+    line(rt, b"any spans", &events, 10);
 }
 
 // What is joined inside leaves the span around it.
-fn outer() {
+fn outer(rt: &impl Print) {
     let mut events = [0u32; 35];
     put(&mut events, 0, 1, 87, 3, 4, 0);
     put(&mut events, 1, 1, 87, 1, 2, 1);
@@ -157,13 +159,13 @@ fn outer() {
     put(&mut events, 4, 3, 87, 2, 9, 1);
     put(&mut events, 5, 2, 4, 9, 10, 1);
     put(&mut events, 6, 3, 87, 3, 4, 0);
-    line(b"[[a][b] c]", &events, 25);
+    line(rt, b"[[a][b] c]", &events, 25);
 }
 
 // An error event or a token that bears 87 is no ERROR node, and an ERROR end gets the span of its begin.
-fn leaves() {
+fn leaves(rt: &impl Print) {
     let end = [1u32, 87, 2, 7, 0, 3, 87, 0, 0, 0];
-    line(b"end", &end, 10);
+    line(rt, b"end", &end, 10);
     let mut events = [0u32; 30];
     put(&mut events, 0, 1, 87, 0, 1, 0);
     put(&mut events, 1, 3, 87, 0, 1, 0);
@@ -171,11 +173,11 @@ fn leaves() {
     put(&mut events, 3, 1, 87, 1, 2, 0);
     put(&mut events, 4, 2, 87, 1, 2, 1);
     put(&mut events, 5, 3, 87, 1, 2, 0);
-    line(b"leaves", &events, 30);
+    line(rt, b"leaves", &events, 30);
 }
 
 // P4, in which nothing is joined.
-fn small_file() {
+fn small_file(rt: &impl Print) {
     let mut events = [0u32; 30];
     put(&mut events, 0, 1, 88, 0, 22, 0);
     put(&mut events, 1, 1, 87, 0, 0, 1);
@@ -183,7 +185,7 @@ fn small_file() {
     put(&mut events, 3, 3, 87, 0, 0, 2);
     put(&mut events, 4, 3, 87, 0, 0, 1);
     put(&mut events, 5, 3, 88, 0, 22, 0);
-    line(b"P4", &events, 30);
+    line(rt, b"P4", &events, 30);
 }
 
 // ERROR nodes, each in the one before, whose ends have no span yet.
@@ -209,28 +211,28 @@ fn row(events: &mut [u32]) {
 }
 
 // Of the deep nest's finished list the two outermost nodes and the two innermost are shown.
-fn long() {
+fn long(rt: &impl Print) {
     let mut events = [0u32; 5000];
     let mut room = [5u32; 5000];
     nest(&mut events);
-    answer(b"deep", merger::merge(&events, &mut room));
-    numbers(&room[0..10]);
-    numbers(&room[2490..2510]);
-    numbers(&room[4990..]);
+    answer(rt, b"deep", merger::merge(&events, &mut room));
+    numbers(rt, &room[0..10]);
+    numbers(rt, &room[2490..2510]);
+    numbers(rt, &room[4990..]);
     row(&mut events);
-    line(b"row", &events, 20);
+    line(rt, b"row", &events, 20);
 }
 
-fn main() {
-    rooms();
-    malformed();
-    depths();
-    ends();
-    unpaired();
-    inner();
-    spans();
-    outer();
-    leaves();
-    small_file();
-    long();
+fn main(rt: HostRuntime) {
+    rooms(&rt);
+    malformed(&rt);
+    depths(&rt);
+    ends(&rt);
+    unpaired(&rt);
+    inner(&rt);
+    spans(&rt);
+    outer(&rt);
+    leaves(&rt);
+    small_file(&rt);
+    long(&rt);
 }

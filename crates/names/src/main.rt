@@ -1,13 +1,16 @@
 // Lists the rules of a rule file, which is its standard input: a line for each rule, in file order, with its name, the line and the column at which the
 // name stands, both from 1, its counts of metadata, patterns and tags, and 1 where an ERROR lies inside it, else 0; tabs between. What keeps it from that it
 // says on standard error. The list is not merged first, since a merged list has the same rules.
+#![tactic(auto)]
+
 ghost use Rattle.std.specs.Prelude.{◌≤◌, length};
 
+use console::{print_decimal, write};
 use cutter::Cut;
 use desk::read::Reading;
-use libc::{STDERR_FILENO, STDIN_FILENO, STDOUT_FILENO};
 use outline::Listed;
 use shapes::event::EVENT;
+use std::io::Read;
 
 const MOST_BYTES: usize = 65536;
 
@@ -20,42 +23,35 @@ enum Source {
 }
 
 // Where a byte stands, and the line and column there, from 1.
-#[derive(Drop)]
+#[derive(Clone, Copy)]
 struct Place {
     at: usize,
     line: u64,
     column: u64,
 }
 
-fn write(text: &[u8]) {
-    io::write_all(STDOUT_FILENO, text);
+fn say(err: &impl Print, text: &[u8]) {
+    write(err, text);
 }
 
-fn say(text: &[u8]) {
-    io::write_all(STDERR_FILENO, text);
+fn say_refusal(err: &impl Print, number: u32) {
+    say(err, b"names: refusal ");
+    print_decimal(err, number as u64);
+    say(err, b"\n");
 }
 
-fn say_refusal(number: u32) {
-    say(b"names: refusal ");
-    io::print_decimal(STDERR_FILENO, number as u64);
-    say(b"\n");
-}
-
-fn write_field(n: u64) {
-    write(b"\t");
-    io::print_decimal(STDOUT_FILENO, n);
+fn write_field(rt: &impl Print, n: u64) {
+    write(rt, b"\t");
+    print_decimal(rt, n);
 }
 
 // All that the room has place for.
-fn read_source(fd: i32, room: &mut [u8]) -> Source {
+fn read_source(input: &mut impl Read, room: &mut [u8]) -> Source {
     let mut size = 0;
     while size < room.len() {
-        let rest = &mut room[size..];
-        let got = libc::read(fd, rest);
-        if got < 0 {
+        let Ok(n) = input.read(&mut room[size..]) else {
             return Source::Unreadable;
-        }
-        let n = io::count(got, rest);
+        };
         if n == 0 {
             return Source::Bytes(size);
         }
@@ -74,9 +70,9 @@ fn place_of(source: &[u8], from: Place, start: u32) -> Place {
         if at >= source.len() {
             break;
         }
-        column = std::num::wrapping_add_u64(column, 1);
+        column = column.wrapping_add(1);
         if source[at] == b'\n' {
-            line = std::num::wrapping_add_u64(line, 1);
+            line = line.wrapping_add(1);
             column = 1;
         }
         at += 1;
@@ -97,19 +93,27 @@ fn text_of(source: &[u8], start: u32, end: u32) -> &[u8] {
     &source[from..to]
 }
 
-fn write_rule(name: &[u8], p: Place, metas: u32, patterns: u32, tags: u32, damaged: u32) {
-    write(name);
-    write_field(p.line);
-    write_field(p.column);
-    write_field(metas as u64);
-    write_field(patterns as u64);
-    write_field(tags as u64);
-    write_field(damaged as u64);
-    write(b"\n");
+fn write_rule(
+    rt: &impl Print,
+    name: &[u8],
+    p: Place,
+    metas: u32,
+    patterns: u32,
+    tags: u32,
+    damaged: u32,
+) {
+    write(rt, name);
+    write_field(rt, p.line);
+    write_field(rt, p.column);
+    write_field(rt, metas as u64);
+    write_field(rt, patterns as u64);
+    write_field(rt, tags as u64);
+    write_field(rt, damaged as u64);
+    write(rt, b"\n");
 }
 
 // A rule is eight numbers: its name's start and end, its own, its counts, and whether it is damaged.
-fn write_rules(source: &[u8], rules: &[u32; 32768], count: usize) {
+fn write_rules(rt: &impl Print, source: &[u8], rules: &[u32; 32768], count: usize) {
     let mut p = Place {
         at: 0,
         line: 1,
@@ -123,6 +127,7 @@ fn write_rules(source: &[u8], rules: &[u32; 32768], count: usize) {
         let at = i * 8;
         p = place_of(source, p, rules[at]);
         write_rule(
+            rt,
             text_of(source, rules[at], rules[at + 1]),
             p,
             rules[at + 4],
@@ -144,34 +149,70 @@ fn first_events(list: &[u32], count: usize) -> &[u32] {
 }
 
 // A rule takes 19 bytes or more, so there is room for all of them.
-fn list_rules(source: &[u8], events: &[u32]) {
+fn list_rules(rt: &impl Print, err: &impl Print, source: &[u8], events: &[u32]) {
     let mut room = [0u32; 32768];
     match outline::rules(events, &mut room) {
-        Listed::Malformed => say_refusal(9),
-        Listed::Broken => say_refusal(15),
-        Listed::Full => say_refusal(14),
-        Listed::Entries(count) => write_rules(source, &room, count),
+        Listed::Malformed => say_refusal(err, 9),
+        Listed::Broken => say_refusal(err, 15),
+        Listed::Full => say_refusal(err, 14),
+        Listed::Entries(count) => write_rules(rt, source, &room, count),
     }
 }
 
-// 2,049 words of scratch are what 65,536 rows ask for.
-fn read_rows(source: &[u8], ids: &[u32], starts: &[u32], ends: &[u32]) {
-    let mut scratch = [0u64; 2049];
-    let mut events = [0u32; 524288];
-    let mut errors = [0u32; 65536];
-    let reading = desk::read::read(
+// As arrays, so that their lengths are known from their types. 2,049 words of scratch are what 65,536 rows ask for.
+fn read_into(
+    source: &[u8],
+    ids: &[u32],
+    starts: &[u32],
+    ends: &[u32],
+    scratch: &mut [u64; 2049],
+    events: &mut [u32; 524288],
+    errors: &mut [u32; 65536],
+) -> Reading {
+    desk::read::read(
         source,
         ids,
         starts,
         ends,
         FUEL,
         desk::read::base(),
+        scratch,
+        events,
+        errors,
+    )
+}
+
+fn list_read(
+    rt: &impl Print,
+    err: &impl Print,
+    source: &[u8],
+    events: &[u32; 524288],
+    count: usize,
+) {
+    list_rules(rt, err, source, first_events(events, count));
+}
+
+fn read_rows(
+    rt: &impl Print,
+    err: &impl Print,
+    source: &[u8],
+    ids: &[u32],
+    starts: &[u32],
+    ends: &[u32],
+) {
+    let mut scratch = [0u64; 2049];
+    let mut events = [0u32; 524288];
+    let mut errors = [0u32; 65536];
+    match read_into(
+        source,
+        ids,
+        starts,
+        ends,
         &mut scratch,
         &mut events,
         &mut errors,
-    );
-    match reading {
-        Reading::Refused(number) => say_refusal(number),
+    ) {
+        Reading::Refused(number) => say_refusal(err, number),
         Reading::Answered {
             outcome,
             covered: _,
@@ -179,49 +220,68 @@ fn read_rows(source: &[u8], ids: &[u32], starts: &[u32], ends: &[u32]) {
             errors: _,
             left: _,
         } => {
-            list_rules(source, first_events(&events, count));
+            list_read(rt, err, source, &events, count);
             if outcome != 0 {
-                say(b"names: the reading was stopped, so rules may be missing\n");
+                say(
+                    err,
+                    b"names: the reading was stopped, so rules may be missing\n",
+                );
             }
         }
     }
 }
 
-fn read_within(source: &[u8], ids: &[u32], starts: &[u32], ends: &[u32], count: usize)
+fn read_within(
+    rt: &impl Print,
+    err: &impl Print,
+    source: &[u8],
+    ids: &[u32],
+    starts: &[u32],
+    ends: &[u32],
+    count: usize,
+)
     requires { (65536 ≤ length ids.now) × (65536 ≤ length starts.now) × (65536 ≤ length ends.now) }
 {
     if MOST_BYTES < count {
-        say_refusal(13);
+        say_refusal(err, 13);
         return;
     }
-    read_rows(source, &ids[..count], &starts[..count], &ends[..count]);
+    read_rows(
+        rt,
+        err,
+        source,
+        &ids[..count],
+        &starts[..count],
+        &ends[..count],
+    );
 }
 
 // There is at most one row a byte, so lists of this length have room for all rows.
-fn cut_source(source: &[u8]) {
+fn cut_source(rt: &impl Print, err: &impl Print, source: &[u8]) {
     let mut ids = [0u32; 65536];
     let mut starts = [0u32; 65536];
     let mut ends = [0u32; 65536];
     match cutter::cut(source, &mut ids, &mut starts, &mut ends) {
-        Cut::Refused(number) => say_refusal(number),
-        Cut::Rows(count) => read_within(source, &ids, &starts, &ends, count as usize),
+        Cut::Refused(number) => say_refusal(err, number),
+        Cut::Rows(count) => read_within(rt, err, source, &ids, &starts, &ends, count as usize),
     }
 }
 
-fn cut_within(size: usize, source: &[u8])
+fn cut_within(rt: &impl Print, err: &impl Print, size: usize, source: &[u8])
     requires { 65536 ≤ length source.now }
 {
     if MOST_BYTES < size {
-        say(b"names: the file has more than 65,536 bytes\n");
+        say(err, b"names: the file has more than 65,536 bytes\n");
         return;
     }
-    cut_source(&source[..size]);
+    cut_source(rt, err, &source[..size]);
 }
 
-fn main() {
+fn main(rt: HostRuntime) {
+    let err = rt.stderr();
     let mut source = [0u8; 65537];
-    match read_source(STDIN_FILENO, &mut source) {
-        Source::Unreadable => say(b"names: the file cannot be read\n"),
-        Source::Bytes(size) => cut_within(size, &source),
+    match read_source(&mut rt.reader(), &mut source) {
+        Source::Unreadable => say(&err, b"names: the file cannot be read\n"),
+        Source::Bytes(size) => cut_within(&rt, &err, size, &source),
     }
 }

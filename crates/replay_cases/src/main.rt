@@ -1,18 +1,16 @@
 // Runs the lines of a day and its replay on texts, with what becomes of each file given by its line's number; `stdout` has what document 02 and
 // docs/DECISIONS.md ask for, written by hand.
+#![tactic(auto)]
+
 ghost use Rattle.replay.specs.Answer.{Again};
 
-use libc::STDOUT_FILENO;
+use console::{print_decimal, write};
 use listing::piece_end;
 use replay::{Answer, Fate, File, Line, Replayed, Tally, Written};
 
-fn write(text: &[u8]) {
-    io::write_all(STDOUT_FILENO, text);
-}
-
-fn field(n: u64) {
-    write(b" ");
-    io::print_decimal(STDOUT_FILENO, n);
+fn field(rt: &impl Print, n: u64) {
+    write(rt, b" ");
+    print_decimal(rt, n);
 }
 
 // The first bytes, as many as there are.
@@ -23,66 +21,66 @@ fn first(bytes: &[u8], n: usize) -> &[u8] {
     &bytes[..n]
 }
 
-fn show_answer(a: Answer) {
+fn show_answer(rt: &impl Print, a: Answer) {
     match a {
         Answer::Done(errors) => {
-            write(b" done");
-            field(errors as u64);
+            write(rt, b" done");
+            field(rt, errors as u64);
         }
         Answer::Spent(errors) => {
-            write(b" spent");
-            field(errors as u64);
+            write(rt, b" spent");
+            field(rt, errors as u64);
         }
         Answer::Deep(errors) => {
-            write(b" deep");
-            field(errors as u64);
+            write(rt, b" deep");
+            field(rt, errors as u64);
         }
         Answer::Refused(number) => {
-            write(b" refused");
-            field(number as u64);
+            write(rt, b" refused");
+            field(rt, number as u64);
         }
     }
 }
 
 // What a line reads to: the length of its name, the file's size, the edition, and the answer.
-fn read(line: &[u8]) {
+fn read(rt: &impl Print, line: &[u8]) {
     match replay::read_line(line) {
-        Line::Unread => write(b"unread"),
+        Line::Unread => write(rt, b"unread"),
         Line::Entry {
             to,
             size,
             edition,
             answer,
         } => {
-            write(b"entry");
-            field(to as u64);
-            field(size as u64);
-            field(edition as u64);
-            show_answer(answer);
+            write(rt, b"entry");
+            field(rt, to as u64);
+            field(rt, size as u64);
+            field(rt, edition as u64);
+            show_answer(rt, answer);
         }
     }
-    write(b"\n");
+    write(rt, b"\n");
 }
 
-fn show_written(w: Written, room: &[u8]) {
+fn show_written(rt: &impl Print, w: Written, room: &[u8]) {
     match w {
-        Written::Unwritable => write(b"unwritable\n"),
-        Written::Full => write(b"full\n"),
-        Written::Length(n) => write(first(room, n)),
+        Written::Unwritable => write(rt, b"unwritable\n"),
+        Written::Full => write(rt, b"full\n"),
+        Written::Length(n) => write(rt, first(room, n)),
     }
 }
 
-fn enter(name: &[u8], size: u32, edition: u32, answer: Answer, room: &mut [u8]) {
+fn enter(rt: &impl Print, name: &[u8], size: u32, edition: u32, answer: Answer, room: &mut [u8]) {
     let w = replay::entry_line(name, size, edition, answer, room);
-    show_written(w, room);
+    show_written(rt, w, room);
 }
 
-fn compare(recorded: Answer, new: Answer) {
+fn compare(rt: &impl Print, recorded: Answer, new: Answer) {
     if replay::differs(recorded, new) {
-        write(b"differ\n");
+        write(rt, b"differ\n");
         return;
     }
-    write(b"same\n");
+    write(rt, b"same\n");
 }
 
 // By rule 0 every file is read as it was recorded; by rule 1 the answer has as many errors as its line's number, by rule 2 the reading runs out of fuel from
@@ -110,15 +108,15 @@ fn fate_at(rule: u32, line: u64, recorded: Answer) -> Fate {
     }
 }
 
-fn show_file(loud: bool, name: &[u8], file: File) {
+fn show_file(rt: &impl Print, loud: bool, name: &[u8], file: File) {
     if loud {
         let mut room = [0u8; 256];
         let w = replay::file_line(name, file, &mut room);
-        show_written(w, &room);
+        show_written(rt, w, &room);
     }
 }
 
-fn replay_by(rule: u32, loud: bool, text: &[u8]) -> Replayed
+fn replay_by(rt: &impl Print, rule: u32, loud: bool, text: &[u8]) -> Replayed
     ensures { Again text.now result }
 {
     let mut tally = replay::none();
@@ -145,7 +143,7 @@ fn replay_by(rule: u32, loud: bool, text: &[u8]) -> Replayed
             recorded: answer,
             fate,
         };
-        show_file(loud, name, file);
+        show_file(rt, loud, name, file);
         tally = replay::with_file(tally, file);
         line += 1;
         at = to + 1;
@@ -153,99 +151,101 @@ fn replay_by(rule: u32, loud: bool, text: &[u8]) -> Replayed
     Replayed::All(tally)
 }
 
-fn write_tally(t: Tally) {
+fn write_tally(rt: &impl Print, t: Tally) {
     let mut room = [0u8; 256];
     let n = replay::totals_line(t, &mut room);
-    write(&room[..n]);
+    write(rt, &room[..n]);
 }
 
-fn write_refusal(line: u64) {
+fn write_refusal(rt: &impl Print, line: u64) {
     let mut room = [0u8; 256];
     let n = replay::bad_line(line, &mut room);
-    write(&room[..n]);
+    write(rt, &room[..n]);
 }
 
-fn show(rule: u32, loud: bool, text: &[u8]) {
-    match replay_by(rule, loud, text) {
-        Replayed::All(tally) => write_tally(tally),
+fn show(rt: &impl Print, rule: u32, loud: bool, text: &[u8]) {
+    match replay_by(rt, rule, loud, text) {
+        Replayed::All(tally) => write_tally(rt, tally),
         Replayed::BadLine(line, tally) => {
-            write_tally(tally);
-            write_refusal(line);
+            write_tally(rt, tally);
+            write_refusal(rt, line);
         }
     }
 }
 
-fn read_lines() {
-    read(b"a.yar\t22\t1\tR\t0\t0");
-    read(b"a.yar\t22\t1\tR\t1\t3");
-    read(b"a.yar\t22\t1\tR\t2\t3");
-    read(b"a.yar\t22\t2\tF\t7\t0");
-    read(b"a b\r.yar\t0022\t02\tR\t00\t001");
-    read(b"\t4294967295\t4294967295\tF\t4294967295\t0");
+fn read_lines(rt: &impl Print) {
+    read(rt, b"a.yar\t22\t1\tR\t0\t0");
+    read(rt, b"a.yar\t22\t1\tR\t1\t3");
+    read(rt, b"a.yar\t22\t1\tR\t2\t3");
+    read(rt, b"a.yar\t22\t2\tF\t7\t0");
+    read(rt, b"a b\r.yar\t0022\t02\tR\t00\t001");
+    read(rt, b"\t4294967295\t4294967295\tF\t4294967295\t0");
     // A tab in the name is a field too many; a field too few, an empty line.
-    read(b"a\tb.yar\t22\t1\tR\t0\t0");
-    read(b"a.yar\t22\t1\tR\t0");
-    read(b"");
+    read(rt, b"a\tb.yar\t22\t1\tR\t0\t0");
+    read(rt, b"a.yar\t22\t1\tR\t0");
+    read(rt, b"");
     // No outcome, no letter, a refused file with errors.
-    read(b"a.yar\t22\t1\tR\t3\t0");
-    read(b"a.yar\t22\t1\tX\t0\t0");
-    read(b"a.yar\t22\t1\tRR\t0\t0");
-    read(b"a.yar\t22\t1\t\t0\t0");
-    read(b"a.yar\t22\t1\tF\t7\t1");
+    read(rt, b"a.yar\t22\t1\tR\t3\t0");
+    read(rt, b"a.yar\t22\t1\tX\t0\t0");
+    read(rt, b"a.yar\t22\t1\tRR\t0\t0");
+    read(rt, b"a.yar\t22\t1\t\t0\t0");
+    read(rt, b"a.yar\t22\t1\tF\t7\t1");
     // Numbers.
-    read(b"a.yar\t4294967296\t1\tR\t0\t0");
-    read(b"a.yar\t22\t-1\tR\t0\t0");
-    read(b"a.yar\t22\t\tR\t0\t0");
-    read(b"a.yar\t22\t1\tR\t0\t0\r");
-    read(b"a.yar\t22\t1\tR\t0\t0\t");
+    read(rt, b"a.yar\t4294967296\t1\tR\t0\t0");
+    read(rt, b"a.yar\t22\t-1\tR\t0\t0");
+    read(rt, b"a.yar\t22\t\tR\t0\t0");
+    read(rt, b"a.yar\t22\t1\tR\t0\t0\r");
+    read(rt, b"a.yar\t22\t1\tR\t0\t0\t");
 }
 
-fn write_lines() {
+fn write_lines(rt: &impl Print) {
     let mut room = [0u8; 100];
-    enter(b"a.yar", 22, 1, Answer::Done(0), &mut room);
-    enter(b"a.yar", 0, 2, Answer::Spent(1), &mut room);
+    enter(rt, b"a.yar", 22, 1, Answer::Done(0), &mut room);
+    enter(rt, b"a.yar", 0, 2, Answer::Spent(1), &mut room);
     enter(
+        rt,
         b"",
         4294967295,
         4294967295,
         Answer::Deep(4294967295),
         &mut room,
     );
-    enter(b"a b\r.yar", 22, 1, Answer::Refused(20), &mut room);
-    enter(b"a\tb.yar", 22, 1, Answer::Done(0), &mut room);
-    enter(b"a\nb.yar", 22, 1, Answer::Done(0), &mut room);
+    enter(rt, b"a b\r.yar", 22, 1, Answer::Refused(20), &mut room);
+    enter(rt, b"a\tb.yar", 22, 1, Answer::Done(0), &mut room);
+    enter(rt, b"a\nb.yar", 22, 1, Answer::Done(0), &mut room);
     // Thirteen bytes of name and 87 more are just 100.
-    enter(b"0123456789abc", 22, 1, Answer::Done(0), &mut room);
-    enter(b"0123456789abcd", 22, 1, Answer::Done(0), &mut room);
+    enter(rt, b"0123456789abc", 22, 1, Answer::Done(0), &mut room);
+    enter(rt, b"0123456789abcd", 22, 1, Answer::Done(0), &mut room);
 }
 
-fn compare_answers() {
-    compare(Answer::Done(2), Answer::Done(2));
-    compare(Answer::Done(2), Answer::Done(3));
-    compare(Answer::Done(2), Answer::Spent(2));
-    compare(Answer::Spent(2), Answer::Deep(2));
-    compare(Answer::Deep(7), Answer::Refused(7));
-    compare(Answer::Refused(7), Answer::Refused(7));
-    compare(Answer::Refused(7), Answer::Refused(8));
+fn compare_answers(rt: &impl Print) {
+    compare(rt, Answer::Done(2), Answer::Done(2));
+    compare(rt, Answer::Done(2), Answer::Done(3));
+    compare(rt, Answer::Done(2), Answer::Spent(2));
+    compare(rt, Answer::Spent(2), Answer::Deep(2));
+    compare(rt, Answer::Deep(7), Answer::Refused(7));
+    compare(rt, Answer::Refused(7), Answer::Refused(7));
+    compare(rt, Answer::Refused(7), Answer::Refused(8));
 }
 
-fn replay_days() {
+fn replay_days(rt: &impl Print) {
     let day =
         b"a\t22\t1\tR\t0\t0\nb\t22\t1\tR\t0\t2\nc\t22\t1\tF\t1\t0\nd\t22\t1\tR\t1\t0\ne\t22\t1\tR\t2\t0\nf\t22\t1\tR\t0\t0\ng\t22\t1\tR\t0\t1\n";
-    show(0, true, b"");
-    show(0, true, day);
-    show(1, true, day);
-    show(2, true, day);
-    show(3, true, day);
-    show(4, true, day);
+    show(rt, 0, true, b"");
+    show(rt, 0, true, day);
+    show(rt, 1, true, day);
+    show(rt, 2, true, day);
+    show(rt, 3, true, day);
+    show(rt, 4, true, day);
     // The third line has a tab in its name; the last line is not ended; the first line is empty.
     show(
+        rt,
         0,
         true,
         b"a\t22\t1\tR\t0\t0\nb\t22\t1\tF\t4\t0\nc\tc\t22\t1\tR\t0\t0\nd\t22\t1\tR\t0\t0\n",
     );
-    show(0, true, b"a\t22\t1\tR\t0\t0\nb\t22\t1\tR\t0\t0");
-    show(0, true, b"\na\t22\t1\tR\t0\t0\n");
+    show(rt, 0, true, b"a\t22\t1\tR\t0\t0\nb\t22\t1\tR\t0\t0");
+    show(rt, 0, true, b"\na\t22\t1\tR\t0\t0\n");
 }
 
 // The lines of a thousand files.
@@ -267,16 +267,16 @@ fn fill(room: &mut [u8]) -> usize {
 }
 
 // A thousand files by sevens: 142 are missing, and 143 become of each other kind.
-fn replay_thousand() {
+fn replay_thousand(rt: &impl Print) {
     let mut text = [0u8; 32768];
     let n = fill(&mut text);
-    show(4, false, first(&text, n));
+    show(rt, 4, false, first(&text, n));
 }
 
-fn main() {
-    read_lines();
-    write_lines();
-    compare_answers();
-    replay_days();
-    replay_thousand();
+fn main(rt: HostRuntime) {
+    read_lines(&rt);
+    write_lines(&rt);
+    compare_answers(&rt);
+    replay_days(&rt);
+    replay_thousand(&rt);
 }

@@ -1,8 +1,10 @@
 // Reads a rule file from standard input and writes the messages of its errors, a line each: line and column from 1, and what is wrong. Its arguments are the
 // name to put before each line and the fuel. It takes what `intake` takes, and has the same rooms.
+#![tactic(auto)]
+
+use console::{argument, print_decimal, read_full, write};
 use cutter::Cut;
 use desk::read::Reading;
-use libc::{STDERR_FILENO, STDIN_FILENO, STDOUT_FILENO};
 use listing::Number;
 use messages::Written;
 
@@ -10,47 +12,43 @@ const MOST_BYTES: usize = 65536;
 
 const MOST_ROWS: usize = 4096;
 
-fn write(text: &[u8]) {
-    io::write_all(STDOUT_FILENO, text);
+fn say(err: &impl Print, text: &[u8]) {
+    write(err, text);
 }
 
-fn say(text: &[u8]) {
-    io::write_all(STDERR_FILENO, text);
-}
-
-fn write_number(n: usize) {
-    io::print_decimal(STDOUT_FILENO, n as u64);
-    write(b":");
+fn write_number(rt: &impl Print, n: usize) {
+    print_decimal(rt, n as u64);
+    write(rt, b":");
 }
 
 // A room of 4,096 bytes has any message: 85 descriptions of at most 18 bytes with their joints, and a found text of at most 15. A record that the reader wrote
 // is never refused.
-fn write_message(name: &[u8], source: &[u8], numbers: &[u32]) {
+fn write_message(rt: &impl Print, name: &[u8], source: &[u8], numbers: &[u32]) {
     let mut room = [0u8; 4096];
     match messages::message(source, numbers, &mut room) {
         Written::Unread => (),
         Written::Full => (),
         Written::Length(n) => {
             let spot = messages::record_spot(source, numbers);
-            write(name);
-            write(b":");
-            write_number(spot.line);
-            write_number(spot.column);
-            write(b" ");
+            write(rt, name);
+            write(rt, b":");
+            write_number(rt, spot.line);
+            write_number(rt, spot.column);
+            write(rt, b" ");
             if n <= 4096 {
-                write(&room[..n]);
+                write(rt, &room[..n]);
             }
-            write(b"\n");
+            write(rt, b"\n");
         }
     }
 }
 
-fn write_messages(name: &[u8], source: &[u8], errors: &[u32], count: u32) {
+fn write_messages(rt: &impl Print, name: &[u8], source: &[u8], errors: &[u32], count: u32) {
     let mut at = 0;
     let mut n: u32 = 0;
     while n < count {
         let rest = &errors[at..];
-        write_message(name, source, rest);
+        write_message(rt, name, source, rest);
         let size = messages::size(rest);
         if rest.len() < size {
             return;
@@ -61,24 +59,33 @@ fn write_messages(name: &[u8], source: &[u8], errors: &[u32], count: u32) {
 }
 
 // A reading that was stopped has not seen the rest of the file, whether it has errors or not.
-fn write_stop(name: &[u8], outcome: u32) {
+fn write_stop(rt: &impl Print, name: &[u8], outcome: u32) {
     if outcome == 1 {
-        write(name);
-        write(b": out of fuel\n");
+        write(rt, name);
+        write(rt, b": out of fuel\n");
     }
     if outcome == 2 {
-        write(name);
-        write(b": too deep\n");
+        write(rt, name);
+        write(rt, b": too deep\n");
     }
 }
 
-fn refused(number: u32) {
-    say(b"tell: the file is refused, number ");
-    io::print_decimal(STDERR_FILENO, number as u64);
-    say(b"\n");
+fn refused(err: &impl Print, number: u32) {
+    say(err, b"tell: the file is refused, number ");
+    print_decimal(err, number as u64);
+    say(err, b"\n");
 }
 
-fn read_rows(name: &[u8], source: &[u8], ids: &[u32], starts: &[u32], ends: &[u32], fuel: u32) {
+fn read_rows(
+    rt: &impl Print,
+    err: &impl Print,
+    name: &[u8],
+    source: &[u8],
+    ids: &[u32],
+    starts: &[u32],
+    ends: &[u32],
+    fuel: u32,
+) {
     let mut scratch = [0u64; 129];
     let mut events = [0u32; 16384];
     let mut errors = [0u32; 16384];
@@ -94,7 +101,7 @@ fn read_rows(name: &[u8], source: &[u8], ids: &[u32], starts: &[u32], ends: &[u3
         &mut errors,
     );
     match reading {
-        Reading::Refused(n) => refused(n),
+        Reading::Refused(n) => refused(err, n),
         Reading::Answered {
             outcome,
             covered: _,
@@ -102,42 +109,55 @@ fn read_rows(name: &[u8], source: &[u8], ids: &[u32], starts: &[u32], ends: &[u3
             errors: count,
             left: _,
         } => {
-            write_messages(name, source, &errors, count);
-            write_stop(name, outcome);
+            write_messages(rt, name, source, &errors, count);
+            write_stop(rt, name, outcome);
         }
     }
 }
 
 // More rows than there is room for are refused as `intake` refuses them.
-fn cut_source(name: &[u8], source: &[u8], fuel: u32) {
+fn cut_source(rt: &impl Print, err: &impl Print, name: &[u8], source: &[u8], fuel: u32) {
     let mut ids = [0u32; 4096];
     let mut starts = [0u32; 4096];
     let mut ends = [0u32; 4096];
     match cutter::cut(source, &mut ids, &mut starts, &mut ends) {
-        Cut::Refused(_) => refused(1),
+        Cut::Refused(_) => refused(err, 1),
         Cut::Rows(count) => {
             let n = count as usize;
             if n <= MOST_ROWS {
-                read_rows(name, source, &ids[..n], &starts[..n], &ends[..n], fuel);
+                read_rows(
+                    rt,
+                    err,
+                    name,
+                    source,
+                    &ids[..n],
+                    &starts[..n],
+                    &ends[..n],
+                    fuel,
+                );
             }
         }
     }
 }
 
-fn main() {
+fn main(rt: HostRuntime) {
+    let err = rt.stderr();
     let mut name = [0u8; 4096];
-    let length = os::arg(1, &mut name);
+    let length = argument(&rt, 1, &mut name);
     let mut text = [0u8; 32];
-    let digits = os::arg(2, &mut text);
+    let digits = argument(&rt, 2, &mut text);
     let Number::Is(fuel) = listing::read_number(&text[..digits]) else {
-        say(b"tell: give a name and the fuel, a number of 32 bits\n");
+        say(
+            &err,
+            b"tell: give a name and the fuel, a number of 32 bits\n",
+        );
         return;
     };
     let mut source = [0u8; 65537];
-    let size = io::read_full(STDIN_FILENO, &mut source);
+    let size = read_full(&mut rt.reader(), &mut source);
     if MOST_BYTES < size {
-        refused(1);
+        refused(&err, 1);
         return;
     }
-    cut_source(&name[..length], &source[..size], fuel);
+    cut_source(&rt, &err, &name[..length], &source[..size], fuel);
 }

@@ -3,16 +3,21 @@
 // counts of events and of error records. Behind them stand the source's bytes, the rows' ids, the bounds of the rows (0, then each row's end), the events
 // and the error records; an event has four numbers there and a record no item, since the Rust tells neither depth nor item. The program writes the number
 // of each line that differs or does not read, then how many vectors there are and how many agree.
+#![tactic(auto)]
+
 ghost use Rattle.std.specs.Prelude.{◌+◌, ◌<◌, ◌≤◌, length};
 ghost use Rattle.shapes.specs.Shapes.{EVENT};
 
+use console::{print_decimal, write};
 use desk::read::Reading;
 use kinds::kind;
-use libc::STDOUT_FILENO;
 use listing::{Next, Number};
 use shapes::event::{END, EVENT, KIND, START};
 use shapes::record::{ITEM, next_record};
 use shapes::sort;
+use std::fs;
+use std::fs::File;
+use std::os::unix::fs::FileExt;
 
 // How many numbers a vector begins with.
 const HEAD: usize = 8;
@@ -26,7 +31,7 @@ const MOST_BYTES: usize = 8192;
 // The file is read no further. It is far shorter, but a proved loop has to end.
 const MOST_FILE: usize = 0x1000_0000;
 
-#[derive(Drop)]
+#[derive(Clone, Copy)]
 struct Tally {
     lines: u64,
     agree: u64,
@@ -338,26 +343,26 @@ fn line_agrees(line: &[u8]) -> bool {
     vector_agrees(&cells[..n])
 }
 
-fn write_line(number: u64) {
-    io::write_all(STDOUT_FILENO, b"line ");
-    io::print_decimal(STDOUT_FILENO, number);
-    io::write_all(STDOUT_FILENO, b"\n");
+fn write_line(rt: &impl Print, number: u64) {
+    write(rt, b"line ");
+    print_decimal(rt, number);
+    write(rt, b"\n");
 }
 
 // One line more, and whether it agrees. No file has so many lines that a count wraps.
-fn counted(t: Tally, agrees: bool) -> Tally {
+fn counted(rt: &impl Print, t: Tally, agrees: bool) -> Tally {
     let mut next = t;
-    next.lines = std::num::wrapping_add_u64(t.lines, 1);
+    next.lines = t.lines.wrapping_add(1);
     if agrees {
-        next.agree = std::num::wrapping_add_u64(t.agree, 1);
+        next.agree = t.agree.wrapping_add(1);
         return next;
     }
-    write_line(next.lines);
+    write_line(rt, next.lines);
     next
 }
 
 // The lines whose ends are in the bytes.
-fn take_lines(first: Tally, bytes: &[u8]) -> Tally
+fn take_lines(rt: &impl Print, first: Tally, bytes: &[u8]) -> Tally
     ensures { result.at ≤ length bytes.now }
 {
     let mut t = first;
@@ -366,45 +371,52 @@ fn take_lines(first: Tally, bytes: &[u8]) -> Tally
         let Next::Whole { to, next } = listing::next_line(bytes, at) else {
             break;
         };
-        t = counted(t, line_agrees(&bytes[at..to]));
+        t = counted(rt, t, line_agrees(&bytes[at..to]));
         at = next;
     }
     t.at = at;
     t
 }
 
-// The file in pieces, each from the first line on that did not end in the piece before. A line that lacks its end, or has no place in the buffer, does not
-// read, and is the last.
-fn take_file(fd: i32) -> Tally {
-    let mut t = Tally {
+// Before the first line.
+fn none() -> Tally {
+    Tally {
         lines: 0,
         agree: 0,
         at: 0,
-    };
+    }
+}
+
+// The file in pieces, each from the first line on that did not end in the piece before. A line that lacks its end, or has no place in the buffer, does not
+// read, and is the last.
+fn take_file(rt: &impl Print, file: &File) -> Tally {
+    let mut t = none();
     let mut buffer = [0u8; 16384];
     let mut from = 0;
     while from < MOST_FILE {
-        let got = libc::pread(fd, &mut buffer, from as i64);
-        let n = io::count(got, &buffer);
+        let Ok(n) = file.read_at(&mut buffer, from as u64) else {
+            return t;
+        };
         if n == 0 {
             return t;
         }
-        t = take_lines(t, &buffer[..n]);
+        t = take_lines(rt, t, &buffer[..n]);
         let taken = t.at;
         if taken == 0 {
-            return counted(t, false);
+            return counted(rt, t, false);
         }
         from += taken;
     }
     t
 }
 
-fn main() {
-    let fd = os::open_read(b"vectors.txt");
-    let t = take_file(fd);
-    libc::close(fd);
-    io::print_decimal(STDOUT_FILENO, t.lines);
-    io::write_all(STDOUT_FILENO, b" vectors, ");
-    io::print_decimal(STDOUT_FILENO, t.agree);
-    io::write_all(STDOUT_FILENO, b" agree\n");
+fn main(rt: HostRuntime) {
+    let mut t = none();
+    if let Ok(file) = fs::open(&rt, "vectors.txt") {
+        t = take_file(&rt, &file);
+    }
+    print_decimal(&rt, t.lines);
+    write(&rt, b" vectors, ");
+    print_decimal(&rt, t.agree);
+    write(&rt, b" agree\n");
 }

@@ -1,0 +1,11 @@
+-- `read_room` is safe and ends: each turn has more bytes.
+use Prim.Native.Nat.{◌≤◌, ◌-◌}
+use mathlib.Core.Path.{◌≡◌}
+use lib.ListN.{length}
+use Rattle.day.proofs.read_room.Given as goal
+
+abbrev pub invariant-loop-size : goal.invariant-loop-size
+invariant-loop-size _ l = (l.size ≤ length l.initial.room) × (length l.room ≡ length l.initial.room)
+
+abbrev pub decreases-loop-size : goal.decreases-loop-size
+decreases-loop-size _ l = length l.initial.room - l.size

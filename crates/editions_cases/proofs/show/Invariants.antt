@@ -1,0 +1,10 @@
+-- `show` is safe and ends.
+use Prim.Native.Nat.{◌≤◌, ◌-◌}
+use lib.ListN.{length}
+use Rattle.editions_cases.proofs.show.Given as goal
+
+abbrev pub invariant-loop-i : goal.invariant-loop-i
+invariant-loop-i _ l = l.i ≤ length l.room
+
+abbrev pub decreases-loop-i : goal.decreases-loop-i
+decreases-loop-i _ l = length l.room - l.i
