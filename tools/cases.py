@@ -14,20 +14,18 @@ SORTS = {"B": 1, "T": 2, "E": 3}
 WORDS = {"GLOBAL_KW", "PRIVATE_KW", "RULE_KW", "IMPORT_KW", "INCLUDE_KW"}
 HEAD = """-- Answers to a dozen files, events and error records whole, of a copy of the Rust that keeps empty ERROR nodes (decision 1). But for these nodes they are
 -- the Rust's own, which is run (compare/, `run cases`). tools/cases.py writes this file from the listings in compare/cases.
-use Prim.Native.Nat.{ℕ}
-use mathlib.Core.List.{List, [], _∷_}
-use mathlib.Core.Bool.{Bool, true, _&&_}
-use Rattle·kinds.specs.Kinds as k
-use Rattle·definition·specs.specs.Run.{base}
-use Rattle·definition·specs.specs.Answer.{after, filled}
-use Rattle·definition·specs.specs.Table.{same, Case, desk, agrees}
+use Rattle.std.specs.Prelude.{ℕ, List, [], ◌∷◌, Bool, true, ◌&&◌}
+use Rattle.kinds.specs.Kinds as k
+use Rattle.definition.specs.Run.{base}
+use Rattle.definition.specs.Answer.{after, filled}
+use Rattle.definition.specs.Table.{same, Case, desk, agrees}
 
 -- a case, and its events
 abbrev pub Outside : Type 0
 Outside = Case × List ℕ
 
 abbrev pub outside : Outside → Bool
-outside c = let a = after base (desk (c .0) 1024 64) in agrees (c .0) a && same (a .events) (filled (c .1) (a .events))
+outside c = let a = after base (desk c.0 1024 64) in agrees c.0 a && same a.events (filled c.1 a.events)
 
 abbrev pub each : List Outside → Bool
 each [] = true
@@ -37,7 +35,7 @@ each (c ∷ cs) = outside c && each cs
 
 def name(word):
     """A kind, id or name of docs/KINDS.md as the definitions spell it."""
-    return "k." + word.split()[-1].upper().replace("_", "-")
+    return "k." + word.split()[-1].upper()
 
 
 def chain(words, indent):
@@ -73,7 +71,7 @@ def case(folder, stem):
             depth += f[0] == "B"
     outcome, covered, left = fields(folder / f"{stem}.raw")[-1][1:]
     text = (folder / f"{stem}.yar").read_text().replace("\\", "\\\\").replace('"', '\\"').replace("\n", "\\n")
-    title = stem.split("-", 1)[1]
+    title = stem.split("-", 1)[1].replace("-", "_")
     parts = [
         f'text = "{text}"',
         "ids = " + chain([name(r[1]) for r in rows[1:]], " " * 8),

@@ -6,6 +6,7 @@ that the tables follow the definition is proved, so nothing of what is worked ou
 file is not as it would be written. Ids are those of docs/KINDS.md."""
 import re
 import sys
+import textwrap
 from pathlib import Path
 
 ROOT = Path(__file__).resolve().parent.parent
@@ -216,17 +217,14 @@ def shown(b):
 def ranges(rows, digits):
     out = []
     for lo, hi, c in rows:
-        text = "    %s ∷ %s ∷ %s ∷" % (("0x%%0%dX" % digits) % lo, ("0x%%0%dX" % digits) % hi, c.replace("_", "-"))
+        text = "    %s ∷ %s ∷ %s ∷" % (("0x%%0%dX" % digits) % lo, ("0x%%0%dX" % digits) % hi, c)
         if digits == 2 and lo < 0x80:
             text += "  -- " + (shown(lo) if lo == hi else shown(lo) + " to " + shown(hi))
         out.append(text)
     return "\n".join(out) + "\n    []"
 
 CLASSES_HEAD = """-- The classes of characters, and of the bytes in each mode: ranges, of which the first that fits counts. Written by tools/cutter.py.
-use Prim.Native.Nat.{ℕ, zero, suc}
-use mathlib.Core.List.{List, [], _∷_}
-use mathlib.Core.Bool.{cond, _&&_}
-use lib.Dec.{leb}
+use Rattle.std.specs.Prelude.{ℕ, zero, suc, List, [], ◌∷◌, cond, ◌&&◌, leb}
 
 """
 NOTES = {"OTHER": "a character that no expression names", "INVALID": "a byte that begins no character", "SPACE": "white space as the crate's expression lists it",
@@ -239,34 +237,34 @@ def classes_antt():
     for n in CLASSES:
         if n in NOTES:
             out += "-- " + NOTES[n] + "\n"
-        out += "abbrev pub %s : ℕ\n%s = %d\n\n" % (n.replace("_", "-"), n.replace("_", "-"), C[n])
+        out += "abbrev pub %s : ℕ\n%s = %d\n\n" % (n, n, C[n])
     out += """-- least, greatest and class of each range, one after the other
-abbrev pub classIn : List ℕ → ℕ → ℕ
-classIn [] x = OTHER
-classIn (lo ∷ []) x = OTHER
-classIn (lo ∷ hi ∷ []) x = OTHER
-classIn (lo ∷ hi ∷ c ∷ rows) x = cond (leb lo x && leb x hi) c (classIn rows x)
+abbrev pub class_in : List ℕ → ℕ → ℕ
+class_in [] x = OTHER
+class_in (lo ∷ []) x = OTHER
+class_in (lo ∷ hi ∷ []) x = OTHER
+class_in (lo ∷ hi ∷ c ∷ rows) x = cond (leb lo x && leb x hi) c (class_in rows x)
 
 """
     for n, rows in MODES:
         out += "unfoldable pub %s : List ℕ\n%s =\n%s\n\n" % (n, n, ranges(rows, 2))
     out += """-- the three modes: 0 normal, 1 hex pattern, 2 hex jump
-abbrev pub bytesOf : ℕ → List ℕ
-bytesOf zero = normal
-bytesOf (suc zero) = hex
-bytesOf (suc (suc m)) = jump
+abbrev pub bytes_of : ℕ → List ℕ
+bytes_of zero = normal
+bytes_of (suc zero) = hex
+bytes_of (suc (suc m)) = jump
 
 -- the class of a byte
 unfoldable pub class : ℕ → ℕ → ℕ
-class m b = classIn (bytesOf m) b
+class m b = class_in (bytes_of m) b
 
 -- characters past ASCII, in every mode: white space, and the decimal digits (Unicode's Nd) in runs of ten
 unfoldable pub wides : List ℕ
 wides =
 %s
 
-unfoldable pub wideClass : ℕ → ℕ
-wideClass x = classIn wides x
+unfoldable pub wide_class : ℕ → ℕ
+wide_class x = class_in wides x
 """ % ranges(WIDE, 4)
     return out
 
@@ -275,7 +273,8 @@ def numbers(name, ty, xs):
     line = "const %s: [%s; %d] = [%s];\n" % (name, ty, len(xs), ", ".join(map(str, xs)))
     if len(line) < 100:
         return line
-    return "const %s: [%s; %d] = [\n%s];\n" % (name, ty, len(xs), "".join("    %d,\n" % x for x in xs))
+    lines = textwrap.fill(", ".join(map(str, xs)) + ",", 99, initial_indent="    ", subsequent_indent="    ")
+    return "const %s: [%s; %d] = [\n%s\n];\n" % (name, ty, len(xs), lines)
 
 CLASS_TABLE = [class_in(rows, b) for _, rows in MODES for b in range(256)]
 NEXT = [nxt[s, c] for s in range(S) for c in range(COLUMNS)]
@@ -289,7 +288,7 @@ for j, w in enumerate(KEYWORDS):
 KEYS = [x for w in KEYWORDS for x in ([len(w)] + [ord(c) for c in w] + [0] * (STRIDE - 1 - len(w)))] + SLOTS
 
 def printed(name, xs, per):
-    """A table of bytes as a byte string, so many to a line: the formatter lays an array out one entry to a line."""
+    """A table of bytes as a byte string, so many to a line."""
     lines = []
     for i in range(0, len(xs), per):
         lines.append("".join(chr(x) if 0x61 <= x <= 0x7A else "\\x%02X" % x for x in xs[i:i + per]))
@@ -310,11 +309,10 @@ def listed(name, xs):
 
 def words_antt():
     out = """-- The code's tables as lists, and a word that leads to each state. Written by tools/cutter.py; nothing of it has to be believed.
-use Prim.Native.Nat.{ℕ}
-use mathlib.Core.List.{List, [], _∷_}
+use Rattle.std.specs.Prelude.{ℕ, List, [], ◌∷◌}
 
 """
-    out += listed("classTable", CLASS_TABLE) + "\n" + listed("nextTable", NEXT) + "\n" + listed("endTable", ACCEPT) + "\n" + listed("keyTable", KEYS) + "\n"
+    out += listed("class_table", CLASS_TABLE) + "\n" + listed("next_table", NEXT) + "\n" + listed("end_table", ACCEPT) + "\n" + listed("key_table", KEYS) + "\n"
     out += "-- pairs of states: %d times the first, and the second\n" % S + listed("pairs", PAIRS) + "\n"
     out += "-- of each state: the start (0 normal, 1 hex, 2 jump, 3 unknown) and the classes from there\nunfoldable pub words : List (List ℕ)\nwords =\n    [] ∷\n"
     for w in words[1:]:

@@ -11,11 +11,11 @@ PAGE = ROOT / "docs" / "KINDS.md"
 SPECS = ROOT / "crates" / "kinds" / "specs"
 INPUT = ROOT / "crates" / "kinds_page" / "stdin"
 NUMBERS_HEAD = """-- docs/KINDS.md as names for numbers; tools/kinds.py writes this file from that page.
-use Prim.Native.Nat.{ℕ}
+use Rattle.std.specs.Prelude.{ℕ}
 """
 TEXTS_HEAD = """-- docs/KINDS.md as texts by number; tools/kinds.py writes this file from that page.
 use Prim.Native.String.{String}
-use mathlib.Core.List.{List, [], _∷_}
+use Rattle.std.specs.Prelude.{List, [], ◌∷◌}
 """
 
 
@@ -40,8 +40,7 @@ def numbers(t):
     for title, rows in parts:
         out += f"-- {title}\n"
         for n, name in rows:
-            a = name.replace("_", "-")
-            out += f"abbrev pub {a} : ℕ\n{a} = {n}\n\n"
+            out += f"abbrev pub {name} : ℕ\n{name} = {n}\n\n"
     return out.rstrip("\n") + "\n"
 
 

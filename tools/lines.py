@@ -26,7 +26,7 @@ def words(text):
 
 
 def term(ws, level=0):
-    infix = ("∷", "/", "⨟")
+    infix = ("∷", "⫽", "⨟")
     if level == len(infix):
         return application(ws)
     left = term(ws, level + 1)
@@ -38,7 +38,7 @@ def term(ws, level=0):
 
 def application(ws):
     parts = []
-    while ws and ws[0] not in (")", "∷", "/", "⨟"):
+    while ws and ws[0] not in (")", "∷", "⫽", "⨟"):
         word = ws.pop(0)
         if word == "(":
             parts.append(term(ws))
@@ -57,10 +57,10 @@ def defined():
             name, *rest = head.split()
             if name == "grammar":
                 lines[rest[1]] = term(words(body))
-            elif name == "plain-terms":
+            elif name == "plain_terms":
                 if rest == ["true"]:
                     short[name] = (["E"], term(words(body)))
-            elif name not in ("kind", "item-of", "itemOf", "listed", "optionally", "reach"):
+            elif name not in ("kind", "item_of", "listed", "optionally", "reach"):
                 short[name] = (rest, term(words(body)))
     return short, lines
 
@@ -80,24 +80,24 @@ def opened(t, short, known=None):
         return (args[0],) + args[1]
     if head == "map":
         return args[1]
-    if head == "idOf" and args:
+    if head == "id_of" and args:
         return args[0]
     if not args:
         return head.removeprefix("k.")
-    made = {"eat": "Eat", "unless": "Unless", "ifnext": "When", "opt": "Opt", "many": "Many", "then": "Then", "last": "Last", "⨟": "Seq", "/": "Alt", "recover": "Recover", "node": "Node", "memo": "Memo"}
+    made = {"eat": "Eat", "unless": "Unless", "ifnext": "When", "opt": "Opt", "many": "Many", "then": "Then", "last": "Last", "⨟": "Seq", "⫽": "Alt", "recover": "Recover", "node": "Node", "memo": "Memo"}
     return (made[head], *args)
 
 
 # A line as a person reads it.
 
 def spelled(kinds):
-    return kinds[0].replace("-", "_") if len(kinds) == 1 else "(" + " | ".join(k.replace("-", "_") for k in kinds) + ")"
+    return kinds[0] if len(kinds) == 1 else "(" + " | ".join(kinds) + ")"
 
 
 def said(part, inner=False):
     op, rest = part[0], part[1:]
     if op in ("Node", "Memo"):
-        return rest[0].replace("-", "_")
+        return rest[0]
     if op == "Eat":
         return spelled(rest[0])
     if op == "Unless":
@@ -117,15 +117,15 @@ def said(part, inner=False):
 # The comment of a function, by the part that its contract names.
 
 def comment(reads, short, lines):
-    node = re.fullmatch(r"\(?(?:then \()?node G\.([A-Z-]+)\)*", reads)
+    node = re.fullmatch(r"\(?(?:then \()?node G\.([A-Z_]+)\)*", reads)
     if node:
-        return node.group(1).replace("-", "_") + " <- " + said(opened(lines[node.group(1)], short))
-    memo = re.fullmatch(r"\(then \(memo G\.([A-Z-]+)\)\)", reads)
+        return node.group(1) + " <- " + said(opened(lines[node.group(1)], short))
+    memo = re.fullmatch(r"\(then \(memo G\.([A-Z_]+)\)\)", reads)
     if memo:
-        return memo.group(1).replace("-", "_") + ", which is not read again where it failed before."
-    whole = re.fullmatch(r"\(grammar ep G\.([A-Z-]+)\)", reads)
+        return memo.group(1) + ", which is not read again where it failed before."
+    whole = re.fullmatch(r"\(grammar ep G\.([A-Z_]+)\)", reads)
     if whole:
-        return "The alternatives of " + whole.group(1).replace("-", "_") + "."
+        return "The alternatives of " + whole.group(1) + "."
     return said(opened((reads, []), short)) if reads in short else None
 
 
@@ -137,7 +137,7 @@ def written(text, short, lines):
             return m.group(0)
         return "\n".join("// " + part for part in textwrap.wrap(line, 150)) + "\n" + m.group(2)
 
-    return re.sub(r"((?:^// [^\n]*\n)+)(^(?:pub )?fn \w+\(.*?^\{$)", one, text, flags=re.M | re.S)
+    return re.sub(r"((?:^// [^\n]*\n)+)((?:^#\[[^\n]*\]\n)*^(?:pub )?fn \w+\(.*?^\{$)", one, text, flags=re.M | re.S)
 
 
 def main():

@@ -12,7 +12,7 @@ from pathlib import Path
 ROOT = Path(__file__).resolve().parent.parent
 PATH = re.compile(r"(?:crates/(\w+)(?:/|\b))?((?:specs|proofs|src)/\w+(?:\.\w+)?)?")
 WORDS = {"requires", "ensures"}
-NAME = re.compile(r"`((?:P\.)?[A-Za-z][\w′-]*)`")
+NAME = re.compile(r"`((?:P\.)?[A-Za-z][\w'-]*)`")
 
 
 def files(text):
@@ -25,7 +25,7 @@ def files(text):
             found += [p for p in named if p.is_file()] or stems[:1]
         elif crate:
             folder = ROOT / "crates" / crate
-            found += sorted(folder.rglob("*.antt")) + sorted(folder.rglob("*.rt"))
+            found += [p for part in ("specs", "proofs", "src") for ending in ("antt", "rt") for p in sorted((folder / part).rglob(f"*.{ending}"))]
     return found
 
 
@@ -37,7 +37,7 @@ def declared(name, path):
     if path.suffix == ".rt":
         return re.search(rf"\b(?:fn|struct|enum|const) {re.escape(name)}\b", text) is not None
     head = r"^\s*(?!--)(?:(?:abbrev|unfoldable|pub) )*"
-    several = rf"(?:[\w′-]+ )*{re.escape(name)}(?: [\w′-]+)* :(?: |$)"
+    several = rf"(?:[\w'-]+ )*{re.escape(name)}(?: [\w'-]+)* :(?: |$)"
     return re.search(rf"{head}(?:{several}|(?:record|data) {re.escape(name)}\b)", text, re.M) is not None
 
 

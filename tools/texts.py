@@ -4,6 +4,7 @@
 Nothing of it is believed: a check computes that the two are the same. With --check it writes nothing, and fails at the first that does not agree."""
 import re
 import sys
+import textwrap
 from pathlib import Path
 
 ROOT = Path(__file__).resolve().parent.parent
@@ -15,15 +16,14 @@ JOINTS = [", ", " or ", ", found `", "`", ", found end of file", "expecting ", "
           "expecting import statement or rule definition"]
 TEXTS_HEAD = """-- The name text's parts by number: what a name is called, then joints and sentences; tools/texts.py writes this file from docs/KINDS.md.
 use Prim.Native.String.{String}
-use mathlib.Core.List.{List, [], _∷_}
+use Rattle.std.specs.Prelude.{List, [], ◌∷◌}
 
 -- a token id that has one spelling is described by it in backquotes; then "expression", "operator" and "pattern modifier"
 """
 TEXT_HEAD = """// The name text; tools/texts.py writes this file from docs/KINDS.md.
-ghost use mathlib.Core.Path.{_≡_};
-ghost use lib.ListN.{getD};
-ghost use Rattle·kinds.specs.Answers.{starts};
-ghost use Rattle·messages·specs.specs.Pieces.{texts};
+ghost use Rattle.std.specs.Prelude.{◌≡◌, get_or};
+ghost use Rattle.kinds.specs.Answers.{starts};
+ghost use Rattle.messages.specs.Pieces.{texts};
 
 """
 
@@ -59,11 +59,11 @@ def laid_out(texts):
     for t in texts:
         begins.append(begins[-1] + len(t))
     body = "\\\n      ".join(quoted(line) for line in lines(texts))
-    numbers = "".join(f"    {b},\n" for b in begins)
+    numbers = textwrap.fill(", ".join(map(str, begins)) + ",", 99, initial_indent="    ", subsequent_indent="    ")
     return (
         TEXT_HEAD + f"// Descriptions, joints and sentences, one after the other.\npub const TEXT: [u8; {begins[-1]}] =\n    *b\"{body}\";\n\n"
-        f"// Where each begins; the last number is where the last ends.\nconst BEGINS: [usize; {len(begins)}] = [\n{numbers}];\n\n"
-        "// Past the last there is 0.\npub fn begins(n: usize) -> usize\n    ensures { λ r. ⌜ r ≡ getD (starts 0 texts) n 0 ⌝ }\n{\n"
+        f"// Where each begins; the last number is where the last ends.\nconst BEGINS: [usize; {len(begins)}] = [\n{numbers}\n];\n\n"
+        "// Past the last there is 0.\npub fn begins(n: usize) -> usize\n    ensures { result ≡ get_or (starts 0 texts) n 0 }\n{\n"
         f"    if n < {len(begins)} {{\n        return BEGINS[n];\n    }}\n    0\n}}\n")
 
 

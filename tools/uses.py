@@ -1,9 +1,9 @@
 #!/usr/bin/env python3
 """uses.py [--check] [CRATE..]: the names in `use` lines of .antt and .rt files that the rest of the file never mentions; all crates where none is named.
-uses.py --fix CRATE..: takes them out. Then `rt check CRATE..` says whether one was needed after all.
+uses.py --fix CRATE..: takes them out. Then `rt check` in the crate's folder says whether one was needed after all.
 
---check ends with 1 where there is one. A mixfix name (`_≡_`) is mentioned where each of its parts stands; an alias (`as tie`) where it stands before a dot.
-Lines that pass a name on (`pub use`) are left alone, and so are proofs that carry a digest of their answers: tools/prove.py and tools/cycle.py write them whole.
+--check ends with 1 where there is one. A mixfix name (`◌≡◌`) is mentioned where each of its parts stands; an alias (`as o`) where it stands before a dot.
+Lines that pass a name on (`pub use`) are left alone.
 """
 import re
 import sys
@@ -14,7 +14,9 @@ LIST = re.compile(r"^(\s*(?:ghost )?use [^{}]*\.)\{([^{}]*)\}(;?)$")
 ALIAS = re.compile(r"^\s*(?:ghost )?use \S+ as (\S+?);?$")
 PATH = re.compile(r"^use (?:\w+::)+(\w+);$")
 COMMENT = {".antt": re.compile(r"(^|\s)--(?=\s|$).*"), ".rt": re.compile(r"(^|\s)//.*")}
-BREAKS = re.compile(r"[\s(){}\[\],;.:&!*λ⌜⌝⟦⟧←]+")
+BREAKS = re.compile(r"[\s(){}\[\],;.:&!*<>λ←]+")
+# Traits of std whose methods are called and whose names stand nowhere else.
+TRAITS = {"Env", "FileExt"}
 USE = re.compile(r"^\s*(?:(?:ghost|pub|unfoldable) )*use ")
 
 
@@ -22,7 +24,7 @@ def mentioned(name, text, words):
     """Whether the text, cut into these words, mentions the name."""
     if name in words:
         return True
-    parts = [p for p in name.split("_") if p] if name.startswith("_") or name.endswith("_") else [name]
+    parts = [p for p in name.split("◌") if p]
     return all(p in words or (not p.isidentifier() and re.search(r"\W", p) and p in text) for p in parts)
 
 
@@ -34,8 +36,6 @@ def called(entry):
 def cleaned(path):
     """The lines of a file without the names that are not mentioned, and these names."""
     lines = path.read_text().split("\n")
-    if "tools/answers/" in lines[0]:
-        return lines, []
     bare = [COMMENT[path.suffix].sub("", line) for line in lines]
     text = "\n".join(line for line in bare if not USE.match(line))
     words = set(BREAKS.split(text))
@@ -51,10 +51,10 @@ def cleaned(path):
                 kept.append(line if not out else f"{several[1]}{{{', '.join(left)}}}{several[3]}")
         elif alias:
             others = "\n".join(bare[:number] + bare[number + 1:])
-            used = re.search(rf"(?<![\w'′-]){re.escape(alias[1])}(?:\.|::|\b)", others)
+            used = re.search(rf"(?<![\w'-]){re.escape(alias[1])}(?:\.|::|\b)", others)
             unused += [] if used else [alias[1]]
             kept += [line] if used else []
-        elif one and one[1] not in words:
+        elif one and one[1] not in words and one[1] not in TRAITS:
             unused.append(one[1])
         else:
             kept.append(line)
@@ -69,7 +69,7 @@ def main():
         sys.exit("uses.py --fix CRATE..")
     folders = [ROOT / "crates" / c for c in crates] or sorted((ROOT / "crates").iterdir())
     count = 0
-    for path in sorted(p for f in folders for p in f.rglob("*") if p.suffix in COMMENT and p.is_file()):
+    for path in sorted(p for f in folders for p in f.rglob("*") if p.suffix in COMMENT and p.is_file() and "out" not in p.relative_to(f).parts):
         kept, unused = cleaned(path)
         if not unused:
             continue

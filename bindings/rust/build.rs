@@ -1,4 +1,4 @@
-//! Links Stableglow: the archive that `rt staticlib stableglow` writes, or the one named in STABLEGLOW_LIB.
+//! Links Stableglow: the archive that `bash tools/library` writes, or the one named in STABLEGLOW_LIB.
 //! Writes the numbers of docs/KINDS.md as Rust.
 
 mod page;
@@ -31,7 +31,7 @@ fn link() {
     let archive = given.unwrap_or_else(|| here.join("../../target/staticlib/libstableglow.a"));
     let archive = archive
         .canonicalize()
-        .unwrap_or_else(|e| panic!("{}: {e}: `rt staticlib stableglow` writes it", archive.display()));
+        .unwrap_or_else(|e| panic!("{}: {e}: `bash tools/library` writes it", archive.display()));
     let stem = archive.file_stem().unwrap().to_str().unwrap();
     let sort = if archive.extension().is_some_and(|e| e == "a") { "static" } else { "dylib" };
     println!("cargo:rerun-if-changed={}", archive.display());

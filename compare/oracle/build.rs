@@ -1,7 +1,6 @@
-//! Lays the Rust's four files out in the target directory by links, byte for byte as they are, with our
+//! Lays the Rust's four files out in the target directory by copies, byte for byte as they are, with our
 //! probe where the parser declares `mod tests;`, and writes the lines that declare the modules.
 
-use std::os::unix::fs::symlink;
 use std::path::{Path, PathBuf};
 use std::{env, fs};
 
@@ -15,19 +14,19 @@ fn main() {
     let out = PathBuf::from(env::var_os("OUT_DIR").unwrap());
     println!("cargo:rerun-if-env-changed=STABLEGLOW_RUST");
     for file in FILES {
-        link(&text.join(file), &out.join(file));
+        lay(&text.join(file), &out.join(file));
     }
-    link(&here.join("src/probe.rs"), &out.join("parser/tests.rs"));
+    lay(&here.join("src/probe.rs"), &out.join("parser/tests.rs"));
     fs::write(out.join("modules.rs"), modules(&out)).unwrap();
     println!("cargo:rustc-cfg=test");
 }
 
-fn link(from: &Path, to: &Path) {
+fn lay(from: &Path, to: &Path) {
     println!("cargo:rerun-if-changed={}", from.display());
     let from = from.canonicalize().unwrap_or_else(|e| panic!("{}: {e}", from.display()));
     fs::create_dir_all(to.parent().unwrap()).unwrap();
     let _ = fs::remove_file(to);
-    symlink(from, to).unwrap();
+    fs::copy(from, to).unwrap();
 }
 
 /// The modules as the parser names them. Of the stream one function is for the crate's own tests alone.

@@ -7,7 +7,7 @@ from pathlib import Path
 
 ROOT = Path(__file__).resolve().parent.parent.parent
 
-for path in sorted(ROOT.glob("crates/*/proofs/**/*.antt")):
+for path in sorted(ROOT.glob("crates/*/proofs/**/Proof.antt")):
     text = path.read_text(encoding="utf-8")
     if len(text) > 2000000:
         path.unlink()

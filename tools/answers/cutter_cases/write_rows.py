@@ -1,5 +1,0 @@
-WHERE = "write_rows"
-USES = """-- `write_rows` is safe and ends.
-use Prim.Native.Nat.{_≤_, _-_}
-"""
-ANS = {"Inv-loop": "i ≤ 32", "μ-loop": "32 - i"}

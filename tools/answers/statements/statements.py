@@ -1,4 +1,0 @@
-"""The two statements."""
-from productions import module
-
-FUNCTIONS = module("statements", "lib", "")
