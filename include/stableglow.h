@@ -1,4 +1,4 @@
-/* Stableglow: a proved reader of YARA rule files. Link libstableglow.a, which `rt staticlib stableglow` writes. */
+/* Stableglow: a proved reader of YARA rule files. Link libstableglow.a, which `bash tools/library` writes. */
 #ifndef STABLEGLOW_H
 #define STABLEGLOW_H
 
