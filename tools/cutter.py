@@ -269,16 +269,18 @@ wide_class x = class_in wides x
     return out
 
 def numbers(name, ty, xs):
-    """As the formatter lays an array out."""
-    line = "const %s: [%s; %d] = [%s];\n" % (name, ty, len(xs), ", ".join(map(str, xs)))
+    """As the formatter lays an array out: a row to a line."""
+    line = "static %s: [%s; %d] = [%s];\n" % (name, ty, len(xs), ", ".join(map(str, xs)))
     if len(line) < 100:
         return line
     lines = textwrap.fill(", ".join(map(str, xs)) + ",", 99, initial_indent="    ", subsequent_indent="    ")
-    return "const %s: [%s; %d] = [\n%s\n];\n" % (name, ty, len(xs), lines)
+    if "(" in str(xs[0]):
+        lines = "\n".join("    %s," % x for x in xs)
+    return "static %s: [%s; %d] = [\n%s\n];\n" % (name, ty, len(xs), lines)
 
 CLASS_TABLE = [class_in(rows, b) for _, rows in MODES for b in range(256)]
 NEXT = [nxt[s, c] for s in range(S) for c in range(COLUMNS)]
-WIDES = [x for lo, hi, c in WIDE for x in (lo, hi, C[c])]
+WIDES = ["(%d, %d, %d)" % (lo, hi, C[c]) for lo, hi, c in WIDE]
 STRIDE = 12
 SLOTS = [0] * 128
 for j, w in enumerate(KEYWORDS):
@@ -292,14 +294,14 @@ def printed(name, xs, per):
     lines = []
     for i in range(0, len(xs), per):
         lines.append("".join(chr(x) if 0x61 <= x <= 0x7A else "\\x%02X" % x for x in xs[i:i + per]))
-    return 'const %s: [u8; %d] = *b"\\\n%s";\n' % (name, len(xs), "\\\n".join(lines))
+    return 'static %s: [u8; %d] = *b"\\\n%s";\n' % (name, len(xs), "\\\n".join(lines))
 
 def table_rt():
-    out = "// The cutter's tables. Written by tools/cutter.py; that they follow the definition is proved.\n\n"
+    out = "// The cutter's tables. Written by tools/cutter.py; that they follow the definition is proved. They are statics, so that none is laid out where it is read.\n\n"
     out += "// A byte's class: 256 entries for each mode.\npub " + printed("CLASSES", CLASS_TABLE, 32) + "\n"
     out += "// Where a state goes by a class: %d entries for each of %d states. State 0 matches nothing any more.\npub " % (COLUMNS, S) + printed("NEXT", NEXT, COLUMNS // 3) + "\n"
     out += "// The id of a row that may end in a state, or 255.\npub " + printed("FINALS", ACCEPT, 22) + "\n"
-    out += "// Least, greatest and class of ranges of characters past ASCII.\npub " + numbers("WIDES", "u32", WIDES) + "\n"
+    out += "// Least, greatest and class of ranges of characters past ASCII.\npub " + numbers("WIDES", "(u32, u32, usize)", WIDES) + "\n"
     out += "// The keywords: %d bytes for each, its length and its letters. Behind them 128 slots: which keyword a text can be, by its first and last letter and\n// its length.\npub " % STRIDE + printed("KEYS", KEYS, STRIDE) + "\n"
     out += "// Pairs of states, %d times the first and the second: a failed match in the first state covers a fresh one in the second.\npub " % S + numbers("PAIRS", "u32", PAIRS)
     return out

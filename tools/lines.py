@@ -123,7 +123,7 @@ def comment(reads, short, lines):
     memo = re.fullmatch(r"\(then \(memo G\.([A-Z_]+)\)\)", reads)
     if memo:
         return memo.group(1) + ", which is not read again where it failed before."
-    whole = re.fullmatch(r"\(grammar ep G\.([A-Z_]+)\)", reads)
+    whole = re.fullmatch(r"\(grammar x\.now\.entrypoint G\.([A-Z_]+)\)", reads)
     if whole:
         return "The alternatives of " + whole.group(1) + "."
     return said(opened((reads, []), short)) if reads in short else None
@@ -131,7 +131,7 @@ def comment(reads, short, lines):
 
 def written(text, short, lines):
     def one(m):
-        reads = re.search(r"Reads ep d \w+ (\(.*?\)|\S+)\s+\(source", m.group(2))
+        reads = re.search(r"Reads d \w+ (\(.*?\)|\S+)\s+x\.now", m.group(2))
         line = reads and comment(reads.group(1), short, lines)
         if not line:
             return m.group(0)

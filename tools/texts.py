@@ -64,7 +64,7 @@ def laid_out(texts):
         TEXT_HEAD + f"// Descriptions, joints and sentences, one after the other.\npub const TEXT: [u8; {begins[-1]}] =\n    *b\"{body}\";\n\n"
         f"// Where each begins; the last number is where the last ends.\nconst BEGINS: [usize; {len(begins)}] = [\n{numbers}\n];\n\n"
         "// Past the last there is 0.\npub fn begins(n: usize) -> usize\n    ensures { result ≡ get_or (starts 0 texts) n 0 }\n{\n"
-        f"    if n < {len(begins)} {{\n        return BEGINS[n];\n    }}\n    0\n}}\n")
+        "    BEGINS.get(n).copied().unwrap_or(0)\n}\n")
 
 
 def main():

@@ -10,7 +10,7 @@ use native.Mathlib.Numerals.{towards_suc}
 use borrow.Author.Tests.{lt-ltb, le-ltb, ltb-true, ltb-false, lt-leb, leb-true, leb-false, ne_eqb, eqb-false}
 use lib.Dec.{T, ltb, leb, eqb}
 use lib.ListN.{length, get_or, take, drop, set, length-set, length-append}
-use lib.Seq.{paste, take-paste, length-paste, length-take-le, take-add, take_at, drop_at, sets-eq}
+use lib.Seq.{take_all, paste, take-paste, length-paste, length-take-le, take-add, take_at, drop_at, sets-eq}
 use Rattle.kinds.specs.Kinds as k
 use Rattle.utf8.specs.Utf8.{bad_byte}
 use Rattle.shapes.specs.Shapes.{EVENT, HEAD, Rec, Owned, flat_records, of_item, bare}
@@ -19,14 +19,13 @@ use Rattle.definition.specs.Run as P
 use Rattle.definition.specs.Run.{Event, Choice, Limits, wanted, unwanted}
 use Rattle.definition.specs.Render.{Source, starts_at, ends_at, id_at, text_at, record_of, records, form_of, choice_names, said, held, used}
 use Rattle.definition.proofs.Text.{form_9_record, other_records}
-use Rattle.notes.specs.Whole.{Whole, beside, resting}
+use Rattle.notes.specs.declared.names.Notes.{Notes}
+use Rattle.notes.specs.Whole.{Whole, beside}
 use Rattle.notes.specs.Bits.{ifb}
 use Rattle.notes.specs.Change.{with_er, with_full, with_wants}
 use Rattle.notes.specs.Means.{bufs, Past, Rows, Apart, recorded, Chosen, want_of, unwant_of, names_in, Means, Stands, over_of}
-use Rattle.notes.specs.Did.{Placed, Ok, Sound, Coded, Wf, Counted, Errors}
+use Rattle.notes.specs.Did.{Placed, Ok, Wf, Counted, Errors}
 use Rattle.choice.specs.Choice.{choice_of, scan, Noted, Pends, Chose}
-use Rattle.notes.proofs.Cells.{long, new_er, no_wants}
-use Rattle.notes.proofs.Core.{blank, sound}
 use Rattle.notes.proofs.Rooms.{flat_append, flat_size, lengths, said_is, held_is, fits, first_of, spill, full_first, exceeds_none, exceeds_errors}
 use Rattle.choice.proofs.Records.{starts, ends, starts_is, ends_is, id_is}
 use Rattle.choice.proofs.Scanning.{scan_recorded}
@@ -67,46 +66,35 @@ module _ (q : List ℕ) (s : Whole) (er : List ℕ) where
         long = g;
       }
 
-module _ (s : Whole) (start end form item count : ℕ) (names er : List ℕ) (c : count ≤ length names) where
+module _ (s : Whole) (start end form item : ℕ) (names er : List ℕ) where
   abbrev numbers : List ℕ
-  numbers = start ∷ end ∷ form ∷ item ∷ count ∷ take count names
+  numbers = start ∷ end ∷ form ∷ item ∷ length names ∷ names
 
-  size : length numbers ≡ HEAD + count
-  size = omega (arith, length-take-le count names c)
+  pub record_full : s.er ≤ s.ercap → s.ercap - s.er < length names + HEAD → Noted numbers s (with_full 8 s) er er
+  record_full h l = noted_full numbers s er h (omega arith)
 
-  pub record_full : s.er ≤ s.ercap → s.ercap - s.er < count + HEAD → Noted numbers s (with_full 8 s) er er
-  record_full h l = noted_full numbers s er h (omega (arith, size))
-
-  record_written : s.er ≤ s.ercap → count + HEAD ≤ s.ercap - s.er → s.ercap ≤ length er → (er' : List ℕ) → er' ≡ paste (headed er s.er start end form item count) (s.er + HEAD) names count → Noted numbers s (with_full 0 (with_er (s.er + HEAD + count) s)) er er'
+  pub record_written : s.er ≤ s.ercap → length names + HEAD ≤ s.ercap - s.er → s.ercap ≤ length er → (er' : List ℕ) → er' ≡ paste (headed er s.er start end form item (length names)) (s.er + HEAD) names (length names) → Noted numbers s (with_full 0 (with_er (s.er + HEAD + length names) s)) er er'
   record_written h f l er' e =
+      let count = length names in
       let q = length_headed er s.er start end form item count in
-      noted_written numbers s er (s.er + HEAD + count) (omega (arith, size)) (omega arith) er'
+      noted_written numbers s er (s.er + HEAD + count) (omega arith) (omega arith) er'
       (ap (take (s.er + HEAD + count)) e
-      ∙ take-paste (headed er s.er start end form item count) (s.er + HEAD) names count (omega (arith, q)) c
-      ∙ ap (λ (t : List ℕ). t ++ take count names) (take_headed er s.er start end form item count (omega arith))
-      ∙ append_assoc (take s.er er) (start ∷ end ∷ form ∷ item ∷ count ∷ []) (take count names))
-      (ap length e ∙ length-paste (headed er s.er start end form item count) (s.er + HEAD) names count (omega (arith, q)) c ∙ q)
+      ∙ take-paste (headed er s.er start end form item count) (s.er + HEAD) names count (omega (arith, q)) (le_refl _)
+      ∙ ap₂ (λ (t u : List ℕ). t ++ u) (take_headed er s.er start end form item count (omega arith)) (take_all (length names) names (le_refl _))
+      ∙ append_assoc (take s.er er) (start ∷ end ∷ form ∷ item ∷ count ∷ []) names)
+      (ap length e ∙ length-paste (headed er s.er start end form item count) (s.er + HEAD) names count (omega (arith, q)) (le_refl _) ∙ q)
 
 -- with a place behind the count
 abbrev pub placed : List ℕ → ℕ → ℕ → ℕ → ℕ → ℕ → List ℕ
 placed er i start end item place = set (headed er i start end 9 item 0) (i + HEAD) place
 
-placed_written : (s : Whole) (start end item place : ℕ) (er : List ℕ) → s.er ≤ s.ercap → HEAD + 1 ≤ s.ercap - s.er → s.ercap ≤ length er → Noted (start ∷ end ∷ 9 ∷ item ∷ 0 ∷ place ∷ []) s (with_full 0 (with_er (s.er + HEAD + 1) s)) er (placed er s.er start end item place)
+pub placed_written : (s : Whole) (start end item place : ℕ) (er : List ℕ) → s.er ≤ s.ercap → HEAD + 1 ≤ s.ercap - s.er → s.ercap ≤ length er → Noted (start ∷ end ∷ 9 ∷ item ∷ 0 ∷ place ∷ []) s (with_full 0 (with_er (s.er + HEAD + 1) s)) er (placed er s.er start end item place)
 placed_written s start end item place er h f l =
     let q = start ∷ end ∷ 9 ∷ item ∷ 0 ∷ place ∷ [] in
     let e : placed er s.er start end item place ≡ take s.er er ++ q ++ drop (s.er + 6) er = simp towards_suc (sets-eq q er s.er (omega arith) ∙ simp towards_suc) in
     noted_written q s er (s.er + HEAD + 1) (omega arith) (omega arith) (placed er s.er start end item place)
     (ap (take (s.er + HEAD + 1)) e ∙ take_at (take s.er er ++ q) (drop (s.er + 6) er) (s.er + HEAD + 1) (length-append (take s.er er) q ∙ omega (arith, length-take-le s.er er (omega arith))))
     (simp length-set)
-
--- the same where the number of the records' numbers is noted
-pub record_noted : (l : List ℕ) (s : Whole) → Coded l → (start end form item count : ℕ) (names er : List ℕ) → count ≤ length names → get_or l 4 0 ≤ get_or l 5 0 → count + HEAD ≤ get_or l 5 0 - get_or l 4 0 → get_or l 5 0 ≤ length er → (er' : List ℕ) → er' ≡ paste (headed er (get_or l 4 0) start end form item count) (get_or l 4 0 + HEAD) names count → Noted (start ∷ end ∷ form ∷ item ∷ count ∷ take count names) (beside l s) (with_full 0 (beside (set l 4 (get_or l 4 0 + HEAD + count)) s)) er er'
-record_noted l s w start end form item count names er c h f g er' e =
-    subst (λ (v : Whole). Noted (start ∷ end ∷ form ∷ item ∷ count ∷ take count names) (beside l s) (with_full 0 v) er er') (sym (new_er l s (long l w.long) (get_or l 4 0 + HEAD + count))) (record_written (beside l s) start end form item count names er c h f g er' e)
-
-pub placed_noted : (l : List ℕ) (s : Whole) → Coded l → (start end item place : ℕ) (er : List ℕ) → get_or l 4 0 ≤ get_or l 5 0 → HEAD + 1 ≤ get_or l 5 0 - get_or l 4 0 → get_or l 5 0 ≤ length er → Noted (start ∷ end ∷ 9 ∷ item ∷ 0 ∷ place ∷ []) (beside l s) (with_full 0 (beside (set l 4 (get_or l 4 0 + HEAD + 1)) s)) er (placed er (get_or l 4 0) start end item place)
-placed_noted l s w start end item place er h f g =
-    subst (λ (v : Whole). Noted (start ∷ end ∷ 9 ∷ item ∷ 0 ∷ place ∷ []) (beside l s) (with_full 0 v) er (placed er (get_or l 4 0) start end item place)) (sym (new_er l s (long l w.long) (get_or l 4 0 + HEAD + 1))) (placed_written (beside l s) start end item place er h f g)
 
 -- PENDING ERRORS
 neither : (b c : Bool) → (elim b [ true ↦ true | false ↦ c ]) ≡ false → (b ≡ false) × (c ≡ false)
@@ -327,14 +315,14 @@ module _ (x : Source) (s : Whole) (er : List ℕ) (w : Ok (length x.ids) s) (l :
         }
 
   -- a room is exceeded already
-  exceeded : (s.full ≡ 0 → ⊥) → Errors P.choose x s (with_wants 0 0 s) er er
+  exceeded_already : (s.full ≡ 0 → ⊥) → Errors P.choose x s (with_wants 0 0 s) er er
   unfolding over_of
-  exceeded n =
+  exceeded_already n =
       errors_chosen (with_wants 0 0 s) er refl w.2.errors (le_refl _) refl (λ z. z)
       (λ ev sc v p a t. record { over = t.over ∙ sym (full_first (over_of p x a) (spill p x a.out (P.decide a.want a.unwant a.chosen)) (λ z. n (t.over ∙ z))); means = λ z. absurd (n z) })
 
   choose_full : {f : ℕ} → s.full ≡ f → (f ≡ 0 → ⊥) → Errors P.choose x s (with_full f (with_wants 0 0 s)) er er
-  choose_full q n = subst (λ (i : ℕ). Errors P.choose x s (with_full i (with_wants 0 0 s)) er er) q (exceeded (λ z. n (sym q ∙ z)))
+  choose_full q n = subst (λ (i : ℕ). Errors P.choose x s (with_full i (with_wants 0 0 s)) er er) q (exceeded_already (λ z. n (sym q ∙ z)))
 
   -- the pending errors become g of them
   choose_by : (g : List (ℕ × Choice) → List (ℕ × Choice)) {r : Whole} {er' : List ℕ} → s.full ≡ 0 → Chose g x (with_wants 0 0 s) r er er' → ((es : List (ℕ × Choice)) → P.decide (want_of (length x.ids) s.want (names_in s)) (unwant_of (length x.ids) s.unwant) es ≡ g es) → Errors P.choose x s r er er'
@@ -377,41 +365,23 @@ module _ (x : Source) (s : Whole) (er : List ℕ) (w : Ok (length x.ids) s) (l :
         long = refl;
       }
 
--- the list of notes with both emptied
-abbrev pub without_wants : List ℕ → List ℕ
-without_wants l = set (set l 0 0) 1 0
+-- the notes with both emptied
+abbrev pub without_wants : Notes → Notes
+without_wants l = record { want = 0; unwant = 0; count = l.count; mask = l.mask; er = l.er; ercap = l.ercap; item = l.item; first = l.first; far = l.far; quote = l.quote; number = l.number; codes = l.codes }
 
-module _ {n : ℕ} (l : List ℕ) (w : Sound n l) where
-  pub sound_emptied : Sound n (without_wants l)
-  sound_emptied =
-      let s = resting (get_or l 7 0) in
-      sound (without_wants l) s (subst (Ok n) (sym (no_wants l s (long l w.1.long))) (ok_emptied n (beside l s) w))
-
-  pub ercap_emptied : get_or (without_wants l) 5 0 ≡ get_or l 5 0
-  ercap_emptied = ap (λ (s : Whole). s.ercap) (no_wants l blank (long l w.1.long))
-
-  pub first_emptied : get_or (without_wants l) 7 0 ≡ get_or l 7 0
-  first_emptied = ap (λ (s : Whole). s.first) (no_wants l blank (long l w.1.long))
-
--- the three ways that a choice goes, over the list of notes
-module _ (x : Source) (l : List ℕ) (s : Whole) (er : List ℕ) (w : Ok (length x.ids) (beside l s)) (c : get_or l 5 0 ≤ length er) where
-  emptied : beside (without_wants l) s ≡ with_wants 0 0 (beside l s)
-  emptied = no_wants l s (long l w.1.long)
-
+-- the three ways that a choice goes, over what is noted
+module _ (x : Source) (l : Notes) (s : Whole) (er : List ℕ) (w : Ok (length x.ids) (beside l s)) (c : l.ercap ≤ length er) where
   pub emptied_ok : Ok (length x.ids) (beside (without_wants l) s)
-  emptied_ok = subst (Ok (length x.ids)) (sym emptied) (ok_emptied (length x.ids) (beside l s) w)
+  emptied_ok = ok_emptied (length x.ids) (beside l s) w
 
   pub chooses_full : {f : ℕ} → s.full ≡ f → (f ≡ 0 → ⊥) → Errors P.choose x (beside l s) (with_full f (beside (without_wants l) s)) er er
-  chooses_full {f} q n = subst (λ (v : Whole). Errors P.choose x (beside l s) (with_full f v) er er) (sym emptied) (choose_full x (beside l s) er w c q n)
+  chooses_full q n = choose_full x (beside l s) er w c q n
 
-  module _ (z : s.full ≡ 0) {r : ℕ} (q : r ≡ furthest (get_or l 0 0) (get_or l 1 0)) where
+  module _ (z : s.full ≡ 0) {r : ℕ} (q : r ≡ furthest l.want l.unwant) where
     pub chooses_none : r ≡ 0 → Errors P.choose x (beside l s) (with_full 0 (beside (without_wants l) s)) er er
-    chooses_none e =
-        subst (λ (v : Whole). Errors P.choose x (beside l s) (with_full 0 v) er er) (sym emptied)
-        (choose_by x (beside l s) er w c (λ es. es) z (chose_nothing x (beside l s) er w c) (λ es. decide_none (length x.ids) (names_in (beside l s)) es (get_or l 0 0) (get_or l 1 0) q e))
+    chooses_none e = choose_by x (beside l s) er w c (λ es. es) z (chose_nothing x (beside l s) er w c) (λ es. decide_none (length x.ids) (names_in (beside l s)) es l.want l.unwant q e)
 
-    pub chooses_at : {v : Whole} {er' : List ℕ} → (r ≡ 0 → ⊥) → Chose (P.add (length x.ids - (r - 1)) (choice_of (leb (get_or l 1 0) (get_or l 0 0)) (names_in (beside (without_wants l) s)))) x (beside (without_wants l) s) v er er' → Errors P.choose x (beside l s) v er er'
-    chooses_at {v} {er'} e y =
-        let g : Whole → List (ℕ × Choice) → List (ℕ × Choice) = λ t. P.add (length x.ids - (r - 1)) (choice_of (leb (get_or l 1 0) (get_or l 0 0)) (names_in t)) in
-        choose_by x (beside l s) er w c (g (beside l s)) z (subst (λ (t : Whole). Chose (g t) x t v er er') emptied y)
-        (λ es. decide_row (length x.ids) (names_in (beside l s)) es (get_or l 0 0) (get_or l 1 0) q e w.0.unwant_in)
+    pub chooses_at : {v : Whole} {er' : List ℕ} → (r ≡ 0 → ⊥) → Chose (P.add (length x.ids - (r - 1)) (choice_of (leb l.unwant l.want) (names_in (beside (without_wants l) s)))) x (beside (without_wants l) s) v er er' → Errors P.choose x (beside l s) v er er'
+    chooses_at e y =
+        choose_by x (beside l s) er w c (P.add (length x.ids - (r - 1)) (choice_of (leb l.unwant l.want) (names_in (beside l s)))) z y
+        (λ es. decide_row (length x.ids) (names_in (beside l s)) es l.want l.unwant q e w.0.unwant_in)

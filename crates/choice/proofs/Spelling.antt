@@ -3,19 +3,20 @@ use Prim.Native.Nat.{ℕ, zero, suc, ◌+◌, ◌≤◌, ◌<◌}
 use mathlib.Core.Path.{◌≡◌, refl, sym, ap, ap₂, subst, ◌∙◌}
 use mathlib.Core.List.{List, [], ◌∷◌, ◌++◌}
 use mathlib.Core.Bool.{Bool, true, false}
-use native.Mathlib.Decide.{dec_lt}
+use native.Mathlib.Decide.{dec_lt, ℕ_discrete}
 use native.Mathlib.Numerals.{add-one}
 use native.Mathlib.Omega.{arith}
 use borrow.Author.Tests.{eq-eqb, ne_eqb, ltb-true, lt-ltb, le-ltb}
-use lib.Dec.{eqb, ltb}
-use lib.ListN.{length, get_or, get_elem?, take, drop, set, length-set, length-append, length-drop, drop_of_length-le}
-use lib.Seq.{drop-cons, get_or-drop, get_or-take, length-take-le, take-suc, take-suc-set}
+use lib.Dec.{ltb}
+use Rattle.std.specs.List.{list_any}
+use Rattle.std.specs.Prelude.{nat_eq, ◌||◌, Some, None, slice_get}
+use lib.ListN.{length, get_or, take, drop, set, length-set, length-append, drop_of_length-le}
+use lib.Seq.{drop-cons, get_or-take, length-take-le, take-suc, take-suc-set}
 use Rattle.kinds.specs.Sets.{id_of, ids_of, set_of}
-use Rattle.kinds.specs.Answers.{name_of}
-use Rattle.kinds.specs.declared.answer.Name.TheVariants as n
 use Rattle.kinds.proofs.Tables.{both, both_left, both_right, all, all_sound}
 use Rattle.kinds.proofs.Order.{set_none}
 use Rattle.definition.specs.Run as P
+use Rattle.notes.specs.declared.names.Notes.{Notes}
 use Rattle.notes.specs.Bits.{ifb}
 use Rattle.notes.specs.Means.{names_of, spelled_on, spelled}
 use Rattle.notes.specs.Did.{Below, Coded}
@@ -23,29 +24,14 @@ use Rattle.notes.proofs.Pigeon.{few, distinct_more, below_more}
 use Rattle.choice.specs.declared.Names.{Names}
 use Rattle.choice.specs.Choice.{Spelt, Spells}
 
--- looking for x among the first n, with the first i passed
-pub record Looked (l : List ℕ) (n x i : ℕ) : Type 0 where
-  pub within : i ≤ n
-  pub rest : P.has (drop i (take n l)) x ≡ P.has (take n l) x
-
-pub looked : (l : List ℕ) (n x : ℕ) → Looked l n x 0
-looked l n x = record { within = omega arith; rest = refl }
-
-module _ {l : List ℕ} {n x i : ℕ} (g : Looked l n x i) (fit : n ≤ length l) where
-  at_hand : (b : Bool) → i < n → eqb x (get_or l i 0) ≡ b → P.has (take n l) x ≡ elim b [ true ↦ true | false ↦ P.has (drop (suc i) (take n l)) x ]
-  at_hand b h e =
-      sym g.rest
-      ∙ ap (λ (t : List ℕ). P.has t x) (drop-cons (take n l) i 0 (rw length-take-le h))
-      ∙ ap (λ (t : Bool). elim t [ true ↦ true | false ↦ P.has (drop (suc i) (take n l)) x ]) (ap (eqb x) (get_or-take n l i 0 h) ∙ e)
-
-  pub looked_here : i < n → get_or l i 0 ≡ x → true ≡ P.has (take n l) x
-  looked_here h e = sym (at_hand true h (eq-eqb x (get_or l i 0) (sym e)))
-
-  pub looked_on : i < n → (get_or l i 0 ≡ x → ⊥) → Looked l n x (i + 1)
-  looked_on h e = record { within = omega arith; rest = rw add-one (sym (at_hand false h (ne_eqb x (get_or l i 0) (λ q. e (sym q))))) }
-
-  pub looked_none : n ≤ i → false ≡ P.has (take n l) x
-  looked_none h = let long : length (take n l) ≤ i = rw length-take-le h in sym (ap (λ (t : List ℕ). P.has t x) (drop_of_length-le (take n l) long)) ∙ g.rest
+-- a slice's `contains` and the definition's test are one
+pub has_any : (x : ℕ) (l : List ℕ) → list_any (λ y. nat_eq y x) l ≡ P.has l x
+has_any x [] = refl
+has_any x (y ∷ l) = go (ℕ_discrete x y) (has_any x l)
+  where
+    go : Dec (x ≡ y) → list_any (λ y. nat_eq y x) l ≡ P.has l x → (nat_eq y x || list_any (λ y. nat_eq y x) l) ≡ P.has (y ∷ l) x
+    go (yes e) h = ap (λ (b : Bool). b || list_any (λ y. nat_eq y x) l) (eq-eqb y x (sym e)) ∙ sym (ap (λ (b : Bool). elim b [ true ↦ true | false ↦ P.has l x ]) (eq-eqb x y e))
+    go (no n) h = ap (λ (b : Bool). b || list_any (λ y. nat_eq y x) l) (ne_eqb y x (λ e. n (sym e))) ∙ h ∙ sym (ap (λ (b : Bool). elim b [ true ↦ true | false ↦ P.has l x ]) (ne_eqb x y n))
 
 -- so many names of a list
 abbrev pub names_from : ℕ → List ℕ → Names
@@ -103,12 +89,12 @@ sets_brief s = go (dec_lt s 56)
     go (no h) = rw (set_none s (omega (arith, h))) (record { below = tt; few = omega arith })
 
 -- what the answer for the name number k says
-name_here : (ids : List ℕ) (k x : ℕ) → n.Is x ≡ name_of (get_elem? ids k) → (k < length ids) × (get_or ids k 0 ≡ x)
+name_here : (ids : List ℕ) (k x : ℕ) → Some x ≡ slice_get ids k → (k < length ids) × (get_or ids k 0 ≡ x)
 name_here [] k x e = let z : ◌≡◌ {A = ℕ} 0 1 = cc in absurd (omega arith)
 name_here (a ∷ ids) zero x e = (omega arith, cc)
 name_here (a ∷ ids) (suc k) x e = let h = name_here ids k x e in (omega (arith, h.0), h.1)
 
-name_past : (ids : List ℕ) (k : ℕ) → n.Nothing ≡ name_of (get_elem? ids k) → length ids ≤ k
+name_past : (ids : List ℕ) (k : ℕ) → None ≡ slice_get ids k → length ids ≤ k
 name_past [] k e = omega arith
 name_past (a ∷ ids) zero e = let z : ◌≡◌ {A = ℕ} 0 1 = cc in absurd (omega arith)
 name_past (a ∷ ids) (suc k) e = omega (arith, name_past ids k e)
@@ -118,7 +104,7 @@ below_at [] k b h = absurd (omega arith)
 below_at (a ∷ ids) zero b h = b.0
 below_at (a ∷ ids) (suc k) b h = below_at ids k b.1 (omega arith)
 
-pub name_below : (set k x : ℕ) → n.Is x ≡ name_of (get_elem? (ids_of (set_of set)) k) → x < 85
+pub name_below : (set k x : ℕ) → Some x ≡ slice_get (ids_of (set_of set)) k → x < 85
 name_below set k x e =
     let h = name_here (ids_of (set_of set)) k x e in
     omega (arith, below_at (ids_of (set_of set)) k (sets_brief set).below h.0, h.1)
@@ -140,7 +126,7 @@ pub entering : (ids : List ℕ) (s : Names) → Spelt s.count s.names → Enteri
 entering ids s w = record { spelt = w; rest = refl }
 
 module _ {ids : List ℕ} {s r : Names} {k : ℕ} (g : Entering ids s r k) where
-  pub entering_on : (x : ℕ) {q : Names} → n.Is x ≡ name_of (get_elem? ids k) → Spells (P.join (take r.count r.names) (x ∷ [])) q → Entering ids s q (k + 1)
+  pub entering_on : (x : ℕ) {q : Names} → Some x ≡ slice_get ids k → Spells (P.join (take r.count r.names) (x ∷ [])) q → Entering ids s q (k + 1)
   entering_on x {q} e y =
       let h = name_here ids k x e in
       record {
@@ -155,7 +141,7 @@ module _ {ids : List ℕ} {s r : Names} {k : ℕ} (g : Entering ids s r k) where
   pub entering_all : length ids ≤ k → Spells (P.join (take s.count s.names) ids) r
   entering_all h = record { names = sym (ap (P.join (take r.count r.names)) (drop_of_length-le ids h)) ∙ g.rest; spelt = g.spelt }
 
-  pub entering_past : n.Nothing ≡ name_of (get_elem? ids k) → Spells (P.join (take s.count s.names) ids) r
+  pub entering_past : None ≡ slice_get ids k → Spells (P.join (take s.count s.names) ids) r
   entering_past e = entering_all (name_past ids k e)
 
 -- the same names otherwise said
@@ -179,41 +165,33 @@ spelled_last l (d ∷ cs) c = spelled_last (P.join l (names_of d)) cs c
 pub none_spelt : (names : List ℕ) → length names ≡ 96 → Spells [] (names_from 0 names)
 none_spelt names h = record { names = refl; spelt = record { few = omega arith; long = h; below = tt; distinct = tt } }
 
--- the first i of the codes in a list of notes are spelled
-pub record Spelling (notes : List ℕ) (i : ℕ) (r : Names) : Type 0 where
-  pub within : i ≤ get_or notes 2 0
-  pub spells : Spells (spelled (take i (drop 11 notes))) r
+-- the first i of the codes are spelled
+pub record Spelling (notes : Notes) (i : ℕ) (r : Names) : Type 0 where
+  pub within : i ≤ notes.count
+  pub spells : Spells (spelled (take i notes.codes)) r
 
-pub spelling : (notes names : List ℕ) → length names ≡ 96 → Spelling notes 0 (names_from 0 names)
+pub spelling : (notes : Notes) (names : List ℕ) → length names ≡ 96 → Spelling notes 0 (names_from 0 names)
 spelling notes names h = record { within = omega arith; spells = none_spelt names h }
 
-module _ (notes : List ℕ) (w : Coded notes) (i : ℕ) (h : i < get_or notes 2 0) where
-  at_code : get_or (drop 11 notes) i 0 ≡ get_or notes (11 + i) 0
-  at_code = get_or-drop 11 notes i 0
+module _ (notes : Notes) (w : Coded notes) (i : ℕ) (h : i < notes.count) where
+  pub code_below : get_or notes.codes i 0 < 58
+  code_below = omega (arith, below_at (take notes.count notes.codes) i w.below (omega (arith, length-take-le notes.count notes.codes (omega (arith, w.few, w.long)))), get_or-take notes.count notes.codes i 0 h)
 
-  pub code_in : 10 + i < length notes
-  code_in = omega (arith, w.few, w.long, length-drop 11 notes)
-
-  pub code_below : get_or notes (11 + i) 0 < 58
-  code_below =
-      let codes = drop 11 notes in
-      omega (arith, below_at (take (get_or notes 2 0) codes) i w.below (omega (arith, length-take-le (get_or notes 2 0) codes (omega (arith, w.few, w.long)))), get_or-take (get_or notes 2 0) codes i 0 h, at_code)
-
-  pub spelling_on : {r q : Names} → Spelling notes i r → Spells (P.join (take r.count r.names) (names_of (get_or notes (11 + i) 0))) q → Spelling notes (i + 1) q
+  pub spelling_on : {r q : Names} → Spelling notes i r → Spells (P.join (take r.count r.names) (names_of (get_or notes.codes i 0))) q → Spelling notes (i + 1) q
   spelling_on g y =
-      let more : take (i + 1) (drop 11 notes) ≡ take i (drop 11 notes) ++ (get_or (drop 11 notes) i 0 ∷ []) = rw add-one (take-suc (drop 11 notes) i 0 (omega (arith, w.few, w.long))) in
+      let more : take (i + 1) notes.codes ≡ take i notes.codes ++ (get_or notes.codes i 0 ∷ []) = rw add-one (take-suc notes.codes i 0 (omega (arith, w.few, w.long))) in
       record {
         within = omega arith;
         spells =
             record {
               names =
                   y.names
-                  ∙ ap₂ (λ (l : List ℕ) (c : ℕ). P.join l (names_of c)) g.spells.names (sym at_code)
-                  ∙ sym (spelled_last [] (take i (drop 11 notes)) (get_or (drop 11 notes) i 0))
+                  ∙ ap (λ (l : List ℕ). P.join l (names_of (get_or notes.codes i 0))) g.spells.names
+                  ∙ sym (spelled_last [] (take i notes.codes) (get_or notes.codes i 0))
                   ∙ ap spelled (sym more);
               spelt = y.spelt;
             };
       }
 
-pub spelling_all : {notes : List ℕ} {i : ℕ} {r : Names} → Spelling notes i r → get_or notes 2 0 ≤ i → Spells (spelled (take (get_or notes 2 0) (drop 11 notes))) r
-spelling_all {notes} {i} {r} g h = let e : i ≡ get_or notes 2 0 = omega (arith, g.within) in subst (λ (k : ℕ). Spells (spelled (take k (drop 11 notes))) r) e g.spells
+pub spelling_all : {notes : Notes} {i : ℕ} {r : Names} → Spelling notes i r → notes.count ≤ i → Spells (spelled (take notes.count notes.codes)) r
+spelling_all {notes} {i} {r} g h = let e : i ≡ notes.count = omega (arith, g.within) in subst (λ (k : ℕ). Spells (spelled (take k notes.codes)) r) e g.spells

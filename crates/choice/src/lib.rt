@@ -1,7 +1,7 @@
 // Error choice.
 #![tactic(auto)]
 
-ghost use Rattle.std.specs.Prelude.{◌≡◌, List, ◌∷◌, [], ℕ, ◌+◌, ◌-◌, ◌≤◌, ◌<◌, length, get_or, take};
+ghost use Rattle.std.specs.Prelude.{◌≡◌, List, ◌∷◌, [], ℕ, ◌+◌, ◌-◌, ◌≤◌, ◌<◌, length, take};
 ghost use Rattle.std.proofs.Math.Seq.{paste};
 ghost use Rattle.kinds.specs.Kinds as k;
 ghost use Rattle.utf8.specs.Utf8.{bad_byte};
@@ -9,39 +9,19 @@ ghost use Rattle.definition.specs.Run as P;
 ghost use Rattle.definition.specs.Run.{Limits};
 ghost use Rattle.definition.specs.Render.{form_found, form_unknown, form_of, choice_names};
 ghost use Rattle.kinds.specs.Sets.{set_of, ids_of};
-ghost use Rattle.notes.specs.Whole.{Whole, beside, codes_of, count_of, er_of, ercap_of, first_of, number_of};
+ghost use Rattle.notes.specs.Whole.{Whole, beside, exceeded};
 ghost use Rattle.notes.specs.Change.{with_full};
 ghost use Rattle.notes.specs.Means as m;
-ghost use Rattle.notes.specs.Means.{source, Rows, names_of, names_in};
+ghost use Rattle.notes.specs.Means.{names_of, names_in};
+ghost use Rattle.notes.specs.Reading.{source_of};
 ghost use Rattle.notes.specs.Did.{Ok, Sound, Coded, Errors};
 ghost use Rattle.choice.specs.Choice.{choice_of, scan, Noted, Chose, Spelt, Spells};
 
-use kinds::{Name, id, name_at};
-use notes::names::{CODES, COUNT, ER, ERCAP, ITEM, NUMBER, QUOTE, UNWANT, WANT};
-use notes::rows::start_of;
-use shapes::full;
+use kinds::{Kind, name_at};
+use notes::names::Notes;
+use notes::reading::Given;
 use shapes::record::{END, FORM, HEAD, next_record};
-
-// Where a row ends; behind the last one, where the source ends.
-fn end_of(at: usize, ends: &[u32]) -> u32
-    requires { at ≤ length ends.now }
-    ensures { result ≡ get_or ends.now at (get_or (0 ∷ ends.now) at 0) }
-{
-    if at < ends.len() {
-        return ends[at];
-    }
-    start_of(at, ends)
-}
-
-// The id of a row; behind the last one, UNKNOWN.
-fn id_at(at: usize, ids: &[u32]) -> u32
-    ensures { result ≡ get_or ids.now at k.UNKNOWN }
-{
-    if at < ids.len() {
-        return ids[at];
-    }
-    id::UNKNOWN
-}
+use shapes::refusal::Refusal;
 
 // The form of what was found where something else was expected: nothing, or a text that is too long to quote or not.
 fn found(text: &[u8], quote: usize) -> u32
@@ -92,7 +72,7 @@ fn form_of(row_id: u32, text: &[u8], expected: bool, quote: usize) -> u32
         }
         return 4;
     }
-    if row_id == id::UNKNOWN {
+    if row_id == Kind::Unknown as u32 {
         return unclosed(text, quote);
     }
     found(text, quote)
@@ -111,7 +91,7 @@ fn named(expected: bool, form: u32, count: usize) -> usize
     0
 }
 
-// Whether one of the records has the span.
+// Whether one of the records has the span. Records are not of one length, so each says where the next begins.
 fn pending(start: u32, end: u32, records: &[u32]) -> bool
     ensures { result ≡ scan start end 0 records.now }
 {
@@ -134,38 +114,21 @@ fn wide(name: u8) -> u32
     name as u32
 }
 
-// Writes the first `count` names from a place on.
-fn spell(names: [u8; 96], count: usize, at: usize, errors: &mut [u32])
-    requires { (count ≤ 96) × (at + count ≤ length errors.old) }
-    ensures { errors.new ≡ paste errors.old at names count }
+// Writes names from a place on.
+fn spell(names: &[u8], at: usize, errors: &mut [u32])
+    requires { at + length names.now ≤ length errors.old }
+    ensures { errors.new ≡ paste errors.old at names.now (length names.now) }
 {
-    let mut k = 0;
-    while k < count {
+    for k in 0..names.len() {
         errors[at + k] = wide(names[k]);
-        k += 1;
     }
 }
 
-// Names in order of first entry, none twice: never more than 85.
+// Names in order of first entry, none twice: never more than 85. An array and a count, since the library takes no memory of its own.
 #[derive(Drop)]
 pub struct Names {
     pub count: usize,
     pub names: [u8; 96],
-}
-
-// Whether the first n names have the name.
-fn holds(names: &[u8], n: usize, name: u8) -> bool
-    requires { n ≤ length names.now }
-    ensures { result ≡ P.has (take n names.now) name }
-{
-    let mut i = 0;
-    while i < n {
-        if names[i] == name {
-            return true;
-        }
-        i += 1;
-    }
-    false
 }
 
 impl Names {
@@ -174,12 +137,11 @@ impl Names {
         requires { Spelt self.count self.names × (name < 85) }
         ensures { Spells (P.join (take self.count self.names) (name ∷ [])) result }
     {
-        let n = self.count;
-        if holds(&self.names, n, name) {
+        if self.names[..self.count].contains(&name) {
             return self;
         }
-        self.names[n] = name;
-        self.count = n + 1;
+        self.names[self.count] = name;
+        self.count += 1;
         self
     }
 
@@ -188,13 +150,11 @@ impl Names {
         requires { Spelt self.count self.names }
         ensures { Spells (P.join (take self.count self.names) (ids_of (set_of set))) result }
     {
-        let mut k = 0;
-        while k < 16 {
-            let Name::Is(name) = name_at(set, k) else {
+        for k in 0..16 {
+            let Some(name) = name_at(set, k) else {
                 return self;
             };
             self = self.enter(name as u8);
-            k += 1;
         }
         self
     }
@@ -212,79 +172,79 @@ impl Names {
 }
 
 // The names that the codes stand for. They are spelled only here, where an error is chosen.
-fn spelled(notes: &[usize; 69]) -> Names
+fn spelled(notes: &Notes) -> Names
     requires { Coded notes.now }
-    ensures { Spells (m.spelled (take (count_of notes.now) (codes_of notes.now))) result }
+    ensures { Spells (m.spelled (take notes.now.count notes.now.codes)) result }
 {
-    let mut l = Names {
+    let mut names = Names {
         count: 0,
-        names: [0u8; 96],
+        names: [0; 96],
     };
-    let mut k = 0;
-    while k < notes[COUNT] {
-        l = l.enter_code(notes[CODES + k]);
-        k += 1;
+    for k in 0..notes.count {
+        names = names.enter_code(notes.codes[k]);
     }
-    l
+    names
 }
 
-// Writes a record of the first `count` names, with the number of the item at hand; where there is no room, says so by 8.
+// Writes a record, with the number of the item at hand; or there is no room.
 pub fn record(
     start: u32,
     end: u32,
     form: u32,
-    count: usize,
-    names: [u8; 96],
+    names: &[u8],
     errors: &mut [u32],
-    notes: &mut [usize; 69],
-) -> u16
-    requires { (er_of notes.old ≤ ercap_of notes.old)
-        × (ercap_of notes.old ≤ length errors.old)
-        × (count ≤ 85)
-        × (length names ≡ 96)
-        × Coded notes.old
-        × (number_of notes.old ≤ 65536) }
+    notes: &mut Notes,
+) -> Option<Refusal>
+    requires { (notes.old.er ≤ notes.old.ercap)
+        × (notes.old.ercap ≤ length errors.old)
+        × (length names.now ≤ 85)
+        × (notes.old.number ≤ 65536) }
     ensures { (s : Whole) → s.full ≡ 0
-        → Noted (start ∷ end ∷ form ∷ number_of notes.old ∷ count ∷ take count names)
-        (beside notes.old s) (with_full result (beside notes.new s))
+        → Noted (start ∷ end ∷ form ∷ notes.old.number ∷ length names.now ∷ names.now)
+        (beside notes.old s) (with_full (exceeded result) (beside notes.new s))
         errors.old errors.new }
 {
-    let at = notes[ER];
-    if notes[ERCAP] - at < count + HEAD {
-        return full::ERRORS;
+    let at = notes.er;
+    if notes.ercap - at < names.len() + HEAD {
+        return Some(Refusal::Errors);
     }
     errors[at] = start;
     errors[at + END] = end;
     errors[at + FORM] = form;
-    errors[at + shapes::record::ITEM] = notes[NUMBER] as u32;
-    errors[at + shapes::record::COUNT] = count as u32;
-    spell(names, count, at + HEAD, errors);
-    notes[ER] = at + HEAD + count;
-    0
+    errors[at + shapes::record::ITEM] = notes.number as u32;
+    errors[at + shapes::record::COUNT] = names.len() as u32;
+    spell(names, at + HEAD, errors);
+    notes.er = at + HEAD + names.len();
+    None
 }
 
-// Writes a record of form 9, with the place of the bad byte; where there is no room, says so by 8.
-fn record_bad(start: u32, end: u32, place: u32, errors: &mut [u32], notes: &mut [usize; 69]) -> u16
-    requires { (er_of notes.old ≤ ercap_of notes.old)
-        × (ercap_of notes.old ≤ length errors.old)
-        × Coded notes.old
-        × (number_of notes.old ≤ 65536) }
+// Writes a record of form 9, with the place of the bad byte; or there is no room.
+fn record_bad(
+    start: u32,
+    end: u32,
+    place: u32,
+    errors: &mut [u32],
+    notes: &mut Notes,
+) -> Option<Refusal>
+    requires { (notes.old.er ≤ notes.old.ercap)
+        × (notes.old.ercap ≤ length errors.old)
+        × (notes.old.number ≤ 65536) }
     ensures { (s : Whole) → s.full ≡ 0
-        → Noted (start ∷ end ∷ 9 ∷ number_of notes.old ∷ 0 ∷ place ∷ []) (beside notes.old s) (with_full result (beside notes.new s))
+        → Noted (start ∷ end ∷ 9 ∷ notes.old.number ∷ 0 ∷ place ∷ []) (beside notes.old s) (with_full (exceeded result) (beside notes.new s))
         errors.old errors.new }
 {
-    let at = notes[ER];
-    if notes[ERCAP] - at < HEAD + 1 {
-        return full::ERRORS;
+    let at = notes.er;
+    if notes.ercap - at < HEAD + 1 {
+        return Some(Refusal::Errors);
     }
     errors[at] = start;
     errors[at + END] = end;
     errors[at + FORM] = 9;
-    errors[at + shapes::record::ITEM] = notes[NUMBER] as u32;
+    errors[at + shapes::record::ITEM] = notes.number as u32;
     errors[at + shapes::record::COUNT] = 0;
     errors[at + HEAD] = place;
-    notes[ER] = at + HEAD + 1;
-    0
+    notes.er = at + HEAD + 1;
+    None
 }
 
 // Where in the source the bad byte is of a text that starts at the given place.
@@ -299,70 +259,59 @@ fn place_of(start: u32, text: &[u8]) -> u32
 fn choose_at(
     at: usize,
     expected: bool,
-    src: &[u8],
-    ids: &[u32],
-    ends: &[u32],
+    x: &Given<'_>,
     errors: &mut [u32],
-    notes: &mut [usize; 69],
-) -> u16
-    requires { Rows (source src.now ids.now ends.now)
-        × Sound (length ids.now) notes.old
-        × (ercap_of notes.old ≤ length errors.old)
-        × (first_of notes.old ≤ at)
-        × (at ≤ length ids.now) }
-    ensures { (s : Whole) → s.full ≡ 0 → Ok (length ids.now) (beside notes.old s)
-        → Chose (P.add (length ids.now - at) (choice_of expected (names_in (beside notes.old s))))
-        (source src.now ids.now ends.now) (beside notes.old s)
-        (with_full result (beside notes.new s)) errors.old errors.new }
+    notes: &mut Notes,
+) -> Option<Refusal>
+    requires { Sound (length x.now.ids.now) notes.old
+        × (notes.old.ercap ≤ length errors.old)
+        × (notes.old.first ≤ at)
+        × (at ≤ length x.now.ids.now) }
+    ensures { (s : Whole) → s.full ≡ 0 → Ok (length x.now.ids.now) (beside notes.old s)
+        → Chose (P.add (length x.now.ids.now - at) (choice_of expected (names_in (beside notes.old s))))
+        (source_of x.now) (beside notes.old s)
+        (with_full (exceeded result) (beside notes.new s)) errors.old errors.new }
 {
-    let start = start_of(at, ends);
-    let end = end_of(at, ends);
-    let item = notes[ITEM];
-    let er = notes[ER];
-    if pending(start, end, &errors[item..er]) {
-        return 0;
+    let start = x.start_of(at);
+    let end = x.end_of(at);
+    if pending(start, end, &errors[notes.item..notes.er]) {
+        return None;
     }
-    let a = start as usize;
-    let e = end as usize;
-    let row = id_at(at, ids);
-    let quote = notes[QUOTE];
-    let form = form_of(row, &src[a..e], expected, quote);
+    let text = &x.src[start as usize..end as usize];
+    let form = form_of(x.id_at(at), text, expected, notes.quote);
     if form == 9 {
-        let place = place_of(start, &src[a..e]);
+        let place = place_of(start, text);
         return record_bad(start, end, place, errors, notes);
     }
-    let l = spelled(notes);
-    let count = named(expected, form, l.count);
-    let names = l.names;
-    record(start, end, form, count, names, errors, notes)
+    let names = spelled(notes);
+    let count = named(expected, form, names.count);
+    record(start, end, form, &names.names[..count], errors, notes)
 }
 
 // Chooses an error at the furthest row that was expected or unexpected, and empties both. Expected wins a tie. It takes and gives which room was
 // exceeded.
 pub fn choose(
-    full: u16,
-    src: &[u8],
-    ids: &[u32],
-    ends: &[u32],
+    full: Option<Refusal>,
+    x: &Given<'_>,
     errors: &mut [u32],
-    notes: &mut [usize; 69],
-) -> u16
-    requires { Rows (source src.now ids.now ends.now) × Sound (length ids.now) notes.old × (ercap_of notes.old ≤ length errors.old) }
-    ensures { (s : Whole) → s.full ≡ full → Ok (length ids.now) (beside notes.old s)
-        → Errors P.choose (source src.now ids.now ends.now) (beside notes.old s)
-        (with_full result (beside notes.new s)) errors.old errors.new }
+    notes: &mut Notes,
+) -> Option<Refusal>
+    requires { Sound (length x.now.ids.now) notes.old × (notes.old.ercap ≤ length errors.old) }
+    ensures { (s : Whole) → s.full ≡ exceeded full → Ok (length x.now.ids.now) (beside notes.old s)
+        → Errors P.choose (source_of x.now) (beside notes.old s)
+        (with_full (exceeded result) (beside notes.new s)) errors.old errors.new }
 {
-    let want = notes[WANT];
-    let unwant = notes[UNWANT];
-    notes[WANT] = 0;
-    notes[UNWANT] = 0;
-    if full != 0 {
+    let want = notes.want;
+    let unwant = notes.unwant;
+    notes.want = 0;
+    notes.unwant = 0;
+    if full.is_some() {
         return full;
     }
     let expected = unwant <= want;
     let row = if expected { want } else { unwant };
     if row == 0 {
-        return 0;
+        return None;
     }
-    choose_at(row - 1, expected, src, ids, ends, errors, notes)
+    choose_at(row - 1, expected, x, errors, notes)
 }

@@ -4,45 +4,35 @@
 
 ghost use Rattle.std.specs.Prelude.{◌≤◌, length};
 
-use console::{argument, print_decimal, write};
-use editions::Converted;
+use console::{argument, write};
+use editions::Unconverted;
 use std::io::{Input, Read};
 
 // What `intake` writes in edition 2 has at most 4,096 events of 55 bytes each, and in its error lines at most 16,384 names of 17: less than this. A field
 // more is at most 7 bytes to a line of at least 9, so that twice as much holds every listing that is taken.
 const MOST_BYTES: usize = 524288;
 
-#[derive(Drop)]
-enum Listing {
-    Bytes(usize),
-    Unreadable,
-}
-
 fn say(err: &impl Print, text: &[u8]) {
     write(err, text);
 }
 
 fn say_stray(err: &impl Print, line: usize, edition: &[u8]) {
-    say(err, b"convert: line ");
-    print_decimal(err, line as u64);
-    say(err, b": not a listing of edition ");
+    let _ = print!(err; "convert: line {line}: not a listing of edition ");
     say(err, edition);
     say(err, b"\n");
 }
 
-// All that the room has place for.
-fn read_listing(input: &mut impl Read, room: &mut [u8]) -> Listing {
+// All that the room has place for, where it can be read. A turn is a read, and no index counts up.
+fn read_listing(input: &mut impl Read, room: &mut [u8]) -> Option<usize> {
     let mut size = 0;
     while size < room.len() {
-        let Ok(n) = input.read(&mut room[size..]) else {
-            return Listing::Unreadable;
-        };
+        let n = input.read(&mut room[size..]).ok()?;
         if n == 0 {
-            return Listing::Bytes(size);
+            return Some(size);
         }
         size += n;
     }
-    Listing::Bytes(size)
+    Some(size)
 }
 
 fn write_front(rt: &impl Print, room: &[u8], count: usize) {
@@ -51,11 +41,17 @@ fn write_front(rt: &impl Print, room: &[u8], count: usize) {
     }
 }
 
-fn answer(rt: &impl Print, err: &impl Print, converted: Converted, room: &[u8], edition: &[u8]) {
+fn answer(
+    rt: &impl Print,
+    err: &impl Print,
+    converted: Result<usize, Unconverted>,
+    room: &[u8],
+    edition: &[u8],
+) {
     match converted {
-        Converted::Stray(line) => say_stray(err, line, edition),
-        Converted::Full => say(err, b"convert: the listing has no room\n"),
-        Converted::Text(count) => write_front(rt, room, count),
+        Err(Unconverted::Stray(line)) => say_stray(err, line, edition),
+        Err(Unconverted::Full) => say(err, b"convert: the listing has no room\n"),
+        Ok(count) => write_front(rt, room, count),
     }
 }
 
@@ -91,7 +87,7 @@ fn convert_within(
 }
 
 // As arrays, so that their lengths are known from their types.
-fn read_text(input: &mut impl Read, text: &mut [u8; 524289]) -> Listing {
+fn read_text(input: &mut impl Read, text: &mut [u8; 524289]) -> Option<usize> {
     read_listing(input, text)
 }
 
@@ -110,8 +106,8 @@ fn convert_input(rt: &(impl Input + Print), err: &impl Print, up: bool) {
     let mut text = [0u8; 524289];
     let mut room = [0u8; 1048576];
     match read_text(&mut rt.reader(), &mut text) {
-        Listing::Unreadable => say(err, b"convert: standard input cannot be read\n"),
-        Listing::Bytes(size) => convert_taken(rt, err, up, size, &text, &mut room),
+        None => say(err, b"convert: standard input cannot be read\n"),
+        Some(size) => convert_taken(rt, err, up, size, &text, &mut room),
     }
 }
 
@@ -119,15 +115,9 @@ fn main(rt: HostRuntime) {
     let err = rt.stderr();
     let mut word = [0u8; 2];
     let length = argument(&rt, 1, &mut word);
-    if length == 1 {
-        if word[0] == b'2' {
-            convert_input(&rt, &err, true);
-            return;
-        }
-        if word[0] == b'1' {
-            convert_input(&rt, &err, false);
-            return;
-        }
+    match &word[..length] {
+        b"2" => convert_input(&rt, &err, true),
+        b"1" => convert_input(&rt, &err, false),
+        _ => say(&err, b"convert: give the edition asked for, 1 or 2\n"),
     }
-    say(&err, b"convert: give the edition asked for, 1 or 2\n");
 }

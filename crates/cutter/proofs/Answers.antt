@@ -7,6 +7,7 @@ use lib.Dec.{leb, ltb}
 use lib.ListN.{length}
 use native.Mathlib.Omega.{arith}
 use borrow.Author.Tests.{lt-ltb, le-ltb, ltb-true, ltb-false, leb-true, leb-false}
+use Rattle.std.specs.Prelude.{min}
 use Rattle.cutter.specs.Rows.{After, cutting, put, refused, cut}
 
 abbrev pub given : List ℕ → List ℕ → List ℕ → List ℕ → After
@@ -43,25 +44,19 @@ pub same_after : (n : ℕ) {ids starts ends : List ℕ} (a : After) → a.number
     → record { number = 0; count = n; ids = ids; starts = starts; ends = ends } ≡ a
 same_after n a z c i s e = λ j. record { number = sym z j; count = c j; ids = i j; starts = s j; ends = e j }
 
--- the lesser of two numbers is below n just where one of them is
-pub lesser_first : (a b n : ℕ) → a ≤ b → ltb a n ≡ (ltb a n || ltb b n)
-lesser_first a b n h = go (ltb a n) refl
+-- the least of three numbers is below n just where one of them is
+lesser : (a b n : ℕ) → ltb (min a b) n ≡ (ltb a n || ltb b n)
+lesser a b n = go (ltb a n) refl (ltb b n) refl
   where
-    go : (t : Bool) → ltb a n ≡ t → t ≡ (t || ltb b n)
-    go true e = refl
-    go false e = let g : n ≤ a = ltb-false a n e in sym (le-ltb b n (omega arith))
-
-pub lesser_second : (a b n : ℕ) → b ≤ a → ltb b n ≡ (ltb a n || ltb b n)
-lesser_second a b n h = go (ltb a n) refl
-  where
-    go : (t : Bool) → ltb a n ≡ t → ltb b n ≡ (t || ltb b n)
-    go true e = let g : a < n = ltb-true a n e in lt-ltb b n (omega arith)
-    go false e = refl
+    go : (x : Bool) → ltb a n ≡ x → (y : Bool) → ltb b n ≡ y → ltb (min a b) n ≡ (x || y)
+    go true e y f = let g : a < n = ltb-true a n e in lt-ltb (min a b) n (omega arith)
+    go false e true f = let g : b < n = ltb-true b n f in lt-ltb (min a b) n (omega arith)
+    go false e false f = let g : n ≤ a = ltb-false a n e in let h : n ≤ b = ltb-false b n f in le-ltb (min a b) n (omega arith)
 
 -- the least of three, and whether n rows fit into it
-module _ (a b c q r n : ℕ) (f : ltb r n ≡ (ltb q n || ltb c n)) (g : ltb q n ≡ (ltb a n || ltb b n)) (fit : Bool) (e : fit ≡ leb n r) where
+module _ (a b c r n : ℕ) (f : r ≡ min (min a b) c) (fit : Bool) (e : fit ≡ leb n r) where
   least : (ltb a n || ltb b n || ltb c n) ≡ ltb r n
-  least = sym (f ∙ ap (λ x. x || ltb c n) g)
+  least = sym (ap (λ x. ltb x n) f ∙ lesser (min a b) c n ∙ ap (λ x. x || ltb c n) (lesser a b n))
 
   pub too_small : fit ≡ false → (ltb a n || ltb b n || ltb c n) ≡ true
   too_small z = least ∙ lt-ltb r n (leb-false n r (sym e ∙ z))

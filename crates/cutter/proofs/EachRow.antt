@@ -3,7 +3,7 @@ use Prim.Native.Nat.{ℕ, zero, suc, ◌+◌, ◌-◌, ◌≤◌, ◌<◌}
 use mathlib.Core.Path.{◌≡◌, refl, sym, ap, ◌∙◌, subst}
 use mathlib.Core.List.{List, [], ◌∷◌}
 use mathlib.Core.Bool.{Bool, true, false, cond}
-use mathlib.Core.Option.{none, some}
+use Rattle.std.specs.Prelude.{None, Some}
 use mathlib.Core.Logic.{inl, inr, ⊎_elim}
 use native.Mathlib.Omega.{arith}
 use lib.Dec.{T, ltb, eqb, ltb→lt}
@@ -26,22 +26,22 @@ use Rattle.cutter.proofs.Fills.{taken}
 
 -- what the matcher finds, said without it
 module _ (m : ℕ) (ts : Tokens) (s : List ℕ) where
-  found_longest : (i n : ℕ) → longest m ts s ≡ some (i, n) → Longest m ts s i n
+  found_longest : (i n : ℕ) → longest m ts s ≡ Some (i, n) → Longest m ts s i n
   found_longest i n e =
       record {
         fits = longest_fits m ts s i n e;
         most = λ i' n' f.
             let p = none_longer m ts s i' n' f in
-            let q : ◌≡◌ {A = Match} (some (p.0, p.1)) (some (i, n)) = sym p.2 ∙ e in
+            let q : ◌≡◌ {A = Match} (Some (p.0, p.1)) (Some (i, n)) = sym p.2 ∙ e in
             let w : ◌≡◌ {A = ℕ × ℕ} (p.0, p.1) (i, n) = cc in
             let z : p.1 ≡ n = ap (λ u. u.1) w in
             omega (arith, z, p.3);
       }
 
-  found_none : longest m ts s ≡ none → Unmatched m ts s
+  found_none : longest m ts s ≡ None → Unmatched m ts s
   found_none e i n f =
       let p = none_longer m ts s i n f in
-      let q : ◌≡◌ {A = Match} (some (p.0, p.1)) none = sym p.2 ∙ e in
+      let q : ◌≡◌ {A = Match} (Some (p.0, p.1)) None = sym p.2 ∙ e in
       let z : ◌≡◌ {A = ℕ} 0 1 = cc in
       absurd (omega arith)
 
@@ -52,32 +52,32 @@ module _ (s : List ℕ) where
   strange_said = go (longest 0 t.unknown s) refl
     where
       go : (o : Match) → longest 0 t.unknown s ≡ o → Strange s (strange_by o s)
-      go none e = inr (found_none 0 t.unknown s e, refl)
-      go (some x) e = inl (x.0, x.1, found_longest 0 t.unknown s x.0 x.1 e, refl)
+      go None e = inr (found_none 0 t.unknown s e, refl)
+      go (Some x) e = inl (x.0, x.1, found_longest 0 t.unknown s x.0 x.1 e, refl)
 
   normal_said : (p : Place) → Normal p s (normal_row p s)
   unfolding normal_row
   normal_said p = go (longest 0 t.normal s) refl
     where
       go : (o : Match) → longest 0 t.normal s ≡ o → Normal p s (normal_by o p s)
-      go none e = inr (found_none 0 t.normal s e, strange_said)
-      go (some x) e = inl (x.0, x.1, found_longest 0 t.normal s x.0 x.1 e, refl)
+      go None e = inr (found_none 0 t.normal s e, strange_said)
+      go (Some x) e = inl (x.0, x.1, found_longest 0 t.normal s x.0 x.1 e, refl)
 
   hex_said : Hex s (hex_row s)
   unfolding hex_row
   hex_said = go (longest 1 t.hex s) refl
     where
       go : (o : Match) → longest 1 t.hex s ≡ o → Hex s (hex_by o s)
-      go none e = inr (found_none 1 t.hex s e, normal_said Unclosed)
-      go (some x) e = inl (x.0, x.1, found_longest 1 t.hex s x.0 x.1 e, refl)
+      go None e = inr (found_none 1 t.hex s e, normal_said Unclosed)
+      go (Some x) e = inl (x.0, x.1, found_longest 1 t.hex s x.0 x.1 e, refl)
 
   jump_said : Jump s (jump_row s)
   unfolding jump_row
   jump_said = go (longest 2 t.jump s) refl
     where
       go : (o : Match) → longest 2 t.jump s ≡ o → Jump s (jump_by o s)
-      go none e = inr (found_none 2 t.jump s e, hex_said)
-      go (some x) e = inl (x.0, x.1, found_longest 2 t.jump s x.0 x.1 e, refl)
+      go None e = inr (found_none 2 t.jump s e, hex_said)
+      go (Some x) e = inl (x.0, x.1, found_longest 2 t.jump s x.0 x.1 e, refl)
 
   pub cuts : (p : Place) → Cuts p s (row p s)
   unfolding row

@@ -2,7 +2,7 @@
 use Prim.Native.Nat.{ℕ, zero, suc, ◌+◌, ◌-◌, ◌≤◌, ◌<◌}
 use mathlib.Core.Path.{◌≡◌, refl}
 use mathlib.Core.List.{List, [], ◌∷◌}
-use mathlib.Core.Option.{Option, none, some}
+use Rattle.std.specs.Prelude.{Option, None, Some}
 use native.Mathlib.Omega.{arith}
 use lib.ListN.{length}
 use Rattle.tokens.specs.Glyph.{glyph}
@@ -16,12 +16,12 @@ use Rattle.tokens.proofs.Glyphs.{glyph_some, glyph_within}
 
 -- a match is of one byte at least and ends within n bytes
 abbrev Good : ℕ → Match → Type 0
-Good n none = Unit
-Good n (some m) = (0 < m.1) × (m.1 ≤ n)
+Good n None = Unit
+Good n (Some m) = (0 < m.1) × (m.1 ≤ n)
 
 better_good : (n at : ℕ) (o : Option ℕ) (b : Match) → 0 < at → at ≤ n → Good n b → Good n (better o at b)
-better_good n at none b h l g = g
-better_good n at (some k) b h l g = (h, l)
+better_good n at None b h l g = g
+better_good n at (Some k) b h l g = (h, l)
 
 walk_good : (n m at k : ℕ) (ts : Tokens) (b : Match) (xs : List ℕ) → k ≤ length xs → at + (length xs - k) ≡ n → Good n b → Good n (walk m at k ts b xs)
 walk_good n m at k ts b [] h e g = g
@@ -35,7 +35,7 @@ walk_good n m at zero ts b (x ∷ xs) h e g =
 
 longest_good : (m : ℕ) (ts : Tokens) (s : List ℕ) → Good (length s) (longest m ts s)
 unfolding longest
-longest_good m ts s = walk_good (length s) m 0 0 ts none s (omega arith) (omega arith) tt
+longest_good m ts s = walk_good (length s) m 0 0 ts None s (omega arith) (omega arith) tt
 
 -- so is a row
 module _ (s : List ℕ) (some_bytes : 0 < length s) where
@@ -47,32 +47,32 @@ module _ (s : List ℕ) (some_bytes : 0 < length s) where
   strange_fine = go (longest 0 t.unknown s) (longest_good 0 t.unknown s)
     where
       go : (o : Match) → Good (length s) o → Fine (strange_by o s)
-      go none g = (omega arith, some_bytes)
-      go (some m) g = g
+      go None g = (omega arith, some_bytes)
+      go (Some m) g = g
 
   normal_fine : (p : Place) → Fine (normal_row p s)
   unfolding normal_row
   normal_fine p = go (longest 0 t.normal s) (longest_good 0 t.normal s)
     where
       go : (o : Match) → Good (length s) o → Fine (normal_by o p s)
-      go none g = strange_fine
-      go (some m) g = g
+      go None g = strange_fine
+      go (Some m) g = g
 
   hex_fine : Fine (hex_row s)
   unfolding hex_row
   hex_fine = go (longest 1 t.hex s) (longest_good 1 t.hex s)
     where
       go : (o : Match) → Good (length s) o → Fine (hex_by o s)
-      go none g = normal_fine Unclosed
-      go (some m) g = g
+      go None g = normal_fine Unclosed
+      go (Some m) g = g
 
   jump_fine : Fine (jump_row s)
   unfolding jump_row
   jump_fine = go (longest 2 t.jump s) (longest_good 2 t.jump s)
     where
       go : (o : Match) → Good (length s) o → Fine (jump_by o s)
-      go none g = hex_fine
-      go (some m) g = g
+      go None g = hex_fine
+      go (Some m) g = g
 
   pub row_fine : (p : Place) → Fine (row p s)
   unfolding row

@@ -1,15 +1,14 @@
 -- What the code's rows stand for, and what is known beside them. Only contracts of private functions cite this file.
-use Rattle.std.specs.Prelude.{ℕ, ◌+◌, ◌-◌, ◌*◌, ◌%◌, ◌≤◌, ◌<◌, ◌≡◌, List, map, Bool, true, false, length, get_or, drop}
-use Rattle.std.proofs.Math.Option.{none}
+use Rattle.std.specs.Prelude.{ℕ, ◌+◌, ◌-◌, ◌*◌, ◌%◌, ◌≤◌, ◌<◌, ◌≡◌, List, map, true, false, length, get_or, drop, None}
 use Rattle.tokens.specs.Expr.{longest}
-use Rattle.tokens.specs.Tokens as t
 use Rattle.tokens.specs.Table.{key_table}
-use Rattle.tokens.specs.Lent.{Run}
+use Rattle.tokens.specs.States.{label, Run}
 use Rattle.cutter.specs.Rows as r
 use Rattle.cutter.specs.declared.place.Place.{Place}
 use Rattle.cutter.specs.declared.place.Place.TheVariants.{Elsewhere, Named, Equated, InHex, InJump, Unclosed}
 use Rattle.cutter.specs.declared.row.Row as d
 use Rattle.cutter.specs.declared.memo.Memo.{Memo}
+use Rattle.cutter.specs.declared.memo.Misses.{Misses}
 use Rattle.cutter.specs.declared.turn.Turn.{Turn}
 
 abbrev pub row_of : d.Row → r.Row
@@ -17,10 +16,10 @@ row_of x = (x.id, x.len, x.place)
 
 -- a row that a mode matched; a row that none did
 abbrev pub found : ℕ → ℕ → Place → d.Row
-found id len p = record { id = id; len = len; place = p; lost = false; astray = false }
+found id len p = record { id = id; len = len; place = p; misses = record { normal = false; hex = false } }
 
 abbrev pub missed : ℕ → ℕ → d.Row
-missed id len = record { id = id; len = len; place = Elsewhere; lost = true; astray = false }
+missed id len = record { id = id; len = len; place = Elsewhere; misses = record { normal = true; hex = false } }
 
 -- the mode that cuts at a place
 abbrev pub mode_at : Place → ℕ
@@ -57,20 +56,20 @@ pub record Stands (o : Memo) (at : ℕ) (s : List ℕ) : Type 0 where
   pub until : o.from ≤ at
   pub holds : Holds o (drop o.from s)
 
--- nothing matches here in normal mode, in hex mode
-pub record Known (lost astray : Bool) (s : List ℕ) : Type 0 where
-  pub normal : lost ≡ true → longest 0 t.normal s ≡ none
-  pub hex : astray ≡ true → longest 1 t.hex s ≡ none
+-- nothing matches here in normal mode, in hex mode; states 1 and 2 stand for their expressions
+pub record Known (x : Misses) (s : List ℕ) : Type 0 where
+  pub normal : x.normal ≡ true → longest 0 (label 1) s ≡ None
+  pub hex : x.hex ≡ true → longest 1 (label 2) s ≡ None
 
 -- the code's row is the definition's; it has one byte at least and lies within the bytes; and what it says of the modes is so
 pub record Made (x : d.Row) (want : r.Row) (s : List ℕ) : Type 0 where
   pub is : row_of x ≡ want
   pub some : 0 < x.len
   pub within : x.len ≤ length s
-  pub known : Known x.lost x.astray s
+  pub known : Known x.misses s
 
 abbrev pub Lost : List ℕ → Type 0
-Lost s = longest 0 t.normal s ≡ none
+Lost s = longest 0 (label 1) s ≡ None
 
 abbrev pub turn_of : Turn → r.Row
 turn_of x = (x.id, x.len, x.place)

@@ -1,8 +1,7 @@
 -- The rows of a source: which mode cuts at each place, and what `cut` answers.
-use Rattle.std.specs.Prelude.{ℕ, zero, suc, ◌+◌, ◌-◌, List, [], ◌∷◌, ◌++◌, map, Bool, true, false, cond, ◌&&◌, ◌||◌, ltb, eqb, length, take, drop}
+use Rattle.std.specs.Prelude.{ℕ, zero, suc, ◌+◌, ◌-◌, List, [], ◌∷◌, ◌++◌, map, Bool, true, false, cond, ◌&&◌, ◌||◌, ltb, eqb, length, take, drop, None, Some, Result, Ok, Err}
 use Prim.Native.Char.{code}
 use Prim.Native.String as s
-use Rattle.std.proofs.Math.Option.{none, some}
 use Rattle.shapes.specs.Refusal as Refusal
 use Rattle.kinds.specs.Kinds as k
 use Rattle.kinds.specs.Sets.{trivial}
@@ -12,8 +11,7 @@ use Rattle.tokens.specs.Expr.{Match, longest}
 use Rattle.tokens.specs.Tokens as t
 use Rattle.cutter.specs.declared.place.Place.{Place}
 use Rattle.cutter.specs.declared.place.Place.TheVariants.{Elsewhere, Named, Equated, InHex, InJump, Unclosed}
-use Rattle.cutter.specs.declared.answer.Cut.{Cut}
-use Rattle.cutter.specs.declared.answer.Cut.TheVariants.{Rows, Refused}
+use Rattle.shapes.specs.declared.refusal.Refusal as D
 
 -- plain ASCII: a character's code is its byte
 abbrev pub bytes : s.String → List ℕ
@@ -65,30 +63,30 @@ named id text = cond (eqb id k.IDENT) (keyword text) id
 
 -- nothing matches: INVALID_UTF8, or UNKNOWN up to white space, of one byte at least
 abbrev pub strange_by : Match → List ℕ → Row
-strange_by none s = (cond (eqb (glyph 0 s).0 c.INVALID) k.INVALID_UTF8 k.UNKNOWN, 1, Elsewhere)
-strange_by (some m) s = (k.UNKNOWN, m.1, Elsewhere)
+strange_by None s = (cond (eqb (glyph 0 s).0 c.INVALID) k.INVALID_UTF8 k.UNKNOWN, 1, Elsewhere)
+strange_by (Some m) s = (k.UNKNOWN, m.1, Elsewhere)
 
 unfoldable pub strange : List ℕ → Row
 strange s = strange_by (longest 0 t.unknown s) s
 
 abbrev pub normal_by : Match → Place → List ℕ → Row
-normal_by none p s = strange s
-normal_by (some m) p s = (named m.0 (take m.1 s), m.1, next p m.0)
+normal_by None p s = strange s
+normal_by (Some m) p s = (named m.0 (take m.1 s), m.1, next p m.0)
 
 unfoldable pub normal_row : Place → List ℕ → Row
 normal_row p s = normal_by (longest 0 t.normal s) p s
 
 -- what hex mode does not match normal mode cuts: the closing brace, or something else within the pattern
 abbrev pub hex_by : Match → List ℕ → Row
-hex_by none s = normal_row Unclosed s
-hex_by (some m) s = (m.0, m.1, cond (eqb m.0 k.L_BRACKET) InJump InHex)
+hex_by None s = normal_row Unclosed s
+hex_by (Some m) s = (m.0, m.1, cond (eqb m.0 k.L_BRACKET) InJump InHex)
 
 unfoldable pub hex_row : List ℕ → Row
 hex_row s = hex_by (longest 1 t.hex s) s
 
 abbrev pub jump_by : Match → List ℕ → Row
-jump_by none s = hex_row s
-jump_by (some m) s = (m.0, m.1, InJump)
+jump_by None s = hex_row s
+jump_by (Some m) s = (m.0, m.1, InJump)
 
 unfoldable pub jump_row : List ℕ → Row
 jump_row s = jump_by (longest 2 t.jump s) s
@@ -145,6 +143,6 @@ cut s ids starts ends =
     }))
 
 -- the number and the count for each case of the answer
-abbrev pub returning : Cut → List ℕ → List ℕ → List ℕ → After
-returning (Rows n) ids starts ends = record { number = 0; count = n; ids = ids; starts = starts; ends = ends }
-returning (Refused n) ids starts ends = refused n ids starts ends
+abbrev pub returning : Result ℕ D.Refusal → List ℕ → List ℕ → List ℕ → After
+returning (Ok n) ids starts ends = record { number = 0; count = n; ids = ids; starts = starts; ends = ends }
+returning (Err e) ids starts ends = refused (Refusal.number e) ids starts ends

@@ -1,10 +1,11 @@
 // Which mode cuts next.
 ghost use Rattle.std.specs.Prelude.{◌≡◌};
 ghost use Rattle.cutter.specs.Rows.{next};
+ghost use Rattle.tokens.specs.Modes.{number};
 ghost use Rattle.cutter.specs.Made.{mode_at};
 
-use kinds::kind;
-use tokens::matcher::{HEX, JUMP, NORMAL};
+use kinds::Kind;
+use tokens::mode::Mode;
 
 // Where the cutting stands: how much of a pattern identifier, an equals sign and an opening brace was just seen, or in which mode it is; or, `Unclosed`, that
 // normal mode cuts within a hex pattern whose closing brace has not come.
@@ -22,50 +23,28 @@ pub enum Place {
 pub fn onward(place: Place, id: u32) -> Place
     ensures { result ≡ next place id }
 {
-    if id == kind::PATTERN_IDENT {
+    if id == Kind::PatternIdent as u32 {
         return Place::Named;
     }
     if kinds::is_trivia(id) {
         return place;
     }
     match place {
-        Place::Named => {
-            if id == kind::EQUAL {
-                return Place::Equated;
-            }
-            Place::Elsewhere
-        }
-        Place::Equated => {
-            if id == kind::L_BRACE {
-                return Place::InHex;
-            }
-            Place::Elsewhere
-        }
-        Place::Elsewhere => Place::Elsewhere,
-        Place::InHex => Place::Elsewhere,
-        Place::InJump => Place::Elsewhere,
-        Place::Unclosed => {
-            if id == kind::L_BRACKET {
-                return Place::InJump;
-            }
-            if id == kind::R_BRACE {
-                return Place::Elsewhere;
-            }
-            Place::Unclosed
-        }
+        Place::Named if id == Kind::Equal as u32 => Place::Equated,
+        Place::Equated if id == Kind::LBrace as u32 => Place::InHex,
+        Place::Unclosed if id == Kind::LBracket as u32 => Place::InJump,
+        Place::Unclosed if id != Kind::RBrace as u32 => Place::Unclosed,
+        _ => Place::Elsewhere,
     }
 }
 
 // The mode that cuts at a place.
-pub fn mode_of(place: Place) -> usize
-    ensures { result ≡ mode_at place }
+pub fn mode_of(place: Place) -> Mode
+    ensures { number result ≡ mode_at place }
 {
     match place {
-        Place::InHex => HEX,
-        Place::InJump => JUMP,
-        Place::Elsewhere => NORMAL,
-        Place::Named => NORMAL,
-        Place::Equated => NORMAL,
-        Place::Unclosed => NORMAL,
+        Place::InHex => Mode::Hex,
+        Place::InJump => Mode::Jump,
+        Place::Elsewhere | Place::Named | Place::Equated | Place::Unclosed => Mode::Normal,
     }
 }

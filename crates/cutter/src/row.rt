@@ -2,26 +2,23 @@
 // is a strange one.
 ghost use Rattle.std.specs.Prelude.{◌≡◌, ◌<◌, length};
 ghost use Rattle.cutter.specs.Rows.{normal_row, hex_row, jump_row, strange, row};
-ghost use Rattle.tokens.specs.Lent.{Lent};
 ghost use Rattle.cutter.specs.Made.{Made, found, missed, Known, Lost};
-ghost use Rattle.tokens.specs.Table.{key_table};
 
 use crate::keyword::id_of;
+use crate::memo::Misses;
 use crate::place::{Place, mode_of, onward};
-use kinds::kind;
+use kinds::Kind;
 use tokens::glyph::{INVALID, glyph_at};
-use tokens::matcher::{
-    FROM_HEX, FROM_JUMP, FROM_NORMAL, FROM_UNKNOWN, HEX, JUMP, Match, NORMAL, longest_from, tried,
-};
+use tokens::matcher::{longest_from, tried};
+use tokens::mode::{Mode, Start};
 
-// A row; whether normal mode matched nothing here, and whether hex mode did.
+// A row, and which modes matched nothing here.
 #[derive(Drop)]
 pub struct Row {
     pub id: u32,
     pub len: usize,
     pub place: Place,
-    pub lost: bool,
-    pub astray: bool,
+    pub misses: Misses,
 }
 
 // A row that some mode matched.
@@ -32,8 +29,7 @@ fn matching(id: u32, len: usize, place: Place) -> Row
         id,
         len,
         place,
-        lost: false,
-        astray: false,
+        misses: Misses::NONE,
     }
 }
 
@@ -45,143 +41,73 @@ fn unmatched(id: u32, len: usize) -> Row
         id,
         len,
         place: Place::Elsewhere,
-        lost: true,
-        astray: false,
+        misses: Misses {
+            normal: true,
+            hex: false,
+        },
     }
 }
 
 // Nothing matches: a byte that begins no character stands alone; UNKNOWN goes on up to white space or such a byte, but has one byte at least.
-fn strange_row(s: &[u8], classes: &[u8], states: &[u8], finals: &[u8], ranges: &[u32]) -> Row
-    requires { (0 < length s.now) × Lent classes.now states.now finals.now ranges.now × Lost s.now }
+fn strange_row(s: &[u8]) -> Row
+    requires { (0 < length s.now) × Lost s.now }
     ensures { Made result (strange s.now) s.now }
 {
-    let Match::Found(_, len) = longest_from(
-        s,
-        FROM_UNKNOWN,
-        NORMAL,
-        classes,
-        states,
-        finals,
-        ranges,
-    ) else {
-        let g = glyph_at(s, NORMAL, classes, ranges);
-        if g.class == INVALID {
-            return unmatched(kind::INVALID_UTF8, 1);
+    let Some((_, len)) = longest_from(s, Start::UNKNOWN) else {
+        if glyph_at(s, Mode::Normal).class == INVALID {
+            return unmatched(Kind::InvalidUtf8 as u32, 1);
         }
-        return unmatched(kind::UNKNOWN, 1);
+        return unmatched(Kind::Unknown as u32, 1);
     };
-    unmatched(kind::UNKNOWN, len)
+    unmatched(Kind::Unknown as u32, len)
 }
 
 // An identifier is looked up among the keywords only when its whole text is known, so that a keyword with a letter behind it is none.
-fn normal_row(
-    s: &[u8],
-    place: Place,
-    lost: bool,
-    astray: bool,
-    classes: &[u8],
-    states: &[u8],
-    finals: &[u8],
-    ranges: &[u32],
-    keys: &[u8],
-) -> Row
-    requires { (0 < length s.now) × Lent classes.now states.now finals.now ranges.now × (keys.now ≡ key_table) × Known lost astray s.now }
+fn normal_row(s: &[u8], place: Place, misses: Misses) -> Row
+    requires { (0 < length s.now) × Known misses s.now }
     ensures { Made result (normal_row place s.now) s.now }
 {
-    let Match::Found(id, len) = tried(
-        s,
-        lost,
-        FROM_NORMAL,
-        NORMAL,
-        classes,
-        states,
-        finals,
-        ranges,
-    ) else {
-        return strange_row(s, classes, states, finals, ranges);
+    let Some((id, len)) = tried(s, misses.normal, Start::NORMAL) else {
+        return strange_row(s);
     };
-    if id == kind::IDENT {
-        return matching(id_of(&s[..len], keys), len, onward(place, id));
+    if id == Kind::Ident as u32 {
+        return matching(id_of(&s[..len]), len, onward(place, id));
     }
     matching(id, len, onward(place, id))
 }
 
-fn hex_row(
-    s: &[u8],
-    lost: bool,
-    astray: bool,
-    classes: &[u8],
-    states: &[u8],
-    finals: &[u8],
-    ranges: &[u32],
-    keys: &[u8],
-) -> Row
-    requires { (0 < length s.now) × Lent classes.now states.now finals.now ranges.now × (keys.now ≡ key_table) × Known lost astray s.now }
+fn hex_row(s: &[u8], misses: Misses) -> Row
+    requires { (0 < length s.now) × Known misses s.now }
     ensures { Made result (hex_row s.now) s.now }
 {
-    let Match::Found(id, len) = tried(s, astray, FROM_HEX, HEX, classes, states, finals, ranges)
-    else {
-        let unclosed = Place::Unclosed;
-        let r = normal_row(
-            s, unclosed, lost, astray, classes, states, finals, ranges, keys,
-        );
-        let place = r.place;
-        return Row {
-            id: r.id,
-            len: r.len,
-            place,
-            lost: r.lost,
-            astray: true,
-        };
+    let Some((id, len)) = tried(s, misses.hex, Start::HEX) else {
+        let mut r = normal_row(s, Place::Unclosed, misses);
+        r.misses.hex = true;
+        return r;
     };
-    if id == kind::L_BRACKET {
+    if id == Kind::LBracket as u32 {
         return matching(id, len, Place::InJump);
     }
     matching(id, len, Place::InHex)
 }
 
-fn jump_row(
-    s: &[u8],
-    lost: bool,
-    astray: bool,
-    classes: &[u8],
-    states: &[u8],
-    finals: &[u8],
-    ranges: &[u32],
-    keys: &[u8],
-) -> Row
-    requires { (0 < length s.now) × Lent classes.now states.now finals.now ranges.now × (keys.now ≡ key_table) × Known lost astray s.now }
+fn jump_row(s: &[u8], misses: Misses) -> Row
+    requires { (0 < length s.now) × Known misses s.now }
     ensures { Made result (jump_row s.now) s.now }
 {
-    let Match::Found(id, len) = longest_from(s, FROM_JUMP, JUMP, classes, states, finals, ranges)
-    else {
-        return hex_row(s, lost, astray, classes, states, finals, ranges, keys);
+    let Some((id, len)) = longest_from(s, Start::JUMP) else {
+        return hex_row(s, misses);
     };
     matching(id, len, Place::InJump)
 }
 
-pub fn row_at(
-    s: &[u8],
-    place: Place,
-    lost: bool,
-    astray: bool,
-    classes: &[u8],
-    states: &[u8],
-    finals: &[u8],
-    ranges: &[u32],
-    keys: &[u8],
-) -> Row
-    requires { (0 < length s.now) × Lent classes.now states.now finals.now ranges.now × (keys.now ≡ key_table) × Known lost astray s.now }
+pub fn row_at(s: &[u8], place: Place, misses: Misses) -> Row
+    requires { (0 < length s.now) × Known misses s.now }
     ensures { Made result (row place s.now) s.now }
 {
-    let mode = mode_of(place);
-    if mode == HEX {
-        return hex_row(s, lost, astray, classes, states, finals, ranges, keys);
+    match mode_of(place) {
+        Mode::Normal => normal_row(s, place, misses),
+        Mode::Hex => hex_row(s, misses),
+        Mode::Jump => jump_row(s, misses),
     }
-    if mode == JUMP {
-        return jump_row(s, lost, astray, classes, states, finals, ranges, keys);
-    }
-    normal_row(
-        s, place, lost, astray, classes, states, finals, ranges, keys,
-    )
 }

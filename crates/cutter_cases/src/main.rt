@@ -5,7 +5,7 @@
 ghost use Rattle.std.specs.Prelude.{◌≤◌};
 
 use console::{print_decimal, write};
-use cutter::Cut;
+use shapes::refusal::Refusal;
 
 // What the cells hold that are lent: no id.
 const LENT: u32 = 777;
@@ -16,27 +16,28 @@ fn write_number(rt: &impl Print, n: u32) {
 }
 
 fn write_rows(rt: &impl Print, ids: &[u32; 32], starts: &[u32; 32], ends: &[u32; 32], count: u32) {
-    let mut i: usize = 0;
-    while i < 32 {
-        if i == count as usize {
-            return;
-        }
-        write_number(rt, ids[i]);
-        write_number(rt, starts[i]);
-        write_number(rt, ends[i]);
+    for (id, (start, end)) in ids.iter().zip(starts.iter().zip(ends)).take(count as usize) {
+        write_number(rt, *id);
+        write_number(rt, *start);
+        write_number(rt, *end);
         write(rt, b",");
-        i += 1;
     }
 }
 
-fn write_answer(rt: &impl Print, done: Cut, ids: &[u32; 32], starts: &[u32; 32], ends: &[u32; 32]) {
+fn write_answer(
+    rt: &impl Print,
+    done: Result<u32, Refusal>,
+    ids: &[u32; 32],
+    starts: &[u32; 32],
+    ends: &[u32; 32],
+) {
     match done {
-        Cut::Refused(number) => {
+        Ok(count) => write_rows(rt, ids, starts, ends, count),
+        Err(refusal) => {
             write(rt, b" refused");
-            write_number(rt, number);
+            write_number(rt, u32::from(refusal));
             write_number(rt, ids[0]);
         }
-        Cut::Rows(count) => write_rows(rt, ids, starts, ends, count),
     }
     write(rt, b"\n");
 }
@@ -91,13 +92,21 @@ fn long(rt: &impl Print) {
     tell_more(rt, &more);
 }
 
+// The mode that cuts a lone byte.
+#[derive(Clone, Copy)]
+enum Mode {
+    Normal,
+    Hex,
+    Jump,
+}
+
 // The id of the last of so many rows, where that is all there are.
 fn lone(rt: &impl Print, source: &[u8], rows: usize) {
     let mut ids = [LENT; 32];
     let mut starts = [LENT; 32];
     let mut ends = [LENT; 32];
     let done = cutter::cut(source, &mut ids, &mut starts, &mut ends);
-    let Cut::Rows(count) = done else {
+    let Ok(count) = done else {
         write(rt, b" refused");
         return;
     };
@@ -105,38 +114,25 @@ fn lone(rt: &impl Print, source: &[u8], rows: usize) {
         write(rt, b" ?");
         return;
     }
-    if rows == 0 {
-        return;
-    }
-    if rows <= 32 {
+    if 0 < rows && rows <= 32 {
         write_number(rt, ids[rows - 1]);
     }
 }
 
-fn lone_byte(rt: &impl Print, b: u8, mode: u32) {
-    if mode == 0 {
-        lone(rt, &[b], 1);
-        return;
-    }
-    if mode == 1 {
-        lone(rt, &[b'$', b'a', b'=', b'{', b], 4);
-        return;
-    }
-    lone(rt, &[b'$', b'a', b'=', b'{', b'[', b], 5);
-}
-
-fn line_end(rt: &impl Print, place: usize) {
-    if place % 16 == 15 {
-        write(rt, b"\n");
+fn lone_byte(rt: &impl Print, b: u8, mode: Mode) {
+    match mode {
+        Mode::Normal => lone(rt, &[b], 1),
+        Mode::Hex => lone(rt, &[b'$', b'a', b'=', b'{', b], 4),
+        Mode::Jump => lone(rt, &[b'$', b'a', b'=', b'{', b'[', b], 5),
     }
 }
 
-fn lone_bytes(rt: &impl Print, mode: u32) {
-    let mut i: usize = 0;
-    while i < 256 {
-        lone_byte(rt, i as u8, mode);
-        line_end(rt, i);
-        i += 1;
+fn lone_bytes(rt: &impl Print, mode: Mode) {
+    for b in 0..=255u8 {
+        lone_byte(rt, b, mode);
+        if b % 16 == 15 {
+            write(rt, b"\n");
+        }
     }
 }
 
@@ -221,7 +217,7 @@ fn main(rt: HostRuntime) {
     quoted(&rt);
     spaces(&rt);
     modes(&rt);
-    lone_bytes(&rt, 0);
-    lone_bytes(&rt, 1);
-    lone_bytes(&rt, 2);
+    lone_bytes(&rt, Mode::Normal);
+    lone_bytes(&rt, Mode::Hex);
+    lone_bytes(&rt, Mode::Jump);
 }

@@ -7,17 +7,29 @@ use mathlib.Core.Logic.{◌⊎◌, inl, inr}
 use native.Mathlib.Omega.{arith}
 use borrow.Author.Tests.{lt-ltb, le-ltb}
 use lib.Dec.{ltb}
-use lib.ListN.{length, get_or, take, replicate}
+use lib.ListN.{length, take, replicate}
 use lib.Seq.{length-take-le}
+use Rattle.std.specs.Prelude.{Option, None, Some}
+use Rattle.shapes.specs.declared.refusal.Refusal.{Refusal}
 use Rattle.shapes.specs.Shapes.{EVENT}
 use Rattle.definition.specs.Run as P
 use Rattle.definition.specs.Render.{Source, item_numbers, rendered, used, moments, exceeds, over}
 use Rattle.definition.specs.Answer.{Desk, After, Answer, refused, given, first_of, grounds, refusal, exceeded, refusing, blank, left_by, after, source_of}
 use Rattle.notes.proofs.Rooms.{exceeds_events}
 use Rattle.notes.proofs.Rooms as rooms
+use Rattle.notes.proofs.Core.{exceeded_some}
+use Rattle.notes.specs.Whole as spent
 use Rattle.items.specs.declared.Desk as D
-use Rattle.items.specs.Items.{tally}
 use Rattle.desk.specs.Framing.{answering, reading, Framed, Finished}
+
+-- no refusal has the number 0
+pub numbered : (r : Refusal) → spent.exceeded (Some r) ≡ 0 → ⊥
+numbered r = exceeded_some (Some r) refl
+
+-- no room was exceeded
+pub none_full : (o : Option Refusal) → ((room : Refusal) → o ≡ Some room → ⊥) → spent.exceeded o ≡ 0
+none_full None h = refl
+none_full (Some room) h = absurd (h room refl)
 
 -- the first number that is not 0, or an answer
 abbrev pick : ℕ → Answer → Answer
@@ -108,12 +120,12 @@ module _ (L : P.Limits) (d : Desk) where
       go (suc v) (inl z) = absurd (omega (arith, z))
       go (suc v) (inr z) = inr z
 
-  -- r is what the reading left, with what is noted in l
-  module _ (r : D.Desk) (l : List ℕ) {ev er : List ℕ} (z : 0 ≡ refusal d) (f : Framed L (source_of d) d.fuel (length d.events) (length d.errors) (tally r l) ev er) where
-    pub room_so : (r.state.full ≡ 0 → ⊥) → zeros r.state.full ≡ after L d
-    room_so n = exceeded_so z r.state.full f.full (go (big (length d.events) (length d.errors) (moments L (source_of d) (reading L (source_of d) d.fuel))))
+  -- r is what the reading left, with so many numbers of error records
+  module _ (r : D.Desk) (written : ℕ) {ev er : List ℕ} (z : 0 ≡ refusal d) (f : Framed L (source_of d) d.fuel (length d.events) (length d.errors) r written ev er) where
+    pub room_so : (spent.exceeded r.state.full ≡ 0 → ⊥) → zeros (spent.exceeded r.state.full) ≡ after L d
+    room_so n = exceeded_so z (spent.exceeded r.state.full) f.full (go (big (length d.events) (length d.errors) (moments L (source_of d) (reading L (source_of d) d.fuel))))
       where
-        go : (number ≡ 0) ⊎ (7 ≤ number) → 7 ≤ r.state.full
+        go : (number ≡ 0) ⊎ (7 ≤ number) → 7 ≤ spent.exceeded r.state.full
         go (inl e) = absurd (n (f.full ∙ e))
         go (inr h) = omega (arith, h, f.full)
 
@@ -121,10 +133,10 @@ module _ (L : P.Limits) (d : Desk) where
     laid : (w l : List ℕ) (n : ℕ) (lent : List ℕ) → take n l ≡ w → n ≤ length l → length l ≡ length lent → take n l ++ replicate (length l - n) 0 ≡ w ++ replicate (length lent - length w) 0
     laid w l n lent e h i = ap₂ (λ (a : List ℕ) (k : ℕ). a ++ replicate k 0) e (ap₂ ◌-◌ i (sym (length-take-le n l h) ∙ ap length e))
 
-    pub answer_so : r.state.full ≡ 0 → length ev ≡ length d.events → length er ≡ length d.errors → (sc : List ℕ) → length sc ≡ length d.scratch → answering r (get_or l 4 0) ev er sc ≡ after L d
+    pub answer_so : spent.exceeded r.state.full ≡ 0 → length ev ≡ length d.events → length er ≡ length d.errors → (sc : List ℕ) → length sc ≡ length d.scratch → answering r written ev er sc ≡ after L d
     answer_so h i j sc k = whole ∙ ap (λ (m : ℕ). left_by d (pick m (given (rendered L (source_of d) (item_numbers L d.ids d.fuel) (reading L (source_of d) d.fuel))))) (sym h ∙ f.full) ∙ read_so z
       where
-        q : Finished L (source_of d) d.fuel (tally r l) ev er
+        q : Finished L (source_of d) d.fuel r written ev er
         q = f.finished h
 
         count : (r.state.ev + EVENT) / EVENT ≡ length (rendered L (source_of d) (item_numbers L d.ids d.fuel) (reading L (source_of d) d.fuel)).events
@@ -133,8 +145,8 @@ module _ (L : P.Limits) (d : Desk) where
         events : take (r.state.ev + EVENT) ev ++ replicate (length ev - (r.state.ev + EVENT)) 0 ≡ (left_by d (given (rendered L (source_of d) (item_numbers L d.ids d.fuel) (reading L (source_of d) d.fuel)))).events
         events = laid _ ev (r.state.ev + EVENT) d.events q.events q.event_fits i
 
-        errors : take (get_or l 4 0) er ++ replicate (length er - get_or l 4 0) 0 ≡ (left_by d (given (rendered L (source_of d) (item_numbers L d.ids d.fuel) (reading L (source_of d) d.fuel)))).errors
-        errors = laid _ er (get_or l 4 0) d.errors q.errors q.error_fits j
+        errors : take written er ++ replicate (length er - written) 0 ≡ (left_by d (given (rendered L (source_of d) (item_numbers L d.ids d.fuel) (reading L (source_of d) d.fuel)))).errors
+        errors = laid _ er written d.errors q.errors q.error_fits j
 
-        whole : answering r (get_or l 4 0) ev er sc ≡ left_by d (given (rendered L (source_of d) (item_numbers L d.ids d.fuel) (reading L (source_of d) d.fuel)))
+        whole : answering r written ev er sc ≡ left_by d (given (rendered L (source_of d) (item_numbers L d.ids d.fuel) (reading L (source_of d) d.fuel)))
         whole = λ t. record { number = 0; outcome = q.outcome t; covered = q.covered t; event_count = count t; error_count = q.error_count t; left = q.left t; events = events t; errors = errors t; scratch = replicate (k t) 0 }

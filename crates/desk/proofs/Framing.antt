@@ -9,7 +9,7 @@ use native.Mathlib.Decide.{ℕ_discrete, dec_lt}
 use borrow.Author.Tests.{lt-ltb, le-ltb}
 use borrow.Rule.Slice.PartMut.{mid_of, put_mid, post_of, mid_len}
 use lib.Dec.{eqb}
-use lib.ListN.{length, get_or, take, set, replicate, length-append, length-drop}
+use lib.ListN.{length, get_or, take, replicate, length-append, length-drop}
 use lib.Seq.{take-append-add, take-append-le}
 use Rattle.kinds.specs.Kinds as k
 use Rattle.shapes.specs.Sort as Sort
@@ -20,13 +20,16 @@ use Rattle.definition.specs.Run.{Mode, ok, failed, stopped}
 use Rattle.definition.specs.Render.{Source, inside, item_numbers, rendered, mode_outcome, said, records, used, moments, exceeds, over}
 use Rattle.definition.proofs.Buffer.{buffer_length}
 use Rattle.definition.proofs.Height.{buffer_read}
-use Rattle.notes.specs.Whole.{Whole}
+use Rattle.notes.specs.declared.names.Notes.{Notes}
+use Rattle.notes.specs.Whole.{Whole, exceeded, fresh}
 use Rattle.notes.specs.Bits.{ifb, bit_at}
 use Rattle.notes.specs.Change.{with_ev, with_full}
 use Rattle.notes.specs.Means.{bufs, Means, recorded, over_of}
 use Rattle.notes.specs.Did.{Wf, Put}
 use Rattle.notes.proofs.Naming.{none_named}
 use Rattle.notes.proofs.Rooms.{ev_count, er_count, first_of, exceeds_none, exceeds_events, full_first}
+use Rattle.steps.specs.declared.state.State.{State}
+use Rattle.steps.specs.Steps.{whole}
 use Rattle.items.specs.declared.Desk.{Desk}
 use Rattle.items.specs.Items.{Tally, tally, blank, clean, past_of, Between, Goes, Settled}
 use Rattle.desk.proofs.Start.{reads}
@@ -84,15 +87,15 @@ flat_end : (a : List Entry) (q : Entry) → flat (a ++ (q ∷ [])) ≡ flat a ++
 flat_end [] q = refl
 flat_end (e ∷ a) q = ap (λ (l : List ℕ). e.0 ∷ e.1 ∷ e.2 ∷ e.3 ∷ e.4 ∷ l) (flat_end a q)
 
-module _ (L : P.Limits) (x : Source) (fuel evcap R : ℕ) {d : Tally} {t : Whole} {ev₁ ev₂ er sc : List ℕ}
-    (B : Between L (evcap + EVENT) R (item_numbers L x.ids fuel) x d (bufs ev₁ er sc) (reading L x fuel)) (w : Wf x (bufs ev₁ er sc) d.state) (put : Put (event Sort.END k.SOURCE_FILE 0 (length x.bytes) 0) d.state t ev₁ ev₂) where
+module _ (L : P.Limits) (x : Source) (fuel evcap R : ℕ) {d : Tally} (t : State) (n : Notes) {ev₁ ev₂ er sc : List ℕ}
+    (B : Between L (evcap + EVENT) R (item_numbers L x.ids fuel) x d (bufs ev₁ er sc) (reading L x fuel)) (w : Wf x (bufs ev₁ er sc) d.state) (put : Put (event Sort.END k.SOURCE_FILE 0 (length x.bytes) 0) d.state (whole t n) ev₁ ev₂) where
   a : P.State
   a = reading L x fuel
 
   -- which room is exceeded first
-  pub exceeded : t.full ≡ over (evcap + EVENT) R (moments L x (reading L x fuel))
+  pub first_full : exceeded t.full ≡ over (evcap + EVENT) R (moments L x (reading L x fuel))
   unfolding over_of
-  exceeded = go (ℕ_discrete d.state.full 0)
+  first_full = go (ℕ_discrete d.state.full 0)
     where
       past : d.state.full ≡ over (evcap + EVENT) R (map (used L x) (reading L x fuel).drafts)
       past = B.stands.over
@@ -101,7 +104,7 @@ module _ (L : P.Limits) (x : Source) (fuel evcap R : ℕ) {d : Tally} {t : Whole
       last = (EVENT * suc (suc (length (reading L x fuel).out)), said L x (reading L x fuel).out)
 
       goal : ℕ → Type 0
-      goal v = t.full ≡ first_of v (exceeds (evcap + EVENT) R last)
+      goal v = exceeded t.full ≡ first_of v (exceeds (evcap + EVENT) R last)
 
       go : Dec (d.state.full ≡ 0) → goal (over (evcap + EVENT) R (map (used L x) (reading L x fuel).drafts))
       go (no n) = put.stuck n ∙ past ∙ sym (full_first _ _ (λ z. n (past ∙ z)))
@@ -127,7 +130,7 @@ module _ (L : P.Limits) (x : Source) (fuel evcap R : ℕ) {d : Tally} {t : Whole
           fits (no h) = put.filled z ∙ ap (λ (c : Bool). ifb c 7 0) (le-ltb d.state.evcap (d.state.ev + EVENT) (omega (arith, h))) ∙ sym (exceeds_none (evcap + EVENT) R last (omega (arith, h, room, many)) told)
 
   -- the finished lists, where none is
-  module _ (low : L.depth + 2 < 4294967296) (z : t.full ≡ 0) where
+  module _ (low : L.depth + 2 < 4294967296) (z : exceeded t.full ≡ 0) where
     m : Means (past_of L (evcap + EVENT) R B.records B.last) x d.state (bufs ev₁ er sc) (reading L x fuel)
     m = B.stands.means (put.room z)
 
@@ -160,10 +163,10 @@ module _ (L : P.Limits) (x : Source) (fuel evcap R : ℕ) {d : Tally} {t : Whole
     covered : d.state.pos ≡ length x.ids - length (reading L x fuel).rest
     covered = omega (arith, ap length m.rest ∙ length-drop d.state.pos x.ids, w.0.0.here)
 
-    field : {A : Type 0} (f : Whole → A) → f t ≡ f (with_ev t.ev (with_full t.full d.state))
+    field : {A : Type 0} (f : Whole → A) → f (whole t n) ≡ f (with_ev t.ev (with_full (exceeded t.full) d.state))
     field f = ap f put.is
 
-    pub finished : (first rest : List ℕ) → first ≡ event Sort.BEGIN k.SOURCE_FILE 0 (length x.bytes) 0 → Finished L x fuel (record { state = t; before = d.before }) (first ++ (ev₂ ++ rest)) er
+    pub finished : (first rest : List ℕ) → first ≡ event Sort.BEGIN k.SOURCE_FILE 0 (length x.bytes) 0 → Finished L x fuel (record { state = t; before = d.before }) n.er (first ++ (ev₂ ++ rest)) er
     finished first rest e =
         record {
           events = events_are first rest e;
@@ -177,44 +180,36 @@ module _ (L : P.Limits) (x : Source) (fuel evcap R : ℕ) {d : Tally} {t : Whole
           left = field (λ s. s.fuel) ∙ sym m.fuel;
         }
 
--- all items, from nothing on: xs are the events with the begin event, whose other cells are lent, and l₀ the list of notes
-module _ (L : P.Limits) (x : Source) (fuel : ℕ) (xs er₀ sc₀ l₀ : List ℕ) {d₀ : Desk} (e : d₀ ≡ blank fuel (length xs - EVENT)) (n : l₀ ≡ replicate 69 0) where
+-- all items, from nothing on: xs are the events with the begin event, whose other cells are lent, and n₀ is what is noted where room and length are not yet
+module _ (L : P.Limits) (x : Source) (fuel : ℕ) (xs er₀ sc₀ : List ℕ) {d₀ : Desk} (e : d₀ ≡ blank fuel (length xs - EVENT)) {n₀ : Notes} (i₀ : n₀ ≡ fresh) where
+  abbrev bounded : Notes → Notes
+  bounded n = record { want = n.want; unwant = n.unwant; count = n.count; mask = n.mask; er = n.er; ercap = length er₀; item = n.item; first = n.first; far = n.far; quote = L.quote; number = n.number; codes = n.codes }
+
   abbrev first : Tally
-  first = tally d₀ (set (set l₀ 5 (length er₀)) 9 L.quote)
+  first = tally d₀ (bounded n₀)
 
   begins : first ≡ tally (blank fuel (length xs - EVENT)) (clean (length er₀) L.quote)
-  begins = λ i. tally (e i) (set (set (n i) 5 (length er₀)) 9 L.quote)
+  begins = λ i. tally (e i) (bounded (i₀ i))
 
   pub opens : 2 * (length x.ids + 1) ≤ 64 * length sc₀ → Wf x (bufs (mid_of EVENT (length xs - EVENT) xs) er₀ sc₀) first.state × Settled first.state
   opens i =
       subst (λ (c : Tally). Wf x (bufs (mid_of EVENT (length xs - EVENT) xs) er₀ sc₀) c.state × Settled c.state) (sym begins)
       (blank_wf x fuel (length xs - EVENT) (length er₀) L.quote (mid_of EVENT (length xs - EVENT) xs) er₀ sc₀ (omega (arith, mid_len EVENT (length xs) xs (le_refl (length xs)))) (le_refl (length er₀)) i, (refl, refl))
 
-  pub frames : {bounds : ℕ × Bool} {d : Tally} {t : Whole} {ev₁ ev₂ er sc : List ℕ} → sc₀ ≡ replicate (length sc₀) 0 → EVENT ≤ length xs → (E : ℕ) → length xs ≡ E → take EVENT xs ≡ event Sort.BEGIN k.SOURCE_FILE 0 (length x.bytes) 0 → reach L ≡ bounds → L.depth + 2 < 4294967296 →
-      Goes bounds 1 (length x.ids) x first d (bufs (mid_of EVENT (length xs - EVENT) xs) er₀ sc₀) (bufs ev₁ er sc) → Put (event Sort.END k.SOURCE_FILE 0 (length x.bytes) 0) d.state t ev₁ ev₂ →
-      Framed L x fuel E (length er₀) (record { state = t; before = d.before }) (put_mid EVENT (length xs - EVENT) xs ev₂) er
-  frames {bounds} {d} {t} {ev₁} {ev₂} {er} {sc} none h E whole front deep low g put =
-      record {
-        full = exceeded L x fuel (length xs - EVENT) (length er₀) B g.wf put ∙ ap (λ (n : ℕ). over n (length er₀) (moments L x (reading L x fuel))) room;
-        finished = λ z. finished L x fuel (length xs - EVENT) (length er₀) B g.wf put low z (take EVENT xs) (post_of EVENT (length xs - EVENT) xs) front;
-      }
+  pub frames : {bounds : ℕ × Bool} {d : Tally} {t : State} {n : Notes} {ev₁ ev₂ er sc : List ℕ} → sc₀ ≡ replicate (length sc₀) 0 → EVENT ≤ length xs → (E : ℕ) → length xs ≡ E → take EVENT xs ≡ event Sort.BEGIN k.SOURCE_FILE 0 (length x.bytes) 0 → reach L ≡ bounds → L.depth + 2 < 4294967296 →
+      {written : ℕ} → n.er ≡ written → Goes bounds 1 (length x.ids) x first d (bufs (mid_of EVENT (length xs - EVENT) xs) er₀ sc₀) (bufs ev₁ er sc) → Put (event Sort.END k.SOURCE_FILE 0 (length x.bytes) 0) d.state (whole t n) ev₁ ev₂ →
+      Framed L x fuel E (length er₀) (record { state = t; before = d.before }) written (put_mid EVENT (length xs - EVENT) xs ev₂) er
+  frames {bounds} {d} {t} {n} {ev₁} {ev₂} {er} {sc} none h E total front deep low same g put =
+      subst (λ (i : ℕ). Framed L x fuel E (length er₀) (record { state = t; before = d.before }) i (put_mid EVENT (length xs - EVENT) xs ev₂) er) same
+      (record {
+        full = first_full L x fuel (length xs - EVENT) (length er₀) t n B g.wf put ∙ ap (λ (i : ℕ). over i (length er₀) (moments L x (reading L x fuel))) room;
+        finished = λ z. finished L x fuel (length xs - EVENT) (length er₀) t n B g.wf put low z (take EVENT xs) (post_of EVENT (length xs - EVENT) xs) front;
+      })
     where
       room : length xs - EVENT + EVENT ≡ E
-      room = omega (arith, h, whole)
+      room = omega (arith, h, total)
 
       B : Between L (length xs - EVENT + EVENT) (length er₀) (item_numbers L x.ids fuel) x d (bufs ev₁ er sc) (reading L x fuel)
       B =
           reads L x fuel (length xs - EVENT) (length er₀) (mid_of EVENT (length xs - EVENT) xs) er₀ sc₀ (λ i. ap (λ (l : List ℕ). bit_at l i) none ∙ no_bits (length sc₀) i) deep
           (subst (λ (c : Tally). Goes bounds 1 (length x.ids) x c d (bufs (mid_of EVENT (length xs - EVENT) xs) er₀ sc₀) (bufs ev₁ er sc)) begins g)
-
--- outcomes by the code's mode
-pub done : (m : ℕ) → m < 2 → 0 ≡ outcome_of m
-done zero h = refl
-done (suc zero) h = refl
-done (suc (suc m)) h = absurd (omega arith)
-
-pub deep : (m : ℕ) → 2 ≤ m → (m ≡ 2 → ⊥) → 2 ≡ outcome_of m
-deep zero h n = absurd (omega arith)
-deep (suc zero) h n = absurd (omega arith)
-deep (suc (suc zero)) h n = absurd (n refl)
-deep (suc (suc (suc m))) h n = refl

@@ -1,24 +1,32 @@
 // The public reader: the refusals in their order, the reading inside SOURCE_FILE, and zeros where they belong.
-ghost use Rattle.std.specs.Prelude.{◌≡◌, ◌+◌, ◌*◌, ◌≤◌, length, replicate};
-ghost use Rattle.kinds.specs.Answers.{words};
+ghost use Rattle.std.specs.Prelude.{◌≡◌, ◌+◌, ◌*◌, ◌≤◌, Ok, Err, length, replicate};
 ghost use Rattle.shapes.specs.Shapes.{EVENT};
+ghost use Rattle.shapes.specs.Refusal.{number};
+ghost use Rattle.shapes.specs.Mode as modes;
+ghost use Rattle.shapes.specs.Outcome as outcomes;
 ghost use Rattle.definition.specs.Run as P;
 ghost use Rattle.definition.specs.Answer.{refusing, after};
 ghost use Rattle.refusals.specs.Judge.{desk};
-ghost use Rattle.notes.specs.Means.{source, bufs, Rows};
+ghost use Rattle.notes.specs.declared.names.Notes as names;
+ghost use Rattle.notes.specs.Means.{bufs};
+ghost use Rattle.notes.specs.Reading.{source_of};
 ghost use Rattle.notes.specs.Did.{Wf};
-ghost use Rattle.grammar.specs.Parts.{reach};
+ghost use Rattle.steps.specs.Steps as steps;
 ghost use Rattle.items.specs.Items as Items;
 ghost use Rattle.items.specs.Items.{tally, Goes, Settled};
 ghost use Rattle.desk.specs.Framing.{limits_of, Framed, after_of, answering, outcome_of};
 
-use cells::{clear, wipe};
+use cells::fill;
 use items::{Desk, items};
-use kinds::{SETS, kind};
-use notes::names::{ER, ERCAP, QUOTE};
+use kinds::Kind;
+use notes::names::Notes;
+use notes::reading::{Given, Lent};
 use refusals::judged;
 use shapes::event::{DEPTH, END, EVENT, KIND, START};
-use shapes::{mode, outcome, refusal, sort};
+use shapes::mode::Mode;
+use shapes::outcome::Outcome;
+use shapes::refusal::Refusal;
+use shapes::sort::Sort;
 use steps::state::State;
 
 // How many nodes may be open besides SOURCE_FILE, how long a found text may be to be quoted, and whether entrypoint is a term. Any values will do; each
@@ -41,17 +49,21 @@ pub fn base() -> Limits
     }
 }
 
-// A refusal by its number; or outcome, rows covered, counts of events and error records, fuel left.
+// Outcome, rows covered, counts of events and error records, fuel left.
+#[derive(Clone, Copy, PartialEq, Eq)]
+pub struct Answered {
+    pub outcome: Outcome,
+    pub covered: usize,
+    pub events: usize,
+    pub errors: u32,
+    pub left: u32,
+}
+
+// What a whole reading leaves, and how many numbers of error records stand written.
 #[derive(Drop)]
-pub enum Reading {
-    Refused(u32),
-    Answered {
-        outcome: u32,
-        covered: usize,
-        events: usize,
-        errors: u32,
-        left: u32,
-    },
+struct Ended {
+    desk: Desk,
+    er: usize,
 }
 
 // Before the first item.
@@ -64,140 +76,122 @@ fn blank(fuel: u32, evcap: usize) -> Desk
             ev: 0,
             evcap,
             fuel,
-            mode: mode::OK,
-            full: 0,
+            mode: Mode::Fine,
+            full: None,
         },
         before: 0,
     }
 }
 
 // "Outcome 0 is done, 1 out of fuel, 2 too deep."
-fn outcome(mode: u16) -> u32
-    ensures { result ≡ outcome_of mode }
+fn outcome(mode: Mode) -> Outcome
+    ensures { outcomes.number result ≡ outcome_of (modes.number mode) }
 {
-    if mode < mode::SPENT {
-        return outcome::DONE;
+    match mode {
+        Mode::Fine | Mode::Failed => Outcome::Done,
+        Mode::Spent => Outcome::Spent,
+        Mode::Deep => Outcome::Deep,
     }
-    if mode == mode::SPENT {
-        return outcome::SPENT;
-    }
-    outcome::DEEP
 }
 
-// The words of the sets. What is proved of a step carries every table that is laid out before it, so this one is laid out where little is left to do.
-fn set_words() -> [[u64; 2]; 56]
-    ensures { result ≡ words }
-{
-    SETS
-}
-
-// All items, by these limits.
-fn items_by(
+// All items, by what is noted and lent. They are lent here, where each list is whole: what was written into a part of one is not known behind such a loan.
+fn all_items(
     d: Desk,
-    limits: Limits,
-    src: &[u8],
-    ids: &[u32],
-    ends: &[u32],
+    depth: usize,
+    notes: Notes,
+    x: &Given<'_>,
+    scratch: &mut [u64],
     events: &mut [u32],
     errors: &mut [u32],
-    scratch: &mut [u64],
-    notes: &mut [usize; 69],
-) -> Desk
-    requires { Rows (source src.now ids.now ends.now)
-        × Wf (source src.now ids.now ends.now) (bufs events.old errors.old scratch.old) (tally d notes.old).state
-        × Settled (tally d notes.old).state }
-    ensures { Goes (reach (limits_of limits)) 1 (length ids.now)
-        (source src.now ids.now ends.now)
-        (tally d notes.old) (tally result notes.new)
-        (bufs events.old errors.old scratch.old)
-        (bufs events.new errors.new scratch.new) }
+) -> Ended
+    requires { Wf (source_of x.now) (bufs events.old errors.old scratch.old) (steps.whole d.state notes)
+        × Settled (steps.whole d.state notes) }
+    ensures { (n : names.Notes) × (n.er ≡ result.er)
+        × Goes (depth, x.now.entrypoint) 1 (length x.now.ids.now) (source_of x.now) (tally d notes) (tally result.desk n)
+        (bufs events.old errors.old scratch.old) (bufs events.new errors.new scratch.new) }
 {
-    let depth = limits.depth as usize;
-    let sets = set_words();
-    items(
-        d,
-        depth,
-        src,
-        ids,
-        ends,
+    let mut lent = Lent {
         events,
         errors,
         scratch,
         notes,
-        limits.entrypoint,
-        &sets,
-    )
+    };
+    let desk = items(d, depth, x, &mut lent);
+    Ended {
+        desk,
+        er: lent.notes.er,
+    }
 }
 
-// SOURCE_FILE around all items, in events with room for its begin event, where scratch and notes are all zero.
+// SOURCE_FILE around all items, in events with room for its begin event, where scratch is all zero.
 fn whole(
-    src: &[u8],
-    ids: &[u32],
-    ends: &[u32],
+    x: &Given<'_>,
     fuel: u32,
     limits: Limits,
     scratch: &mut [u64],
     events: &mut [u32],
     errors: &mut [u32],
-    notes: &mut [usize; 69],
-) -> Desk
-    requires { Rows (source src.now ids.now ends.now)
+) -> Ended
+    requires { (x.now.entrypoint ≡ limits.entrypoint)
         × (scratch.old ≡ replicate (length scratch.old) 0)
-        × (2 * (length ids.now + 1) ≤ 64 * length scratch.old)
-        × (EVENT ≤ length events.old)
-        × (notes.old ≡ replicate 69 0) }
-    ensures { Framed (limits_of limits) (source src.now ids.now ends.now) fuel (length events.old)
-        (length errors.old) (tally result notes.new) events.new errors.new }
+        × (2 * (length x.now.ids.now + 1) ≤ 64 * length scratch.old)
+        × (EVENT ≤ length events.old) }
+    ensures { Framed (limits_of limits) (source_of x.now) fuel (length events.old)
+        (length errors.old) result.desk result.er events.new errors.new }
 {
-    let size = src.len() as u32;
-    events[0] = sort::BEGIN;
-    events[KIND] = kind::SOURCE_FILE;
+    let size = x.src.len() as u32;
+    events[0] = u32::from(Sort::Begin);
+    events[KIND] = Kind::SourceFile as u32;
     events[START] = 0;
     events[END] = size;
     events[DEPTH] = 0;
     let d = blank(fuel, events.len() - EVENT);
-    notes[ERCAP] = errors.len();
-    notes[QUOTE] = limits.quote as usize;
+    let mut notes = Notes::fresh();
+    notes.ercap = errors.len();
+    notes.quote = limits.quote as usize;
     let inner = &mut events[EVENT..];
-    let r = items_by(d, limits, src, ids, ends, inner, errors, scratch, notes);
-    let s = r.state;
-    let t = s.write(sort::END, kind::SOURCE_FILE, 0, size, 0, inner);
-    Desk {
-        state: t,
-        before: r.before,
+    let r = all_items(d, limits.depth as usize, notes, x, scratch, inner, errors);
+    let s = r.desk.state;
+    let t = s.write(Sort::End, Kind::SourceFile as u32, 0, size, 0, inner);
+    Ended {
+        desk: Desk {
+            state: t,
+            before: r.desk.before,
+        },
+        er: r.er,
     }
 }
 
 // A room was exceeded: everything is zero.
-fn spoilt(number: u32, scratch: &mut [u64], events: &mut [u32], errors: &mut [u32]) -> Reading
-    ensures { after_of result events.new errors.new scratch.new
-        ≡ refusing number (replicate (length events.old) 0) (replicate (length errors.old) 0)
+fn spoilt(room: Refusal, scratch: &mut [u64], events: &mut [u32], errors: &mut [u32]) -> Refusal
+    ensures { after_of (Err result) events.new errors.new scratch.new
+        ≡ refusing (number room) (replicate (length events.old) 0) (replicate (length errors.old) 0)
         (replicate (length scratch.old) 0) }
 {
-    wipe(scratch);
-    clear(events);
-    clear(errors);
-    Reading::Refused(number)
+    fill(scratch, 0);
+    fill(events, 0);
+    fill(errors, 0);
+    room
 }
 
 // The finished lists, with zeros behind them.
-fn answered(
+fn finished(
     d: Desk,
     er: usize,
     scratch: &mut [u64],
     events: &mut [u32],
     errors: &mut [u32],
-) -> Reading
+) -> Answered
     requires { (d.state.ev + EVENT ≤ length events.old) × (er ≤ length errors.old) }
-    ensures { after_of result events.new errors.new scratch.new
+    ensures { after_of (Ok result) events.new errors.new scratch.new
         ≡ answering d er events.old errors.old scratch.old }
 {
     let s = d.state;
-    wipe(scratch);
+    fill(scratch, 0);
     let to = s.ev + EVENT;
-    clear(&mut events[to..]);
-    clear(&mut errors[er..]);
-    Reading::Answered {
+    fill(&mut events[to..], 0);
+    fill(&mut errors[er..], 0);
+    Answered {
         outcome: outcome(s.mode),
         covered: s.pos,
         events: to / EVENT,
@@ -217,27 +211,26 @@ pub fn read(
     scratch: &mut [u64],
     events: &mut [u32],
     errors: &mut [u32],
-) -> Reading
+) -> Result<Answered, Refusal>
     ensures { after_of result events.new errors.new scratch.new
         ≡ after (limits_of limits)
         (desk src.now ids.now starts.now ends.now fuel
         scratch.old events.old errors.old) }
 {
-    let n = judged(src, ids, starts, ends, scratch.len());
-    if n != 0 {
-        return Reading::Refused(n);
-    }
+    judged(src, ids, starts, ends, scratch.len())?;
     if events.len() < EVENT {
-        return spoilt(refusal::EVENTS, scratch, events, errors);
+        return Err(spoilt(Refusal::Events, scratch, events, errors));
     }
-    wipe(scratch);
-    let mut notes = [0usize; 69];
-    let d = whole(
-        src, ids, ends, fuel, limits, scratch, events, errors, &mut notes,
-    );
-    let s = d.state;
-    if s.full != 0 {
-        return spoilt(s.full as u32, scratch, events, errors);
+    fill(scratch, 0);
+    let x = Given {
+        src,
+        ids,
+        ends,
+        entrypoint: limits.entrypoint,
+    };
+    let ended = whole(&x, fuel, limits, scratch, events, errors);
+    if let Some(room) = ended.desk.state.full {
+        return Err(spoilt(room, scratch, events, errors));
     }
-    answered(d, notes[ER], scratch, events, errors)
+    Ok(finished(ended.desk, ended.er, scratch, events, errors))
 }

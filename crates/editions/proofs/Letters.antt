@@ -8,47 +8,57 @@ use borrow.Author.Tests.{ne_eqb}
 use lib.Dec.{eqb}
 use lib.ListN.{length, get_or, drop}
 use lib.Seq.{take-suc}
-use Rattle.shapes.specs.Sort as Sort
+use Rattle.std.specs.Prelude.{Option, Some}
+use Rattle.std.specs.Bool.{then_some}
+use Rattle.shapes.specs.declared.sort.Sort.TheVariants as S
 use Rattle.listing.specs.Lines.{parted, behind, Piece}
 use Rattle.listing.proofs.Pieces.{part, marked, unmarked, part_length}
 use Rattle.listing.proofs.Rest.{rest, rest_is}
 use Rattle.editions.specs.Fields.{plains, node, error}
-use Rattle.editions.specs.Sorts.{RESULT, ALONE, NODES, KINDS, lettered, sort_of}
+use Rattle.editions.specs.Sorts.{NODES, KINDS, number_of, lettered, sort_of}
+use Rattle.editions.specs.declared.sort.LineSort.{LineSort}
+use Rattle.editions.specs.declared.sort.LineSort.TheVariants as L
 
 -- BY THE LETTER
 
+counted : (s : LineSort) (b : Bool) → number_of (then_some b s) ≡ cond b (number_of (Some s)) 0
+counted s true = refl
+counted s false = refl
+
 module _ (c : ℕ) (fs : List (List ℕ)) where
-  is_letter : (x s : ℕ) (t : Bool) → cond t s 0 ≡ lettered x fs → c ≡ x → {b : Bool} {r : ℕ} → b ≡ t → r ≡ cond b s 0 → r ≡ lettered c fs
-  is_letter x s t i k e f = f ∙ ap (λ (b : Bool). cond b s 0) e ∙ i ∙ ap (λ (c : ℕ). lettered c fs) (sym k)
+  is_letter : (x : ℕ) (s : LineSort) (t : Bool) → cond t (number_of (Some s)) 0 ≡ lettered x fs → c ≡ x → {b : Bool} {r : Option LineSort} → b ≡ t → r ≡ then_some b s
+      → number_of r ≡ lettered c fs
+  is_letter x s t i k {b} e f =
+      ap number_of f ∙ counted s b ∙ ap (λ (b : Bool). cond b (number_of (Some s)) 0) e ∙ i ∙ ap (λ (c : ℕ). lettered c fs) (sym k)
 
-  module _ {b : Bool} {r : ℕ} where
-    pub begin_line : c ≡ 66 → b ≡ node NODES KINDS fs → r ≡ cond b Sort.BEGIN 0 → r ≡ lettered c fs
+  module _ {b : Bool} {r : Option LineSort} where
+    pub begin_line : c ≡ 66 → b ≡ node NODES KINDS fs → r ≡ then_some b (L.Event S.Begin) → number_of r ≡ lettered c fs
     unfolding lettered
-    begin_line k e f = is_letter 66 Sort.BEGIN (node NODES KINDS fs) refl k e f
+    begin_line k e f = is_letter 66 (L.Event S.Begin) (node NODES KINDS fs) refl k e f
 
-    pub token_line : c ≡ 84 → b ≡ node 0 NODES fs → r ≡ cond b Sort.TOKEN 0 → r ≡ lettered c fs
+    pub token_line : c ≡ 84 → b ≡ node 0 NODES fs → r ≡ then_some b (L.Event S.Token) → number_of r ≡ lettered c fs
     unfolding lettered
-    token_line k e f = is_letter 84 Sort.TOKEN (node 0 NODES fs) refl k e f
+    token_line k e f = is_letter 84 (L.Event S.Token) (node 0 NODES fs) refl k e f
 
-    pub end_line : c ≡ 69 → b ≡ node NODES KINDS fs → r ≡ cond b Sort.END 0 → r ≡ lettered c fs
+    pub end_line : c ≡ 69 → b ≡ node NODES KINDS fs → r ≡ then_some b (L.Event S.End) → number_of r ≡ lettered c fs
     unfolding lettered
-    end_line k e f = is_letter 69 Sort.END (node NODES KINDS fs) refl k e f
+    end_line k e f = is_letter 69 (L.Event S.End) (node NODES KINDS fs) refl k e f
 
-    pub error_line_lem : c ≡ 88 → b ≡ error fs → r ≡ cond b Sort.ERROR 0 → r ≡ lettered c fs
+    pub error_line_lem : c ≡ 88 → b ≡ error fs → r ≡ then_some b (L.Event S.Error) → number_of r ≡ lettered c fs
     unfolding lettered
-    error_line_lem k e f = is_letter 88 Sort.ERROR (error fs) refl k e f
+    error_line_lem k e f = is_letter 88 (L.Event S.Error) (error fs) refl k e f
 
-    pub result_line : c ≡ 82 → b ≡ plains 3 fs → r ≡ cond b RESULT 0 → r ≡ lettered c fs
+    pub result_line : c ≡ 82 → b ≡ plains 3 fs → r ≡ then_some b L.Result → number_of r ≡ lettered c fs
     unfolding lettered
-    result_line k e f = is_letter 82 RESULT (plains 3 fs) refl k e f
+    result_line k e f = is_letter 82 L.Result (plains 3 fs) refl k e f
 
-    pub unread_line : c ≡ 78 → b ≡ plains 1 fs → r ≡ cond b ALONE 0 → r ≡ lettered c fs
+    pub unread_line : c ≡ 78 → b ≡ plains 1 fs → r ≡ then_some b L.Alone → number_of r ≡ lettered c fs
     unfolding lettered
-    unread_line k e f = is_letter 78 ALONE (plains 1 fs) refl k e f
+    unread_line k e f = is_letter 78 L.Alone (plains 1 fs) refl k e f
 
-    pub refusal_line : c ≡ 70 → b ≡ plains 1 fs → r ≡ cond b ALONE 0 → r ≡ lettered c fs
+    pub refusal_line : c ≡ 70 → b ≡ plains 1 fs → r ≡ then_some b L.Alone → number_of r ≡ lettered c fs
     unfolding lettered
-    refusal_line k e f = is_letter 70 ALONE (plains 1 fs) refl k e f
+    refusal_line k e f = is_letter 70 L.Alone (plains 1 fs) refl k e f
 
   pub no_letter : (c ≡ 66 → ⊥) → (c ≡ 84 → ⊥) → (c ≡ 69 → ⊥) → (c ≡ 88 → ⊥) → (c ≡ 82 → ⊥) → (c ≡ 78 → ⊥) → (c ≡ 70 → ⊥) → 0 ≡ lettered c fs
   unfolding lettered

@@ -3,18 +3,19 @@ use Prim.Native.Nat.{ℕ, zero, suc, ◌+◌, ◌-◌, ◌≤◌, ◌<◌}
 use mathlib.Core.Path.{◌≡◌, refl, sym, ap, ap₂, ◌∙◌}
 use mathlib.Core.List.{List, [], ◌∷◌}
 use mathlib.Core.Bool.{Bool, true, false, cond, not, ◌&&◌, and-false}
-use mathlib.Core.Option.{none, some}
 use native.Mathlib.Omega.{arith}
-use borrow.Author.Tests.{eq-eqb, ne_eqb, eqb-true, eqb-false, lt-ltb, le-ltb, le-leb, lt-leb}
+use borrow.Author.Tests.{eq-eqb, ne_eqb, eqb-true, eqb-false, lt-ltb, le-ltb, le-leb, lt-leb, ltb-true, ltb-false}
 use lib.Dec.{eqb, leb, ltb}
 use lib.ListN.{length, get_or, drop, set, replicate, length-set, length-replicate, get_or-replicate}
 use lib.Seq.{get_or-set_same, get_or-set_other}
+use Rattle.std.specs.Prelude.{Some, None}
 use Rattle.listing.specs.Numbers.{value, number}
 use Rattle.listing.specs.Lines.{parted, behind, Piece}
 use Rattle.listing.proofs.Pieces.{part, marked, unmarked, one_piece}
 use Rattle.listing.proofs.Rest.{rest, rest_is}
 use Rattle.editions.specs.Words.{equal, plain, kind_among, name_number}
-use Rattle.editions.specs.Fields.{plains, node, has, fresh, named, place, placed, form_of, error}
+use Rattle.editions.specs.Words as words
+use Rattle.editions.specs.Fields.{plains, node, has, fresh, named, place, placed, form_of, formed, error}
 use Rattle.editions.proofs.Texts.{is_some, no_number}
 
 -- a piece that does not end with the text
@@ -23,25 +24,63 @@ short_of p h = omega (arith, p.within, h)
 
 -- A FORM
 
-pub no_form : (t : List ℕ) → plain t ≡ false → 0 ≡ form_of t
-unfolding form_of
-no_form t e = sym (ap (λ (b : Bool). cond (b && leb (value t) 10) (value t) 0) e)
+form_none : (t : List ℕ) → 0 ≡ form_of t → None ≡ formed t
+form_none t e = ap (λ (n : ℕ). cond (eqb n 0) None (Some n)) e
 
-module _ (t : List ℕ) {n : ℕ} (p : plain t ≡ true) (e : number t ≡ some n) where
+pub no_form : (t : List ℕ) → plain t ≡ false → None ≡ formed t
+unfolding form_of
+no_form t e = form_none t (sym (ap (λ (b : Bool). cond (b && leb (value t) 10) (value t) 0) e))
+
+module _ (t : List ℕ) {n : ℕ} (p : plain t ≡ true) (e : number t ≡ Some n) where
   by_value : cond (leb n 10) n 0 ≡ form_of t
   unfolding form_of
   by_value =
       sym (ap (λ (b : Bool). cond (b && leb (value t) 10) (value t) 0) p
       ∙ ap (λ (n : ℕ). cond (leb n 10) n 0) (is_some t e).1)
 
-  pub large_form : 10 < n → 0 ≡ form_of t
-  large_form h = sym (ap (λ (b : Bool). cond b n 0) (lt-leb n 10 h)) ∙ by_value
+  pub zero_form : n ≡ 0 → None ≡ formed t
+  zero_form h = form_none t (sym (ap (λ (n : ℕ). cond (leb n 10) n 0) h) ∙ by_value)
 
-  pub a_form : n ≤ 10 → n ≡ form_of t
-  a_form h = sym (ap (λ (b : Bool). cond b n 0) (le-leb n 10 h)) ∙ by_value
+  pub large_form : 10 < n → None ≡ formed t
+  large_form h = form_none t (sym (ap (λ (b : Bool). cond b n 0) (lt-leb n 10 h)) ∙ by_value)
 
-pub no_form_number : (t : List ℕ) → plain t ≡ true → number t ≡ none → 0 ≡ form_of t
+  pub a_form : (n ≡ 0 → ⊥) → n ≤ 10 → Some n ≡ formed t
+  a_form i h =
+      ap (λ (b : Bool). cond b None (Some n)) (sym (ne_eqb n 0 i))
+      ∙ ap (λ (n : ℕ). cond (eqb n 0) None (Some n)) (sym (ap (λ (b : Bool). cond b n 0) (le-leb n 10 h)) ∙ by_value)
+
+pub no_form_number : (t : List ℕ) → plain t ≡ true → number t ≡ None → None ≡ formed t
 no_form_number t p e = absurd (let z : ◌≡◌ {A = ℕ} 0 1 = cc (no_number t e) in omega arith)
+
+-- a form that is read is none, or not 0
+pub form_stray : (t : List ℕ) → None ≡ formed t → form_of t ≡ 0
+form_stray t e = go (eqb (form_of t) 0) refl e
+  where
+    go : (b : Bool) → eqb (form_of t) 0 ≡ b → None ≡ cond b None (Some (form_of t)) → form_of t ≡ 0
+    go true i e = eqb-true (form_of t) 0 i
+    go false i e = absurd (let z : ◌≡◌ {A = ℕ} 0 1 = cc in omega arith)
+
+pub form_read : (t : List ℕ) {n : ℕ} → Some n ≡ formed t → (n ≡ form_of t) × (n ≡ 0 → ⊥)
+form_read t {n} e = go (eqb (form_of t) 0) refl e
+  where
+    go : (b : Bool) → eqb (form_of t) 0 ≡ b → Some n ≡ cond b None (Some (form_of t)) → (n ≡ form_of t) × (n ≡ 0 → ⊥)
+    go true i e = absurd (let z : ◌≡◌ {A = ℕ} 0 1 = cc in omega arith)
+    go false i e = let f : n ≡ form_of t = cc in (f, λ h. eqb-false (form_of t) 0 i (sym f ∙ h))
+
+-- the name that is read
+pub name_read : (t : List ℕ) {n : ℕ} → Some n ≡ words.named t → (n ≡ name_number t) × (n < 85)
+name_read t {n} e = go (ltb (name_number t) 85) refl e
+  where
+    go : (b : Bool) → ltb (name_number t) 85 ≡ b → Some n ≡ cond b (Some (name_number t)) None → (n ≡ name_number t) × (n < 85)
+    go true i e = let f : n ≡ name_number t = cc in (f, omega (arith, f, ltb-true (name_number t) 85 i))
+    go false i e = absurd (let z : ◌≡◌ {A = ℕ} 0 1 = cc in omega arith)
+
+pub name_stray : (t : List ℕ) → None ≡ words.named t → 85 ≤ name_number t
+name_stray t e = go (ltb (name_number t) 85) refl e
+  where
+    go : (b : Bool) → ltb (name_number t) 85 ≡ b → None ≡ cond b (Some (name_number t)) None → 85 ≤ name_number t
+    go true i e = absurd (let z : ◌≡◌ {A = ℕ} 0 1 = cc in omega arith)
+    go false i e = ltb-false (name_number t) 85 i
 
 -- SO MANY NUMBERS
 
@@ -109,77 +148,69 @@ module _ (from to : ℕ) {t : List ℕ} {end : ℕ} (p : Piece 9 t 0 end) where
 
 -- NAMES
 
-abbrev mark : Bool → ℕ
-mark b = cond b 1 0
-
 -- the names before a place are new, and their marks are set
-pub record Naming (t flags : List ℕ) (at : ℕ) : Type 0 where
+pub record Naming (t : List ℕ) (flags : List Bool) (at : ℕ) : Type 0 where
   pub seen : List ℕ
   pub within : at ≤ length t
   pub as_long : length flags ≡ 85
-  pub flagged : (n : ℕ) → n < 85 → get_or flags n 0 ≡ mark (has n seen)
+  pub flagged : (n : ℕ) → n < 85 → get_or flags n false ≡ has n seen
   pub is : fresh [] (parted 44 t) ≡ fresh seen (parted 44 (drop at t))
 
-pub naming : (t : List ℕ) → Naming t (replicate 85 0) 0
+pub naming : (t : List ℕ) → Naming t (replicate 85 false) 0
 naming t =
     record {
       seen = [];
       within = omega arith;
-      as_long = length-replicate {A = ℕ} 85 0;
-      flagged = λ n h. get_or-replicate 85 n 0 0 h;
+      as_long = length-replicate {A = Bool} 85 false;
+      flagged = λ n h. get_or-replicate 85 n false false h;
       is = refl;
     }
 
--- a mark that is set, or not
-set_mark : (b : Bool) {x : ℕ} → x ≡ mark b → (x ≡ 0 → ⊥) → b ≡ true
-set_mark true e h = refl
-set_mark false e h = absurd (h e)
-
-no_mark_set : (b : Bool) {x : ℕ} → x ≡ mark b → x ≡ 0 → b ≡ false
-no_mark_set true e h = absurd (omega arith)
-no_mark_set false e h = refl
-
-module _ {t flags : List ℕ} {at to n : ℕ} (g : Naming t flags at) (p : Piece 44 t at to) (e : n ≡ name_number (part at to t)) where
-  names_as : (b c : Bool) (ts : List (List ℕ)) → ltb n 85 ≡ b → has n g.seen ≡ c → parted 44 (drop at t) ≡ part at to t ∷ ts
+module _ {t : List ℕ} {flags : List Bool} {at to : ℕ} (g : Naming t flags at) (p : Piece 44 t at to) where
+  names_as : {n : ℕ} → n ≡ name_number (part at to t) → (b c : Bool) (ts : List (List ℕ)) → ltb n 85 ≡ b → has n g.seen ≡ c → parted 44 (drop at t) ≡ part at to t ∷ ts
       → (b && not c && fresh (n ∷ g.seen) ts) ≡ fresh [] (parted 44 t)
-  names_as b c ts f h q =
+  names_as {n} e b c ts f h q =
       sym (g.is
       ∙ ap (fresh g.seen) q
       ∙ ap (λ (n : ℕ). ltb n 85 && not (has n g.seen) && fresh (n ∷ g.seen) ts) (sym e)
       ∙ ap₂ (λ (b c : Bool). b && not c && fresh (n ∷ g.seen) ts) f h)
 
-  pub stranger : 85 ≤ n → false ≡ fresh [] (parted 44 t)
-  stranger h = names_as false (has n g.seen) (behind 44 t to) (le-ltb n 85 h) refl p.is
+  pub stranger : None ≡ words.named (part at to t) → false ≡ fresh [] (parted 44 t)
+  stranger h =
+      names_as refl false (has (name_number (part at to t)) g.seen) (behind 44 t to) (le-ltb (name_number (part at to t)) 85 (name_stray (part at to t) h)) refl p.is
 
-  module _ (h : n < 85) where
-    pub twice : (get_or flags n 0 ≡ 0 → ⊥) → false ≡ fresh [] (parted 44 t)
-    twice k = names_as true true (behind 44 t to) (lt-ltb n 85 h) (set_mark (has n g.seen) (g.flagged n h) k) p.is
+  module _ {n : ℕ} (e : Some n ≡ words.named (part at to t)) where
+    pub is_name : n < 85
+    is_name = (name_read (part at to t) e).1
 
-    module _ (k : get_or flags n 0 ≡ 0) where
+    pub twice : get_or flags n false ≡ true → false ≡ fresh [] (parted 44 t)
+    twice k = names_as (name_read (part at to t) e).0 true true (behind 44 t to) (lt-ltb n 85 is_name) (sym (g.flagged n is_name) ∙ k) p.is
+
+    module _ (k : get_or flags n false ≡ false) where
       new : has n g.seen ≡ false
-      new = no_mark_set (has n g.seen) (g.flagged n h) k
+      new = sym (g.flagged n is_name) ∙ k
 
       pub last_name : length t ≤ to → true ≡ fresh [] (parted 44 t)
-      last_name l = names_as true false [] (lt-ltb n 85 h) new (unmarked p l)
+      last_name l = names_as (name_read (part at to t) e).0 true false [] (lt-ltb n 85 is_name) new (unmarked p l)
 
-      pub naming_on : to < length t → Naming t (set flags n 1) (to + 1)
+      pub naming_on : to < length t → Naming t (set flags n true) (to + 1)
       naming_on l =
           record {
             seen = n ∷ g.seen;
             within = omega arith;
-            as_long = length-set flags n 1 ∙ g.as_long;
+            as_long = length-set flags n true ∙ g.as_long;
             flagged = marks;
-            is = sym (names_as true false (parted 44 (drop (to + 1) t)) (lt-ltb n 85 h) new (marked p l));
+            is = sym (names_as (name_read (part at to t) e).0 true false (parted 44 (drop (to + 1) t)) (lt-ltb n 85 is_name) new (marked p l));
           }
         where
-          marks : (m : ℕ) → m < 85 → get_or (set flags n 1) m 0 ≡ mark (has m (n ∷ g.seen))
+          marks : (m : ℕ) → m < 85 → get_or (set flags n true) m false ≡ has m (n ∷ g.seen)
           marks m i = go (eqb m n) refl
             where
-              go : (b : Bool) → eqb m n ≡ b → get_or (set flags n 1) m 0 ≡ mark (cond b true (has m g.seen))
+              go : (b : Bool) → eqb m n ≡ b → get_or (set flags n true) m false ≡ cond b true (has m g.seen)
               go true j =
-                  ap (λ (k : ℕ). get_or (set flags n 1) k 0) (eqb-true m n j)
-                  ∙ get_or-set_same flags n 1 0 (omega (arith, g.as_long))
-              go false j = get_or-set_other flags n m 1 0 (eqb-false m n j) ∙ g.flagged m i
+                  ap (λ (k : ℕ). get_or (set flags n true) k false) (eqb-true m n j)
+                  ∙ get_or-set_same flags n true false (omega (arith, g.as_long, is_name))
+              go false j = get_or-set_other flags n m true false (eqb-false m n j) ∙ g.flagged m i
 
 pub few_names : (form : ℕ) (t : List ℕ) → form ≤ 3 → fresh [] (parted 44 t) ≡ named form t
 few_names form t h = sym (ap (λ (b : Bool). cond b (fresh [] (parted 44 t)) (equal t (45 ∷ []))) (le-leb form 3 h))
@@ -237,26 +268,30 @@ module _ {t : List ℕ} {a : ℕ} (p : Piece 9 t 0 a) where
       three_fields l =
           sym (and-false (not (eqb (form_of (part 0 a t)) 0) && plain (part (a + 1) b t) && plain (part (b + 1) c t))) ∙ fields [] (unmarked r l)
 
-      module _ (l : c < length t) {form : ℕ} (f : form ≡ form_of (part 0 a t)) where
-        error_as : (x y z : Bool) → eqb form 0 ≡ x → plain (part (a + 1) b t) ≡ y → plain (part (b + 1) c t) ≡ z
+      module _ (l : c < length t) where
+        error_as : {form : ℕ} → form ≡ form_of (part 0 a t) → (x y z : Bool) → eqb form 0 ≡ x → plain (part (a + 1) b t) ≡ y → plain (part (b + 1) c t) ≡ z
             → (not x && y && z && placed form (parted 9 (rest t (c + 1)))) ≡ error (parted 9 t)
-        error_as x y z u v w =
+        error_as {form} f x y z u v w =
             sym (ap (λ (b : Bool). not b && y && z && placed form (parted 9 (rest t (c + 1)))) u)
             ∙ sym (ap₂ (λ (b d : Bool). not (eqb form 0) && b && d && placed form (parted 9 (rest t (c + 1)))) v w)
             ∙ ap (λ (s : List ℕ). not (eqb form 0) && plain (part (a + 1) b t) && plain (part (b + 1) c t) && placed form (parted 9 s)) (rest_is t (c + 1))
             ∙ ap (λ (n : ℕ). not (eqb n 0) && plain (part (a + 1) b t) && plain (part (b + 1) c t) && placed n (parted 9 (drop (c + 1) t))) f
             ∙ fields (parted 9 (drop (c + 1) t)) (marked r l)
 
-        pub wrong_form : form ≡ 0 → false ≡ error (parted 9 t)
-        wrong_form i = error_as true (plain (part (a + 1) b t)) (plain (part (b + 1) c t)) (eq-eqb form 0 i) refl refl
+        pub wrong_form : None ≡ formed (part 0 a t) → false ≡ error (parted 9 t)
+        wrong_form i =
+            error_as refl true (plain (part (a + 1) b t)) (plain (part (b + 1) c t)) (eq-eqb (form_of (part 0 a t)) 0 (form_stray (part 0 a t) i)) refl refl
 
-        module _ (i : form ≡ 0 → ⊥) where
+        module _ {form : ℕ} (f : Some form ≡ formed (part 0 a t)) where
+          no_zero : eqb form 0 ≡ false
+          no_zero = ne_eqb form 0 (form_read (part 0 a t) f).1
+
           pub wrong_start : plain (part (a + 1) b t) ≡ false → false ≡ error (parted 9 t)
-          wrong_start v = error_as false false (plain (part (b + 1) c t)) (ne_eqb form 0 i) v refl
+          wrong_start v = error_as (form_read (part 0 a t) f).0 false false (plain (part (b + 1) c t)) no_zero v refl
 
           module _ (v : plain (part (a + 1) b t) ≡ true) where
             pub wrong_end : plain (part (b + 1) c t) ≡ false → false ≡ error (parted 9 t)
-            wrong_end w = error_as false true false (ne_eqb form 0 i) v w
+            wrong_end w = error_as (form_read (part 0 a t) f).0 false true false no_zero v w
 
             pub names_decide : plain (part (b + 1) c t) ≡ true → placed form (parted 9 (rest t (c + 1))) ≡ error (parted 9 t)
-            names_decide w = error_as false true true (ne_eqb form 0 i) v w
+            names_decide w = error_as (form_read (part 0 a t) f).0 false true true no_zero v w

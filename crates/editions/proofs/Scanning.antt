@@ -3,11 +3,12 @@ use Prim.Native.Nat.{ℕ, suc, ◌+◌, ◌-◌, ◌*◌, ◌≤◌, ◌<◌}
 use mathlib.Core.Path.{◌≡◌, refl, sym, ap, ◌∙◌}
 use mathlib.Core.List.{List, [], ◌∷◌, ◌++◌, append_assoc}
 use mathlib.Core.Bool.{Bool, true, false, cond, ◌&&◌}
-use mathlib.Core.Option.{Option, none, some}
+use mathlib.Core.Option as maybe
 use native.Mathlib.Numerals.{add-one}
 use native.Mathlib.Omega.{arith}
 use lib.Dec.{eqb}
 use lib.ListN.{length, drop, length-append, length-drop, drop_of_length-le}
+use Rattle.std.specs.Prelude.{Option, Some, None}
 use Rattle.shapes.specs.Sort as Sort
 use Rattle.listing.specs.Numbers.{decimal}
 use Rattle.listing.specs.Lines.{onto, parted, Piece}
@@ -18,8 +19,6 @@ use Rattle.editions.specs.Editions as e
 use Rattle.editions.specs.Editions.{step_at, made, made_of, ahead, only, next, opened_behind, ended}
 use Rattle.editions.specs.Answer.{out_text, step_of}
 use Rattle.editions.specs.declared.step.Out.{Out}
-use Rattle.editions.specs.declared.step.Step.{Step}
-use Rattle.editions.specs.declared.step.Step.TheVariants as step
 
 -- LINES AND THEIR TEXT
 
@@ -70,9 +69,9 @@ module _ (d : ℕ) where
   up_most : (s : ℕ) (l : List ℕ) → Most d (e.up_as s d l)
   up_most s l = either_most d (e.allowed s d) (e.becomes false (e.opened s d) (l ++ (9 ∷ decimal (e.field s d)))) e.stray (opened_most s d) (omega arith)
 
-  down_most : (o : Option (List ℕ × List ℕ)) → Most d (e.down_from d o)
-  down_most none = omega arith
-  down_most (some s) = go (sort_of (parted 9 s.0))
+  down_most : (o : maybe.Option (List ℕ × List ℕ)) → Most d (e.down_from d o)
+  down_most maybe.none = omega arith
+  down_most (maybe.some s) = go (sort_of (parted 9 s.0))
     where
       go : (n : ℕ) → Most d (e.down_as n d s)
       go n = either_most d (e.allowed n d && e.right n d s.1) (e.becomes false (e.opened n d) s.0) e.stray (opened_most n d) (omega arith)
@@ -145,13 +144,13 @@ module _ {up : Bool} {text : List ℕ} {passed : List (List ℕ)} {n d at : ℕ}
         (λ l ls. refl) 10 (drop (to + 1) text)
         ∙ ap (λ (s : e.Step). next n s (parted 10 (drop (to + 1) text)) (made up (suc n) (opened_behind s) (parted 10 (drop (to + 1) text)))) i
 
-    module _ (h : to < length text) {r : Step} (f : step_of r (part at to text) ≡ step_at up n d (part at to text)) where
-      pub not_read : r ≡ step.Stray → made_of up text ≡ e.bad n
-      not_read i = stops (next_as h e.stray (sym f ∙ ap (λ (r : Step). step_of r (part at to text)) i))
+    module _ (h : to < length text) {r : Option Out} (f : step_of r (part at to text) ≡ step_at up n d (part at to text)) where
+      pub not_read : r ≡ None → made_of up text ≡ e.bad n
+      not_read i = stops (next_as h e.stray (sym f ∙ ap (λ (r : Option Out). step_of r (part at to text)) i))
 
-      module _ {o : Out} (i : r ≡ step.Line o) where
+      module _ {o : Out} (i : r ≡ Some o) where
         becomes : step_at up n d (part at to text) ≡ e.becomes o.last o.depth (out_text o (part at to text))
-        becomes = sym f ∙ ap (λ (r : Step). step_of r (part at to text)) i
+        becomes = sym f ∙ ap (λ (r : Option Out). step_of r (part at to text)) i
 
         becomes_as : (b : Bool) → o.last ≡ b → step_at up n d (part at to text) ≡ e.becomes b o.depth (out_text o (part at to text))
         becomes_as b j = becomes ∙ ap (λ (b : Bool). e.becomes b o.depth (out_text o (part at to text))) j

@@ -6,153 +6,72 @@ use mathlib.Core.Bool.{Bool, true, false, cond, ◌&&◌}
 use mathlib.Core.Option.{none, some}
 use native.Mathlib.Numerals.{add-one}
 use native.Mathlib.Omega.{arith}
-use borrow.Author.Tests.{eq-eqb, ne_eqb, lt-ltb, le-ltb}
-use lib.Dec.{eqb, ltb}
+use borrow.Author.Tests.{eq-eqb, ne_eqb}
+use lib.Dec.{eqb}
 use lib.ListN.{length, get_or, take, drop}
 use lib.Seq.{drop-cons, drop-length, take-length}
 use Rattle.shapes.specs.Sort as Sort
 use Rattle.listing.specs.Numbers.{decimal}
 use Rattle.listing.specs.Lines.{parted}
 use Rattle.listing.proofs.Rest.{rest, rest_is}
-use Rattle.editions.specs.Words.{equal, plain}
+use Rattle.editions.specs.Words.{equal}
 use Rattle.editions.specs.Sorts.{RESULT, ALONE, sort_of}
 use Rattle.editions.specs.Editions.{opened, field, allowed, right, ends, shed_from, shed, stray, becomes, head_text, from, to, head_step}
 use Rattle.editions.specs.Editions.{up_as, up_step, down_as, down_from, down_step, step_at}
-use Rattle.editions.specs.Answer.{LastMark}
 use Rattle.editions.proofs.Texts.{equal_same}
 
 -- COUNTING
 
 module _ (s d : ℕ) where
-  pub begun : s ≡ Sort.BEGIN → d + 1 ≡ opened s d
-  unfolding opened
-  begun e = add-one d ∙ sym (ap (λ (s : ℕ). opened s d) e)
-
-  pub closed : s ≡ Sort.END → d - 1 ≡ opened s d
-  unfolding opened
-  closed e = sym (ap (λ (s : ℕ). opened s d) e)
-
-  pub closed_none : s ≡ Sort.END → d ≤ 0 → d ≡ opened s d
-  closed_none e h = omega (arith, closed e)
-
-  pub passed : (s ≡ Sort.BEGIN → ⊥) → (s ≡ Sort.END → ⊥) → d ≡ opened s d
-  unfolding opened
-  passed b e = rw (ne_eqb s Sort.BEGIN b, ne_eqb s Sort.END e)
-
   pub error_field : s ≡ Sort.ERROR → 0 ≡ field s d
   unfolding field
   error_field e = sym (ap (λ (s : ℕ). field s d) e)
 
-  pub end_field : s ≡ Sort.END → d - 1 ≡ field s d
-  unfolding field
-  end_field e = sym (ap (λ (s : ℕ). field s d) e)
-
-  pub end_field_none : s ≡ Sort.END → d ≤ 0 → d ≡ field s d
-  end_field_none e h = omega (arith, end_field e)
-
-  pub other_field : (s ≡ Sort.ERROR → ⊥) → (s ≡ Sort.END → ⊥) → d ≡ field s d
-  unfolding field
-  other_field x e = rw (ne_eqb s Sort.ERROR x, ne_eqb s Sort.END e)
-
-  pub no_sort : s ≡ 0 → false ≡ allowed s d
-  unfolding allowed
-  no_sort e = sym (ap (λ (s : ℕ). allowed s d) e)
-
-  module _ (some-sort : s ≡ 0 → ⊥) where
-    pub no_event : Sort.ERROR < s → false ≡ allowed s d
-    unfolding allowed
-    no_event h = rw (ne_eqb s 0 some-sort, lt-ltb Sort.ERROR s h)
-
-    module _ (event : s ≤ Sort.ERROR) where
-      pub end_event : s ≡ Sort.END → ltb 0 d ≡ allowed s d
-      unfolding allowed
-      end_event e = sym (ap (λ (s : ℕ). allowed s d) e)
-
-      pub other_event : (s ≡ Sort.END → ⊥) → true ≡ allowed s d
-      unfolding allowed
-      other_event e = rw (ne_eqb s 0 some-sort, le-ltb Sort.ERROR s event, ne_eqb s Sort.END e)
-
-  module _ (n : ℕ) where
-    pub some_open : (d ≡ 0 → ⊥) → false ≡ ends s n d
+  module _ (n : ℕ) (none_open : d ≡ 0) where
+    pub result_ends : s ≡ RESULT → true ≡ ends s n d
     unfolding ends
-    some_open h = rw (ne_eqb d 0 h)
+    result_ends e = rw (eq-eqb d 0 none_open, eq-eqb s RESULT e)
 
-    module _ (none_open : d ≡ 0) where
-      pub result_ends : s ≡ RESULT → true ≡ ends s n d
-      unfolding ends
-      result_ends e = rw (eq-eqb d 0 none_open, eq-eqb s RESULT e)
-
-      module _ (no_result : s ≡ RESULT → ⊥) where
-        pub goes_on : (s ≡ ALONE → ⊥) → false ≡ ends s n d
-        unfolding ends
-        goes_on e = rw (eq-eqb d 0 none_open, ne_eqb s RESULT no_result, ne_eqb s ALONE e)
-
-        pub alone_ends : s ≡ ALONE → eqb n 2 ≡ ends s n d
-        unfolding ends
-        alone_ends e = rw (eq-eqb d 0 none_open, ne_eqb s RESULT no_result, eq-eqb s ALONE e)
+    pub alone_ends : (s ≡ RESULT → ⊥) → s ≡ ALONE → eqb n 2 ≡ ends s n d
+    unfolding ends
+    alone_ends no_result e = rw (eq-eqb d 0 none_open, ne_eqb s RESULT no_result, eq-eqb s ALONE e)
 
 -- THE LAST TAB
 
--- no mark stands from i on
-pub record Bare (m : ℕ) (l : List ℕ) (i : ℕ) : Type 0 where
-  pub within : i ≤ length l
-  pub is : shed m (drop i l) ≡ none
-
-pub bare : (m : ℕ) (l : List ℕ) → Bare m l (length l)
-bare m l = record { within = omega arith; is = ap (shed m) (drop-length l) }
-
-pub shed_at : (m : ℕ) (l : List ℕ) (j : ℕ) → j < length l → get_or l j 0 ≡ m → shed m (drop (suc j) l) ≡ none → shed m l ≡ some (take j l, drop (suc j) l)
+shed_at : (m : ℕ) (l : List ℕ) (j : ℕ) → j < length l → get_or l j 0 ≡ m → shed m (drop (j + 1) l) ≡ none → shed m l ≡ some (take j l, drop (j + 1) l)
 shed_at m [] j h e f = absurd (omega arith)
 shed_at m (b ∷ bs) zero h e f =
     ap (shed_from m b bs) f ∙ ap (λ (t : Bool). cond t (some ([], bs)) none) (eq-eqb b m e)
-shed_at m (b ∷ bs) (suc j) h e f = ap (shed_from m b bs) (shed_at m bs j (omega arith) e f)
+shed_at m (b ∷ bs) (suc j) h e f =
+    let i : suc j + 1 ≡ suc (j + 1) = omega arith in
+    ap (shed_from m b bs) (shed_at m bs j (omega arith) e (ap (λ (n : ℕ). shed m (drop n (b ∷ bs))) (sym i) ∙ f))
+    ∙ ap (λ (n : ℕ). some (b ∷ take j bs, drop n (b ∷ bs))) (sym i)
 
-module _ {m : ℕ} {l : List ℕ} {i : ℕ} (g : Bare m l i) where
-  module _ (h : 0 < i) where
-    behind : shed m (drop (suc (i - 1)) l) ≡ none
-    behind = let e : suc (i - 1) ≡ i = omega arith in ap (λ (n : ℕ). shed m (drop n l)) e ∙ g.is
+bare_on : (m : ℕ) (l : List ℕ) (j : ℕ) → j < length l → (get_or l j 0 ≡ m → ⊥) → shed m (drop (j + 1) l) ≡ none → shed m (drop j l) ≡ none
+bare_on m l j h ne f =
+    ap (shed m) (drop-cons l j 0 h)
+    ∙ ap (shed_from m (get_or l j 0) (drop (suc j) l)) (ap (λ (n : ℕ). shed m (drop n l)) (sym (add-one j)) ∙ f)
+    ∙ ap (λ (t : Bool). cond t (some ([], drop (suc j) l)) none) (ne_eqb _ _ ne)
 
-    pub mark_at : get_or l (i - 1) 0 ≡ m → LastMark m l (i - 1)
-    mark_at e =
-        record {
-          within = omega (arith, g.within);
-          is =
-              shed_at m l (i - 1) (omega (arith, g.within)) e behind
-              ∙ ap (λ (n : ℕ). some (take (i - 1) l, drop n l)) (sym (add-one (i - 1)))
-              ∙ sym (ap (λ (t : Bool). cond t (some (take (i - 1) l, drop (i - 1 + 1) l)) none) (lt-ltb (i - 1) (length l) (omega (arith, g.within))));
-        }
+-- no mark stands from i on, and one before it, or none
+module _ (m : ℕ) (l : List ℕ) (i : ℕ) (bare : shed m (drop i l) ≡ none) where
+  pub mark_at : 0 < i → i ≤ length l → get_or l (i - 1) 0 ≡ m → (i - 1 < length l) × (shed m l ≡ some (take (i - 1) l, drop (i - 1 + 1) l))
+  mark_at h k e =
+      let n : i ≡ i - 1 + 1 = omega arith in
+      (omega arith, shed_at m l (i - 1) (omega arith) e (sym (ap (λ (n : ℕ). shed m (drop n l)) n) ∙ bare))
 
-    pub bare_on : (get_or l (i - 1) 0 ≡ m → ⊥) → Bare m l (i - 1)
-    bare_on ne =
-        record {
-          within = omega (arith, g.within);
-          is =
-              ap (shed m) (drop-cons l (i - 1) 0 (omega (arith, g.within)))
-              ∙ ap (shed_from m (get_or l (i - 1) 0) (drop (suc (i - 1)) l)) behind
-              ∙ ap (λ (t : Bool). cond t (some ([], drop (suc (i - 1)) l)) none) (ne_eqb _ _ ne);
-        }
+  pub mark_before : 0 < i → i ≤ length l → (get_or l (i - 1) 0 ≡ m → ⊥) → shed m (drop (i - 1) l) ≡ none
+  mark_before h k e =
+      let n : i ≡ i - 1 + 1 = omega arith in
+      bare_on m l (i - 1) (omega arith) e (sym (ap (λ (n : ℕ). shed m (drop n l)) n) ∙ bare)
 
-  pub no_mark : i ≤ 0 → LastMark m l (length l)
-  no_mark h =
-      let e : 0 ≡ i = omega arith in
-      record {
-        within = omega arith;
-        is =
-            ap (λ (n : ℕ). shed m (drop n l)) e
-            ∙ g.is
-            ∙ sym (ap (λ (t : Bool). cond t (some (take (length l) l, drop (length l + 1) l)) none) (le-ltb (length l) (length l) (omega arith)));
-      }
+  pub no_mark : i ≤ 0 → shed m l ≡ none
+  no_mark h = let e : 0 ≡ i = omega arith in ap (λ (n : ℕ). shed m (drop n l)) e ∙ bare
+
+pub bare_end : (m : ℕ) (l : List ℕ) → shed m (drop (length l) l) ≡ none
+bare_end m l = ap (shed m) (drop-length l)
 
 -- WHAT A LINE BECOMES
-
-module _ (s d : ℕ) (f : List ℕ) where
-  pub item_right : s ≡ Sort.ERROR → plain f ≡ right s d f
-  unfolding right
-  item_right e = rw (eq-eqb s Sort.ERROR e)
-
-  pub depth_right : (s ≡ Sort.ERROR → ⊥) → {n : ℕ} → n ≡ field s d → equal f (decimal n) ≡ right s d f
-  unfolding right
-  depth_right ne e = rw (ne_eqb s Sort.ERROR ne) (ap (λ (n : ℕ). equal f (decimal n)) e)
 
 -- the `L` line of the edition, which the code has as a text
 no_head : (up : Bool) (l : List ℕ) → equal l (head_text (from up)) ≡ false → stray ≡ head_step up l
@@ -182,34 +101,30 @@ module _ (d : ℕ) (l : List ℕ) {s : ℕ} (e : s ≡ sort_of (parted 9 l)) whe
       ∙ ap₂ (λ (a n : ℕ). becomes false a (l ++ (9 ∷ decimal n))) i j
       ∙ up_as_lem true f
 
-module _ (d : ℕ) {l : List ℕ} {tab : ℕ} (m : LastMark 9 l tab) where
-  pub no_tab : tab ≡ length l → stray ≡ down_step d l
+pub no_tab : (d : ℕ) (l : List ℕ) → shed 9 l ≡ none → stray ≡ down_step d l
+unfolding down_step
+no_tab d l m = sym (ap (down_from d) m)
+
+module _ (d : ℕ) (l : List ℕ) (tab : ℕ) (m : shed 9 l ≡ some (take tab l, drop (tab + 1) l)) {s : ℕ} (e : s ≡ sort_of (parted 9 (take tab l))) where
+  down_as_lem : (t u : Bool) → allowed s d ≡ t → right s d (rest l (tab + 1)) ≡ u → cond (t && u) (becomes false (opened s d) (take tab l)) stray ≡ down_step d l
   unfolding down_step
-  no_tab e =
-      sym (ap (down_from d) m.is
-      ∙ ap (λ (t : Bool). down_from d (cond t (some (take tab l, drop (tab + 1) l)) none)) (le-ltb tab (length l) (omega arith)))
+  down_as_lem t u f i =
+      sym (ap₂ (λ (t u : Bool). cond (t && u) (becomes false (opened s d) (take tab l)) stray) f i)
+      ∙ ap (λ (f : List ℕ). down_as s d (take tab l, f)) (rest_is l (tab + 1))
+      ∙ ap (λ (s : ℕ). down_as s d (take tab l, drop (tab + 1) l)) e
+      ∙ sym (ap (down_from d) m)
 
-  module _ (h : (tab ≡ length l → ⊥)) {s : ℕ} (e : s ≡ sort_of (parted 9 (take tab l))) where
-    down_as_lem : (t u : Bool) → allowed s d ≡ t → right s d (rest l (tab + 1)) ≡ u → cond (t && u) (becomes false (opened s d) (take tab l)) stray ≡ down_step d l
-    unfolding down_step
-    down_as_lem t u f i =
-        sym (ap₂ (λ (t u : Bool). cond (t && u) (becomes false (opened s d) (take tab l)) stray) f i)
-        ∙ ap (λ (f : List ℕ). down_as s d (take tab l, f)) (rest_is l (tab + 1))
-        ∙ ap (λ (s : ℕ). down_as s d (take tab l, drop (tab + 1) l)) e
-        ∙ sym (ap (down_from d) m.is
-        ∙ ap (λ (t : Bool). down_from d (cond t (some (take tab l, drop (tab + 1) l)) none)) (lt-ltb tab (length l) (omega (arith, m.within, h))))
+  pub down_stray : allowed s d ≡ false → stray ≡ down_step d l
+  down_stray f = down_as_lem false (right s d (rest l (tab + 1))) f refl
 
-    pub down_stray : allowed s d ≡ false → stray ≡ down_step d l
-    down_stray f = down_as_lem false (right s d (rest l (tab + 1))) f refl
+  module _ (f : allowed s d ≡ true) where
+    pub down_wrong : right s d (rest l (tab + 1)) ≡ false → stray ≡ down_step d l
+    down_wrong i = down_as_lem true false f i
 
-    module _ (f : allowed s d ≡ true) where
-      pub down_wrong : right s d (rest l (tab + 1)) ≡ false → stray ≡ down_step d l
-      down_wrong i = down_as_lem true false f i
-
-      pub down_event : right s d (rest l (tab + 1)) ≡ true → {a : ℕ} → a ≡ opened s d → becomes false a (take tab l ++ []) ≡ down_step d l
-      down_event i {a} j =
-          ap₂ (λ (a : ℕ) (t : List ℕ). becomes false a t) j (append-nil (take tab l))
-          ∙ down_as_lem true true f i
+    pub down_event : right s d (rest l (tab + 1)) ≡ true → {a : ℕ} → a ≡ opened s d → becomes false a (take tab l ++ []) ≡ down_step d l
+    down_event i {a} j =
+        ap₂ (λ (a : ℕ) (t : List ℕ). becomes false a t) j (append-nil (take tab l))
+        ∙ down_as_lem true true f i
 
 module _ (up : Bool) (n d : ℕ) (l : List ℕ) where
   pub first_line : n ≡ 1 → head_step up l ≡ step_at up n d l

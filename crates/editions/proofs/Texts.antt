@@ -3,81 +3,54 @@ use Prim.Native.Nat.{ℕ, suc, ◌+◌, ◌≤◌, ◌<◌}
 use mathlib.Core.Path.{◌≡◌, refl, sym, ap, ap₂, ◌∙◌}
 use mathlib.Core.List.{List, [], ◌∷◌}
 use mathlib.Core.Bool.{Bool, true, false, cond, not, ◌&&◌}
-use mathlib.Core.Option.{none, some}
 use native.Mathlib.Numerals.{add-one}
 use native.Mathlib.Omega.{arith}
-use borrow.Author.Tests.{eq-eqb, ne_eqb, eqb-true}
-use lib.Dec.{eqb}
+use borrow.Author.Tests.{eqb-true, lt-ltb}
+use lib.Dec.{eqb, ltb}
 use lib.ListN.{length, get_or, take, drop, length-take, drop_of_length-le}
 use lib.Seq.{drop-cons, take_at, slice, slice-cons}
+use Rattle.std.specs.Prelude.{Some, None}
 use Rattle.kinds.specs.Spelling.{kind_texts, name_texts, kind_text, name_text, Spelled}
 use Rattle.listing.specs.Numbers.{value, is_number, number}
 use Rattle.listing.specs.Written.{Put}
 use Rattle.listing.proofs.Written.{spelled}
-use Rattle.editions.specs.Words.{equal, unpadded, plain, among, kind_among, place_in, name_number}
+use Rattle.editions.specs.Words.{equal, unpadded, plain, among, kind_among, place_in, name_number, named}
 
 -- COMPARING
 
--- the first i bytes are the same
-pub record Alike (a b : List ℕ) (i : ℕ) : Type 0 where
-  pub as_long : length a ≡ length b
-  pub within : i ≤ length a
-  pub is : equal a b ≡ equal (drop i a) (drop i b)
-
-pub alike : (a b : List ℕ) → length a ≡ length b → Alike a b 0
-alike a b e = record { as_long = e; within = omega arith; is = refl }
-
-pub unlike : (a b : List ℕ) → (length a ≡ length b → ⊥) → false ≡ equal a b
-unlike [] [] h = absurd (h refl)
-unlike [] (c ∷ cs) h = refl
-unlike (b ∷ bs) [] h = refl
-unlike (b ∷ bs) (c ∷ cs) h = go (eqb b c) (unlike bs cs (λ e. h (ap suc e)))
+pub equal_same : (a b : List ℕ) → equal a b ≡ true → a ≡ b
+equal_same [] [] e = refl
+equal_same [] (c ∷ cs) e = absurd (let z : ◌≡◌ {A = ℕ} 0 1 = cc in omega arith)
+equal_same (b ∷ bs) [] e = absurd (let z : ◌≡◌ {A = ℕ} 0 1 = cc in omega arith)
+equal_same (b ∷ bs) (c ∷ cs) e = go (eqb b c) refl e (equal_same bs cs)
   where
-    go : (t : Bool) → false ≡ equal bs cs → false ≡ (t && equal bs cs)
-    go true e = e
-    go false e = refl
-
-module _ {a b : List ℕ} {i : ℕ} (g : Alike a b i) where
-  ahead : i < length a → equal a b ≡ (eqb (get_or a i 0) (get_or b i 0) && equal (drop (suc i) a) (drop (suc i) b))
-  ahead h = g.is ∙ ap₂ equal (drop-cons a i 0 h) (drop-cons b i 0 (omega (arith, g.as_long)))
-
-  pub differs : i < length a → (get_or a i 0 ≡ get_or b i 0 → ⊥) → false ≡ equal a b
-  differs h ne = sym (ahead h ∙ ap (λ (t : Bool). t && equal (drop (suc i) a) (drop (suc i) b)) (ne_eqb _ _ ne))
-
-  pub alike_on : i < length a → get_or a i 0 ≡ get_or b i 0 → Alike a b (i + 1)
-  alike_on h e =
-      record {
-        as_long = g.as_long;
-        within = omega arith;
-        is = rw add-one (ahead h ∙ ap (λ (t : Bool). t && equal (drop (suc i) a) (drop (suc i) b)) (eq-eqb _ _ e));
-      }
-
-  pub alike_all : length a ≤ i → true ≡ equal a b
-  alike_all h = let k : length b ≤ i = omega (arith, g.as_long) in sym (g.is ∙ ap₂ equal (drop_of_length-le a h) (drop_of_length-le b k))
+    go : (t : Bool) → eqb b c ≡ t → (t && equal bs cs) ≡ true → (equal bs cs ≡ true → bs ≡ cs) → b ∷ bs ≡ c ∷ cs
+    go true i e f = ap₂ (λ (x : ℕ) (xs : List ℕ). x ∷ xs) (eqb-true b c i) (f e)
+    go false i e f = absurd (let z : ◌≡◌ {A = ℕ} 0 1 = cc in omega arith)
 
 -- NUMBERS
 
-is_none : (t : List ℕ) → number t ≡ none → is_number t ≡ false
+is_none : (t : List ℕ) → number t ≡ None → is_number t ≡ false
 unfolding number
 is_none t e = go (is_number t) e
   where
-    go : (b : Bool) → cond b (some (value t)) none ≡ none → b ≡ false
+    go : (b : Bool) → cond b (Some (value t)) None ≡ None → b ≡ false
     go true e = absurd (let z : ◌≡◌ {A = ℕ} 0 1 = cc in omega arith)
     go false e = refl
 
-pub is_some : (t : List ℕ) {n : ℕ} → number t ≡ some n → (is_number t ≡ true) × (value t ≡ n)
+pub is_some : (t : List ℕ) {n : ℕ} → number t ≡ Some n → (is_number t ≡ true) × (value t ≡ n)
 unfolding number
 is_some t {n} e = go (is_number t) e
   where
-    go : (b : Bool) → cond b (some (value t)) none ≡ some n → (b ≡ true) × (value t ≡ n)
+    go : (b : Bool) → cond b (Some (value t)) None ≡ Some n → (b ≡ true) × (value t ≡ n)
     go true e = (refl, cc)
     go false e = absurd (let z : ◌≡◌ {A = ℕ} 0 1 = cc in omega arith)
 
-pub no_number : (t : List ℕ) → number t ≡ none → false ≡ plain t
+pub no_number : (t : List ℕ) → number t ≡ None → false ≡ plain t
 unfolding plain
 no_number t e = sym (ap (λ (b : Bool). b && unpadded t) (is_none t e))
 
-module _ (t : List ℕ) {n : ℕ} (e : number t ≡ some n) where
+module _ (t : List ℕ) {n : ℕ} (e : number t ≡ Some n) where
   by_zeros : unpadded t ≡ plain t
   unfolding plain
   by_zeros = sym (ap (λ (b : Bool). b && unpadded t) (is_some t e).0)
@@ -97,16 +70,6 @@ module _ (t : List ℕ) {n : ℕ} (e : number t ≡ some n) where
       go [] h = absurd (omega arith)
       go (b ∷ []) h = absurd (omega arith)
       go (b ∷ c ∷ bs) h = refl
-
-pub equal_same : (a b : List ℕ) → equal a b ≡ true → a ≡ b
-equal_same [] [] e = refl
-equal_same [] (c ∷ cs) e = absurd (let z : ◌≡◌ {A = ℕ} 0 1 = cc in omega arith)
-equal_same (b ∷ bs) [] e = absurd (let z : ◌≡◌ {A = ℕ} 0 1 = cc in omega arith)
-equal_same (b ∷ bs) (c ∷ cs) e = go (eqb b c) refl e (equal_same bs cs)
-  where
-    go : (t : Bool) → eqb b c ≡ t → (t && equal bs cs) ≡ true → (equal bs cs ≡ true → bs ≡ cs) → b ∷ bs ≡ c ∷ cs
-    go true i e f = ap₂ (λ (x : ℕ) (xs : List ℕ). x ∷ xs) (eqb-true b c i) (f e)
-    go false i e f = absurd (let z : ◌≡◌ {A = ℕ} 0 1 = cc in omega arith)
 
 -- KINDS AND NAMES
 
@@ -163,13 +126,16 @@ module _ {t : List ℕ} {n : ℕ} (g : Called t n) where
         ∙ ap (λ (us : List (List ℕ)). n + place_in us t) (drop-cons name_texts n [] h)
         ∙ ap (λ (b : Bool). n + cond b 0 (suc (place_in (drop (suc n) name_texts) t))) (sym (ap (λ (u : List ℕ). equal u t) (spelt s)) ∙ e)
 
-    pub found_name : equal (take k after) t ≡ true → n ≡ name_number t
-    found_name e = omega (arith, named_here true e)
+    pub found_name : equal (take k after) t ≡ true → Some n ≡ named t
+    found_name e =
+        let f : n ≡ name_number t = omega (arith, named_here true e) in
+        ap (λ (b : Bool). cond b (Some n) None) (sym (lt-ltb n 85 h)) ∙ ap (λ (n : ℕ). cond (ltb n 85) (Some n) None) f
 
     pub called_on : equal (take k after) t ≡ false → Called t (n + 1)
     called_on e = record { within = omega arith; is = rw add-one (omega (arith, named_here false e)) }
 
-  pub no_name : 85 ≤ n → 85 ≡ name_number t
+  pub no_name : 85 ≤ n → None ≡ named t
   no_name h =
       let e : n ≡ 85 = omega (arith, g.within) in
-      sym (g.is ∙ ap (λ (n : ℕ). n + place_in (drop n name_texts) t) e)
+      let f : 85 ≡ name_number t = sym (g.is ∙ ap (λ (n : ℕ). n + place_in (drop n name_texts) t) e) in
+      ap (λ (n : ℕ). cond (ltb n 85) (Some n) None) f

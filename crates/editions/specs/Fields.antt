@@ -1,5 +1,5 @@
 -- What stands behind a line's letter, field by field.
-use Rattle.std.specs.Prelude.{ℕ, zero, suc, List, [], ◌∷◌, Bool, true, false, cond, not, ◌&&◌, eqb, leb, ltb}
+use Rattle.std.specs.Prelude.{ℕ, zero, suc, List, [], ◌∷◌, Bool, true, false, cond, not, ◌&&◌, eqb, leb, ltb, Option, Some, None}
 use Rattle.listing.specs.Numbers.{value}
 use Rattle.listing.specs.Lines.{parted}
 use Rattle.editions.specs.Words.{equal, plain, kind_among, name_number}
@@ -41,6 +41,10 @@ placed form (names ∷ fs) = named form names && place form fs
 -- the form that the text is, 1 to 10, or 0
 unfoldable pub form_of : List ℕ → ℕ
 form_of f = cond (plain f && leb (value f) 10) (value f) 0
+
+-- the form, where the text is one
+abbrev pub formed : List ℕ → Option ℕ
+formed f = cond (eqb (form_of f) 0) None (Some (form_of f))
 
 -- "form, start, end, names", and the place
 abbrev pub error : List (List ℕ) → Bool

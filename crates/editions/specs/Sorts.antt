@@ -1,8 +1,10 @@
 -- What a line of edition 1 is: the sort of its event, or one of two sorts of lines that end a listing; 0 where it is none.
-use Rattle.std.specs.Prelude.{ℕ, List, [], ◌∷◌, cond, eqb}
+use Rattle.std.specs.Prelude.{ℕ, List, [], ◌∷◌, cond, eqb, Option, Some, None}
 use Rattle.kinds.specs.Kinds as k
 use Rattle.shapes.specs.Sort as Sort
 use Rattle.editions.specs.Fields.{plains, node, error}
+use Rattle.editions.specs.declared.sort.LineSort.{LineSort}
+use Rattle.editions.specs.declared.sort.LineSort.TheVariants as L
 
 -- "`R` holds outcome, rows, fuel left."
 abbrev pub RESULT : ℕ
@@ -11,6 +13,13 @@ RESULT = 5
 -- "`F` and the number", "`N` and the number": it stands alone behind the `L` line
 abbrev pub ALONE : ℕ
 ALONE = 6
+
+-- the number of what the code answers
+abbrev pub number_of : Option LineSort → ℕ
+number_of None = 0
+number_of (Some (L.Event sort)) = Sort.number sort
+number_of (Some L.Result) = RESULT
+number_of (Some L.Alone) = ALONE
 
 -- kinds of rows stand before it, and of nodes from it on up to their count
 abbrev pub NODES : ℕ

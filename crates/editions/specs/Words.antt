@@ -1,5 +1,5 @@
 -- The words that stand in the fields of a listing: "Numbers are decimal; kinds and names are spelled as in KINDS.md." A number has no leading zeros.
-use Rattle.std.specs.Prelude.{ℕ, suc, List, [], ◌∷◌, Bool, true, false, cond, not, ◌&&◌, eqb, take, drop}
+use Rattle.std.specs.Prelude.{ℕ, suc, List, [], ◌∷◌, Bool, true, false, cond, not, ◌&&◌, eqb, ltb, take, drop, Option, Some, None}
 use Rattle.kinds.specs.Spelling.{kind_texts, name_texts}
 use Rattle.listing.specs.Numbers.{is_number}
 
@@ -36,3 +36,7 @@ place_in (u ∷ us) t = cond (equal u t) 0 (suc (place_in us t))
 -- the name that the text is, or 85
 unfoldable pub name_number : List ℕ → ℕ
 name_number t = place_in name_texts t
+
+-- the number, where the text is a name
+abbrev pub named : List ℕ → Option ℕ
+named t = cond (ltb (name_number t) 85) (Some (name_number t)) None

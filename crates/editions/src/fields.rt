@@ -1,23 +1,21 @@
 // What stands behind a line's letter.
 ghost use Rattle.std.specs.Prelude.{◌≤◌, ◌≡◌, []};
 ghost use Rattle.listing.specs.Lines.{parted};
-ghost use Rattle.editions.specs.Fields.{plains, node, fresh, named, placed, form_of, error};
+ghost use Rattle.editions.specs.Fields.{plains, node, fresh, named, placed, formed, error};
 
 use crate::words::{is_kind, is_plain, name_number, same};
-use listing::{Number, piece_end, read_number};
+use listing::{piece_end, read_number};
 
 // Whether the text is so many numbers, parted by tabs.
 pub fn numbers(text: &[u8], count: u32) -> bool
     ensures { result ≡ plains count (parted 9 text.now) }
 {
     let mut at = 0;
-    let mut left = count;
-    while 0 < left {
+    for left in (0..count).rev() {
         let to = piece_end(text, at, b'\t');
         if !is_plain(&text[at..to]) {
             return false;
         }
-        left -= 1;
         if to == text.len() {
             return left == 0;
         }
@@ -46,21 +44,21 @@ pub fn is_node(text: &[u8], from: u32, to: u32) -> bool
 fn are_names(text: &[u8]) -> bool
     ensures { result ≡ fresh [] (parted 44 text.now) }
 {
-    let mut seen = [0u8; 85];
+    let mut seen = [false; 85];
     let mut at = 0;
+    // From name to name, so that no index counts up.
     while at <= text.len() {
         let to = piece_end(text, at, b',');
-        let n = name_number(&text[at..to]);
-        if 85 <= n {
+        let Some(n) = name_number(&text[at..to]) else {
             return false;
-        }
-        if seen[n] != 0 {
+        };
+        if seen[n] {
             return false;
         }
         if to == text.len() {
             return true;
         }
-        seen[n] = 1;
+        seen[n] = true;
         at = to + 1;
     }
     false
@@ -94,20 +92,21 @@ fn is_told(form: u32, text: &[u8]) -> bool
     numbers(&text[next..], 1)
 }
 
-// The form that the text is, or 0.
-fn form_of(text: &[u8]) -> u32
-    ensures { result ≡ form_of text.now }
+// The form that the text is.
+fn form_of(text: &[u8]) -> Option<u32>
+    ensures { result ≡ formed text.now }
 {
     if !is_plain(text) {
-        return 0;
+        return None;
     }
-    let Number::Is(form) = read_number(text) else {
-        return 0;
-    };
+    let form = read_number(text)?;
+    if form == 0 {
+        return None;
+    }
     if 10 < form {
-        return 0;
+        return None;
     }
-    form
+    Some(form)
 }
 
 // Form, span, names, place.
@@ -128,10 +127,9 @@ pub fn is_error(text: &[u8]) -> bool
     if end == text.len() {
         return false;
     }
-    let form = form_of(&text[0..first]);
-    if form == 0 {
+    let Some(form) = form_of(&text[0..first]) else {
         return false;
-    }
+    };
     if !is_plain(&text[second..start]) {
         return false;
     }

@@ -7,4 +7,4 @@ mod sort;
 mod step;
 mod words;
 
-pub use convert::{Converted, down, up};
+pub use convert::{Unconverted, down, up};

@@ -1,57 +1,51 @@
 // What a line of edition 1 is, by its letter.
-ghost use Rattle.std.specs.Prelude.{◌≡◌, cond};
+ghost use Rattle.std.specs.Prelude.{◌≡◌};
 ghost use Rattle.listing.specs.Lines.{parted};
-ghost use Rattle.editions.specs.Sorts.{lettered, sort_of};
+ghost use Rattle.editions.specs.Sorts.{lettered, sort_of, number_of};
 
 use crate::fields::{is_error, is_node, numbers};
-use kinds::kind;
+use kinds::Kind;
 use listing::piece_end;
-use shapes::sort;
+use shapes::sort::Sort;
 
-// Beside the sorts of events: the line with the outcome, and a line that stands alone behind the first.
-pub const RESULT: u32 = 5;
-
-pub const ALONE: u32 = 6;
+// A line of edition 1: of an event, with the outcome, or one that stands alone behind the first.
+#[derive(Clone, Copy, PartialEq, Eq)]
+pub enum LineSort {
+    Event(Sort),
+    Result,
+    Alone,
+}
 
 // The kinds of rows stand before it, those of nodes from it on up to `KINDS`.
-const NODES: u32 = kind::ERROR;
+const NODES: u32 = Kind::Error as u32;
 
 const KINDS: u32 = 122;
 
-fn sorted(sort: u32, reads: bool) -> u32
-    ensures { result ≡ cond reads sort 0 }
-{
-    if reads {
-        return sort;
-    }
-    0
-}
-
 // By the letter, and what stands behind it and its tab.
-fn by_letter(letter: u8, rest: &[u8]) -> u32
-    ensures { result ≡ lettered letter (parted 9 rest.now) }
+fn by_letter(letter: u8, rest: &[u8]) -> Option<LineSort>
+    ensures { number_of result ≡ lettered letter (parted 9 rest.now) }
 {
     match letter {
-        b'B' => sorted(sort::BEGIN, is_node(rest, NODES, KINDS)),
-        b'T' => sorted(sort::TOKEN, is_node(rest, 0, NODES)),
-        b'E' => sorted(sort::END, is_node(rest, NODES, KINDS)),
-        b'X' => sorted(sort::ERROR, is_error(rest)),
-        b'R' => sorted(RESULT, numbers(rest, 3)),
-        b'N' => sorted(ALONE, numbers(rest, 1)),
-        b'F' => sorted(ALONE, numbers(rest, 1)),
-        _ => 0,
+        b'B' => is_node(rest, NODES, KINDS).then_some(LineSort::Event(Sort::Begin)),
+        b'T' => is_node(rest, 0, NODES).then_some(LineSort::Event(Sort::Token)),
+        b'E' => is_node(rest, NODES, KINDS).then_some(LineSort::Event(Sort::End)),
+        b'X' => is_error(rest).then_some(LineSort::Event(Sort::Error)),
+        b'R' => numbers(rest, 3).then_some(LineSort::Result),
+        b'N' => numbers(rest, 1).then_some(LineSort::Alone),
+        b'F' => numbers(rest, 1).then_some(LineSort::Alone),
+        _ => None,
     }
 }
 
-// The sort of a line, 0 where it is none.
-pub fn sort_of(line: &[u8]) -> u32
-    ensures { result ≡ sort_of (parted 9 line.now) }
+// The sort of a line, where it is one.
+pub fn sort_of(line: &[u8]) -> Option<LineSort>
+    ensures { number_of result ≡ sort_of (parted 9 line.now) }
 {
     if piece_end(line, 0, b'\t') != 1 {
-        return 0;
+        return None;
     }
     if line.len() < 2 {
-        return 0;
+        return None;
     }
     by_letter(line[0], &line[2..])
 }

@@ -1,193 +1,163 @@
 // One line of a listing: whether it reads where it stands, and what is written for it.
-ghost use Rattle.std.specs.Prelude.{◌+◌, ◌≤◌, ◌<◌, ◌^◌, ◌≡◌, length};
+ghost use Rattle.std.specs.Prelude.{◌+◌, ◌≤◌, ◌<◌, ◌^◌, ◌≡◌, false, true, length, MatchOption};
+ghost use Rattle.shapes.specs.Sort.{number};
+ghost use Rattle.listing.specs.Lines.{parted};
+ghost use Rattle.editions.specs.Sorts.{number_of};
+ghost use Rattle.editions.specs.Sorts as sorts;
 ghost use Rattle.editions.specs.Editions.{opened, field, allowed, right, ends, head_step, up_step, down_step, step_at};
 ghost use Rattle.editions.specs.Answer.{step_of, kept_of, LastMark};
 
-use crate::sort::{ALONE, RESULT, sort_of};
+use crate::sort::{LineSort, sort_of};
 use crate::words::{is_decimal, is_plain, same};
-use shapes::sort;
+use shapes::sort::Sort;
 
-// What is written for a line: its first bytes, and behind them, where it is shown, a number as a field.
-#[derive(Clone, Copy)]
+// What is written for a line: its first bytes, and behind them, where there is one, a number as a field.
+#[derive(Clone, Copy, PartialEq, Eq)]
 pub struct Out {
     // Whether no line stands behind it.
     pub last: bool,
     // How many nodes are open behind it.
     pub depth: usize,
     pub keep: usize,
-    pub shown: bool,
-    pub number: usize,
-}
-
-#[derive(Drop)]
-pub enum Step {
-    Stray,
-    Line(Out),
+    pub field: Option<usize>,
 }
 
 // How many nodes are open behind an event, from those before it.
-fn after(sort: u32, depth: usize) -> usize
+#[tactic(auto, unfolding(crate::specs::Editions::opened))]
+fn after(sort: Sort, depth: usize) -> usize
     requires { depth + 1 < 2 ^ 64 }
-    ensures { result ≡ opened sort depth }
+    ensures { result ≡ opened (number sort) depth }
 {
-    if sort == sort::BEGIN {
-        return depth + 1;
+    match sort {
+        Sort::Begin => depth + 1,
+        Sort::End => depth.saturating_sub(1),
+        Sort::Token | Sort::Error => depth,
     }
-    if sort == sort::END {
-        if 0 < depth {
-            return depth - 1;
-        }
-    }
-    depth
 }
 
 // The number that edition 2 has behind an event: how many nodes are open around it. An error's item is not known.
-fn shown(sort: u32, depth: usize) -> usize
-    ensures { result ≡ field sort depth }
+#[tactic(auto, unfolding(crate::specs::Editions::field))]
+fn shown(sort: Sort, depth: usize) -> usize
+    ensures { result ≡ field (number sort) depth }
 {
-    if sort == sort::ERROR {
-        return 0;
+    match sort {
+        Sort::Error => 0,
+        Sort::End => depth.saturating_sub(1),
+        Sort::Begin | Sort::Token => depth,
     }
-    if sort == sort::END {
-        if 0 < depth {
-            return depth - 1;
-        }
-    }
-    depth
 }
 
-// An event, and no end with none open.
-fn is_event(sort: u32, depth: usize) -> bool
-    ensures { result ≡ allowed sort depth }
+// The event that a line is, and no end with none open.
+#[tactic(auto, unfolding(crate::specs::Editions::allowed))]
+fn event_of(line: &[u8], depth: usize) -> Option<Sort>
+    ensures { MatchOption result (allowed (sorts.sort_of (parted 9 line.now)) depth ≡ false) (λ sort. (number sort ≡ sorts.sort_of (parted 9 line.now)) × (allowed (number sort) depth ≡ true)) }
 {
-    if sort == 0 {
-        return false;
+    let Some(LineSort::Event(sort)) = sort_of(line) else {
+        return None;
+    };
+    match sort {
+        Sort::End => (0 < depth).then_some(sort),
+        Sort::Begin | Sort::Token | Sort::Error => Some(sort),
     }
-    if sort::ERROR < sort {
-        return false;
-    }
-    if sort == sort::END {
-        return 0 < depth;
-    }
-    true
 }
 
 // Whether the field is the counted depth, or an item.
-fn is_right(sort: u32, depth: usize, text: &[u8]) -> bool
-    ensures { result ≡ right sort depth text.now }
+#[tactic(auto, unfolding(crate::specs::Editions::right))]
+fn is_right(sort: Sort, depth: usize, text: &[u8]) -> bool
+    ensures { result ≡ right (number sort) depth text.now }
 {
-    if sort == sort::ERROR {
-        return is_plain(text);
+    match sort {
+        Sort::Error => is_plain(text),
+        Sort::Begin | Sort::Token | Sort::End => is_decimal(text, shown(sort, depth)),
     }
-    is_decimal(text, shown(sort, depth))
 }
 
 // Whether a line of this sort ends the listing: a result, or as line 2 one that stands alone.
-fn is_end(sort: u32, number: usize, depth: usize) -> bool
-    ensures { result ≡ ends sort number depth }
+#[tactic(auto, unfolding(crate::specs::Editions::ends))]
+fn is_end(sort: Option<LineSort>, number: usize, depth: usize) -> bool
+    ensures { result ≡ ends (number_of sort) number depth }
 {
-    if depth != 0 {
-        return false;
+    match sort {
+        Some(LineSort::Result) => depth == 0,
+        Some(LineSort::Alone) => depth == 0 && number == 2,
+        Some(LineSort::Event(_)) | None => false,
     }
-    if sort == RESULT {
-        return true;
-    }
-    if sort != ALONE {
-        return false;
-    }
-    number == 2
 }
 
-// The place of the last tab, or the line's length.
-fn last_tab(line: &[u8]) -> usize
+fn last_tab(line: &[u8]) -> Option<usize>
     ensures { LastMark 9 line.now result }
 {
-    let mut i = line.len();
-    while 0 < i {
-        i -= 1;
+    for i in (0..line.len()).rev() {
         if line[i] == b'\t' {
-            return i;
+            return Some(i);
         }
     }
-    line.len()
+    None
 }
 
-fn head(up: bool, line: &[u8]) -> Step
+fn head(up: bool, line: &[u8]) -> Option<Out>
     ensures line_value { step_of result line.now ≡ head_step up line.now }
     ensures result_in_bounds { kept_of result ≤ length line.now }
 {
     if up {
         if !same(line, b"L\t1") {
-            return Step::Stray;
+            return None;
         }
-        return Step::Line(Out {
+        return Some(Out {
             last: false,
             depth: 0,
             keep: 1,
-            shown: true,
-            number: 2,
+            field: Some(2),
         });
     }
     if !same(line, b"L\t2") {
-        return Step::Stray;
+        return None;
     }
-    Step::Line(Out {
+    Some(Out {
         last: false,
         depth: 0,
         keep: 1,
-        shown: true,
-        number: 1,
+        field: Some(1),
     })
 }
 
 // An event of edition 1 gets its depth behind it, and an error 0.
-fn event_up(depth: usize, line: &[u8]) -> Step
+fn event_up(depth: usize, line: &[u8]) -> Option<Out>
     requires { depth + 1 < 2 ^ 64 }
     ensures line_value { step_of result line.now ≡ up_step depth line.now }
     ensures result_in_bounds { kept_of result ≤ length line.now }
 {
-    let sort = sort_of(line);
-    if !is_event(sort, depth) {
-        return Step::Stray;
-    }
-    Step::Line(Out {
+    let sort = event_of(line, depth)?;
+    Some(Out {
         last: false,
         depth: after(sort, depth),
         keep: line.len(),
-        shown: true,
-        number: shown(sort, depth),
+        field: Some(shown(sort, depth)),
     })
 }
 
 // One of edition 2 is one of edition 1 with a field behind it.
-fn event_down(depth: usize, line: &[u8]) -> Step
+fn event_down(depth: usize, line: &[u8]) -> Option<Out>
     requires { depth + 1 < 2 ^ 64 }
     ensures line_value { step_of result line.now ≡ down_step depth line.now }
     ensures result_in_bounds { kept_of result ≤ length line.now }
 {
-    let tab = last_tab(line);
-    if tab == line.len() {
-        return Step::Stray;
-    }
-    let sort = sort_of(&line[..tab]);
-    if !is_event(sort, depth) {
-        return Step::Stray;
-    }
+    let tab = last_tab(line)?;
+    let sort = event_of(&line[..tab], depth)?;
     let from = tab + 1;
     if !is_right(sort, depth, &line[from..]) {
-        return Step::Stray;
+        return None;
     }
-    Step::Line(Out {
+    Some(Out {
         last: false,
         depth: after(sort, depth),
         keep: tab,
-        shown: false,
-        number: 0,
+        field: None,
     })
 }
 
 // Line `number`, from 1, where `depth` nodes are open.
-pub fn step_at(up: bool, number: usize, depth: usize, line: &[u8]) -> Step
+pub fn step_at(up: bool, number: usize, depth: usize, line: &[u8]) -> Option<Out>
     requires { depth + 1 < 2 ^ 64 }
     ensures line_value { step_of result line.now ≡ step_at up number depth line.now }
     ensures result_in_bounds { kept_of result ≤ length line.now }
@@ -196,12 +166,11 @@ pub fn step_at(up: bool, number: usize, depth: usize, line: &[u8]) -> Step
         return head(up, line);
     }
     if is_end(sort_of(line), number, depth) {
-        return Step::Line(Out {
+        return Some(Out {
             last: true,
             depth: 0,
             keep: line.len(),
-            shown: false,
-            number: 0,
+            field: None,
         });
     }
     if up {

@@ -1,31 +1,22 @@
 // The words that stand in fields: numbers without leading zeros, kinds and names.
 ghost use Rattle.std.specs.Prelude.{◌≤◌, ◌≡◌};
+ghost use Rattle.kinds.specs.Spelling.{Spelled};
 ghost use Rattle.listing.specs.Numbers.{decimal};
-ghost use Rattle.editions.specs.Words.{equal, plain, kind_among, name_number};
+ghost use Rattle.editions.specs.Words.{equal, plain, kind_among, named};
 
-use listing::{Number, put_decimal, read_number};
+use listing::{Writer, read_number};
 
 pub fn same(a: &[u8], b: &[u8]) -> bool
     ensures { result ≡ equal a.now b.now }
 {
-    if a.len() != b.len() {
-        return false;
-    }
-    let mut i = 0;
-    while i < a.len() {
-        if a[i] != b[i] {
-            return false;
-        }
-        i += 1;
-    }
-    true
+    a == b
 }
 
 // Whether the text is a decimal below 2^32 without leading zeros.
 pub fn is_plain(text: &[u8]) -> bool
     ensures { result ≡ plain text.now }
 {
-    let Number::Is(_) = read_number(text) else {
+    let Some(_) = read_number(text) else {
         return false;
     };
     if text.len() < 2 {
@@ -34,12 +25,21 @@ pub fn is_plain(text: &[u8]) -> bool
     text[0] != b'0'
 }
 
+// The number in decimal at the front of the word, which has room for any: how long it is.
+pub fn spell(n: usize, word: &mut [u8; 32]) -> usize
+    ensures { Spelled (decimal n) word.old word.new result }
+{
+    let mut digits = Writer { room: word, at: 0 };
+    digits.put_decimal(n as u64);
+    digits.at
+}
+
 // Whether the text is this number in decimal.
 pub fn is_decimal(text: &[u8], n: usize) -> bool
     ensures { result ≡ equal text.now (decimal n) }
 {
     let mut word = [0u8; 32];
-    let end = put_decimal(n as u64, &mut word, 0);
+    let end = spell(n, &mut word);
     same(text, &word[..end])
 }
 
@@ -49,29 +49,25 @@ pub fn is_kind(text: &[u8], from: u32, to: u32) -> bool
     ensures { result ≡ kind_among from to text.now }
 {
     let mut word = [0u8; 32];
-    let mut k = from;
-    while k < to {
+    for k in from..to {
         let n = kinds::spell_kind(k, &mut word);
         if same(&word[..n], text) {
             return true;
         }
-        k += 1;
     }
     false
 }
 
-// The number of the name that the text is, or 85 where it is none.
-pub fn name_number(text: &[u8]) -> usize
-    ensures { result ≡ name_number text.now }
+// The number of the name that the text is.
+pub fn name_number(text: &[u8]) -> Option<usize>
+    ensures { result ≡ named text.now }
 {
     let mut word = [0u8; 32];
-    let mut n: u32 = 0;
-    while n < 85 {
+    for n in 0..85 {
         let k = kinds::spell_name(n, &mut word);
         if same(&word[..k], text) {
-            return n as usize;
+            return Some(n as usize);
         }
-        n += 1;
     }
-    85
+    None
 }

@@ -6,8 +6,8 @@ ghost use Rattle.shapes.specs.Shapes.{EVENT};
 ghost use Rattle.definition.specs.Merge as D;
 ghost use Rattle.events.specs.Events.{entry_of, entry_at};
 
-use shapes::event::{DEPTH, END, EVENT, KIND, START};
-use shapes::sort;
+use shapes::event::{DEPTH, END, EVENT, KIND, SORT, START};
+use shapes::sort::Sort;
 
 #[derive(Clone, Copy)]
 pub struct Event {
@@ -38,31 +38,18 @@ pub fn well_formed(events: &[u32]) -> bool
     if events.len() % EVENT != 0 {
         return false;
     }
-    let mut at: usize = 0;
     let mut nodes: usize = 0;
-    while at < events.len() {
-        let sort = events[at];
-        let depth = events[at + DEPTH] as usize;
-        if sort < sort::BEGIN {
+    for event in events.chunks_exact(EVENT) {
+        let depth = event[DEPTH] as usize;
+        let Ok(sort) = Sort::try_from(event[SORT]) else {
             return false;
-        }
-        if sort > sort::ERROR {
-            return false;
-        }
-        at += EVENT;
+        };
         // An end has the depth of its begin, so none is right where no node is open.
-        if sort == sort::END {
-            if depth + 1 != nodes {
-                return false;
-            }
-            nodes = depth;
-            continue;
-        }
-        if depth != nodes {
-            return false;
-        }
-        if sort == sort::BEGIN {
-            nodes += 1;
+        match sort {
+            Sort::Begin if depth == nodes => nodes += 1,
+            Sort::End if depth + 1 == nodes => nodes = depth,
+            Sort::Token | Sort::Error if depth == nodes => {}
+            _ => return false,
         }
     }
     true

@@ -6,15 +6,16 @@ ghost use Rattle.std.specs.Prelude.{◌<◌, true};
 ghost use Rattle.definition.specs.Prog.{then, node, memo};
 ghost use Rattle.definition.specs.Prog as G;
 ghost use Rattle.definition.specs.Grammar.{grammar};
-ghost use Rattle.notes.specs.Means.{source, bufs};
+ghost use Rattle.notes.specs.Reading.{SameLists};
 ghost use Rattle.parts.specs.Reads.{Asks, Reads};
 ghost use Rattle.expr.specs.Parts.{signed, dotted, in_range, index, args, quantified, compared, place, over, body, which, item_of, listed, more_decls};
 
-use kinds::{kind, set};
-use notes::cache::{remembers, seen};
+use kinds::{Kind, set};
+use notes::cache::remembers;
+use notes::reading::{Given, Lent};
 use parts::terms::literals;
 use parts::tuples::them;
-use shapes::mode;
+use shapes::mode::Mode;
 use steps::state::State;
 
 // The codes of the names "expression" and "operator".
@@ -35,308 +36,180 @@ pub enum Item {
 
 // EXPR, which is not read again where it failed before.
 #[cycle(expressions)]
-fn expr(
-    mut s: State,
-    d: usize,
-    may: bool,
-    ep: bool,
-    src: &[u8],
-    ids: &[u32],
-    ends: &[u32],
-    ev: &mut [u32],
-    er: &mut [u32],
-    sc: &mut [u64],
-    notes: &mut [usize; 69],
-    sets: &[[u64; 2]; 56],
-) -> State
-    requires { Asks src.now ids.now ends.now s notes.old ev.old er.old sc.old sets.now }
-    ensures { Reads ep d may (then (memo G.EXPR)) (source src.now ids.now ends.now)
-        s notes.old result notes.new
-        (bufs ev.old er.old sc.old) (bufs ev.new er.new sc.new) }
+fn expr(mut s: State, d: usize, may: bool, x: &Given<'_>, lent: &mut Lent<'_>) -> State
+    requires { Asks x.now s lent.old }
+    ensures read { Reads d may (then (memo G.EXPR)) x.now s lent.old result lent.new }
+    ensures lists { SameLists lent.old lent.new }
 {
-    if s.mode != mode::OK {
+    if s.mode != Mode::Fine {
         return s;
     }
-    s = s.trivia(ids, ends, ev);
+    s = s.trivia(x, lent.events);
     let bit = 2 * s.pos;
-    if seen(bit, sc) {
-        s.mode = mode::FAILED;
+    if lent.seen(bit) {
+        s.mode = Mode::Failed;
         return s;
     }
-    s = sum(s, d, may, ep, src, ids, ends, ev, er, sc, notes, sets);
-    if s.mode != mode::FAILED {
+    s = sum(s, d, may, x, lent);
+    if s.mode != Mode::Failed {
         return s;
     }
-    remembers(bit, sc, notes);
+    remembers(bit, lent.scratch, &mut lent.notes);
     s
 }
 
 // EXPR <- TERM ((ADD | SUB | MUL | DIV | MOD | SHL | SHR | BITWISE_AND | BITWISE_OR | BITWISE_XOR) TERM)*
 #[cycle(expressions)]
-fn sum(
-    mut s: State,
-    d: usize,
-    may: bool,
-    ep: bool,
-    src: &[u8],
-    ids: &[u32],
-    ends: &[u32],
-    ev: &mut [u32],
-    er: &mut [u32],
-    sc: &mut [u64],
-    notes: &mut [usize; 69],
-    sets: &[[u64; 2]; 56],
-) -> State
-    requires { Asks src.now ids.now ends.now s notes.old ev.old er.old sc.old sets.now }
-    ensures { Reads ep d may (node G.EXPR) (source src.now ids.now ends.now)
-        s notes.old result notes.new
-        (bufs ev.old er.old sc.old) (bufs ev.new er.new sc.new) }
+fn sum(mut s: State, d: usize, may: bool, x: &Given<'_>, lent: &mut Lent<'_>) -> State
+    requires { Asks x.now s lent.old }
+    ensures read { Reads d may (node G.EXPR) x.now s lent.old result lent.new }
+    ensures lists { SameLists lent.old lent.new }
 {
-    s = s.begin(d, ids, ends, ev);
+    s = s.begin(d, x, lent.events);
     let from = s.pos;
     let at = s.ev;
     if d == 0 {
-        return s.end(kind::EXPR, from, at, may, src, ids, ends, ev, er, notes);
+        return s.end(Kind::Expr, from, at, may, x, lent);
     }
     let below = d - 1;
-    s = term(s, below, may, ep, src, ids, ends, ev, er, sc, notes, sets);
-    s = more(
-        set::ARITHMETIC,
-        OPERATOR,
-        Item::Term,
-        s,
-        below,
-        ep,
-        src,
-        ids,
-        ends,
-        ev,
-        er,
-        sc,
-        notes,
-        sets,
-    );
-    s.end(kind::EXPR, from, at, may, src, ids, ends, ev, er, notes)
+    s = term(s, below, may, x, lent);
+    s = more(set::ARITHMETIC, OPERATOR, Item::Term, s, below, x, lent);
+    s.end(Kind::Expr, from, at, may, x, lent)
 }
 
 // TERM, which is not read again where it failed before.
 #[cycle(expressions)]
-fn term(
-    mut s: State,
-    d: usize,
-    may: bool,
-    ep: bool,
-    src: &[u8],
-    ids: &[u32],
-    ends: &[u32],
-    ev: &mut [u32],
-    er: &mut [u32],
-    sc: &mut [u64],
-    notes: &mut [usize; 69],
-    sets: &[[u64; 2]; 56],
-) -> State
-    requires { Asks src.now ids.now ends.now s notes.old ev.old er.old sc.old sets.now }
-    ensures { Reads ep d may (then (memo G.TERM)) (source src.now ids.now ends.now)
-        s notes.old result notes.new
-        (bufs ev.old er.old sc.old) (bufs ev.new er.new sc.new) }
+fn term(mut s: State, d: usize, may: bool, x: &Given<'_>, lent: &mut Lent<'_>) -> State
+    requires { Asks x.now s lent.old }
+    ensures read { Reads d may (then (memo G.TERM)) x.now s lent.old result lent.new }
+    ensures lists { SameLists lent.old lent.new }
 {
-    if s.mode != mode::OK {
+    if s.mode != Mode::Fine {
         return s;
     }
-    s = s.trivia(ids, ends, ev);
+    s = s.trivia(x, lent.events);
     let bit = 2 * s.pos + 1;
-    if seen(bit, sc) {
-        s.mode = mode::FAILED;
+    if lent.seen(bit) {
+        s.mode = Mode::Failed;
         return s;
     }
-    s = unit(s, d, may, ep, src, ids, ends, ev, er, sc, notes, sets);
-    if s.mode != mode::FAILED {
+    s = unit(s, d, may, x, lent);
+    if s.mode != Mode::Failed {
         return s;
     }
-    remembers(bit, sc, notes);
+    remembers(bit, lent.scratch, &mut lent.notes);
     s
 }
 
 // TERM <- (FLOAT_LIT | INTEGER_LIT | STRING_LIT | REGEXP | FILESIZE_KW | ENTRYPOINT_KW) / PATTERN_COUNT if IN_KW (IN_KW RANGE) / (PATTERN_OFFSET |
 // PATTERN_LENGTH) if L_BRACKET (L_BRACKET (EXPR R_BRACKET)) / MINUS TERM / BITWISE_NOT TERM / L_PAREN EXPR R_PAREN / PRIMARY_EXPR (DOT PRIMARY_EXPR)*
 #[cycle(expressions)]
-fn unit(
-    mut s: State,
-    d: usize,
-    may: bool,
-    ep: bool,
-    src: &[u8],
-    ids: &[u32],
-    ends: &[u32],
-    ev: &mut [u32],
-    er: &mut [u32],
-    sc: &mut [u64],
-    notes: &mut [usize; 69],
-    sets: &[[u64; 2]; 56],
-) -> State
-    requires { Asks src.now ids.now ends.now s notes.old ev.old er.old sc.old sets.now }
-    ensures { Reads ep d may (node G.TERM) (source src.now ids.now ends.now)
-        s notes.old result notes.new
-        (bufs ev.old er.old sc.old) (bufs ev.new er.new sc.new) }
+fn unit(mut s: State, d: usize, may: bool, x: &Given<'_>, lent: &mut Lent<'_>) -> State
+    requires { Asks x.now s lent.old }
+    ensures read { Reads d may (node G.TERM) x.now s lent.old result lent.new }
+    ensures lists { SameLists lent.old lent.new }
 {
-    s = s.begin(d, ids, ends, ev);
+    s = s.begin(d, x, lent.events);
     let from = s.pos;
     let at = s.ev;
     if d == 0 {
-        return s.end(kind::TERM, from, at, may, src, ids, ends, ev, er, notes);
+        return s.end(Kind::Term, from, at, may, x, lent);
     }
     let below = d - 1;
-    s = lit(s, below, may, ep, src, ids, ends, ev, er, sc, notes, sets);
-    s.end(kind::TERM, from, at, may, src, ids, ends, ev, er, notes)
+    s = lit(s, below, may, x, lent);
+    s.end(Kind::Term, from, at, may, x, lent)
 }
 
 // The alternatives of TERM.
 #[cycle(expressions)]
-fn lit(
-    mut s: State,
-    d: usize,
-    may: bool,
-    ep: bool,
-    src: &[u8],
-    ids: &[u32],
-    ends: &[u32],
-    ev: &mut [u32],
-    er: &mut [u32],
-    sc: &mut [u64],
-    notes: &mut [usize; 69],
-    sets: &[[u64; 2]; 56],
-) -> State
-    requires { Asks src.now ids.now ends.now s notes.old ev.old er.old sc.old sets.now }
-    ensures { Reads ep d may (grammar ep G.TERM) (source src.now ids.now ends.now)
-        s notes.old result notes.new
-        (bufs ev.old er.old sc.old) (bufs ev.new er.new sc.new) }
+fn lit(mut s: State, d: usize, may: bool, x: &Given<'_>, lent: &mut Lent<'_>) -> State
+    requires { Asks x.now s lent.old }
+    ensures read { Reads d may (grammar x.now.entrypoint G.TERM) x.now s lent.old result lent.new }
+    ensures lists { SameLists lent.old lent.new }
 {
-    if s.mode != mode::OK {
+    if s.mode != Mode::Fine {
         return s;
     }
     let m = s.mark();
-    s = s.trivia(ids, ends, ev);
-    s = s.expect(literals(ep), EXPRESSION, ids, ends, ev, notes, sets);
-    if s.mode != mode::FAILED {
+    s = s.trivia(x, lent.events);
+    s = s.expect(literals(x.entrypoint), EXPRESSION, x, lent);
+    if s.mode != Mode::Failed {
         return s;
     }
     s = s.rewind(m);
-    s.mode = mode::OK;
-    s = s.trivia(ids, ends, ev);
-    s = s.expect(set::PATTERN_COUNT, EXPRESSION, ids, ends, ev, notes, sets);
-    s = span(s, d, true, ep, src, ids, ends, ev, er, sc, notes, sets);
-    if s.mode != mode::FAILED {
+    s.mode = Mode::Fine;
+    s = s.trivia(x, lent.events);
+    s = s.expect(set::PATTERN_COUNT, EXPRESSION, x, lent);
+    s = span(s, d, true, x, lent);
+    if s.mode != Mode::Failed {
         return s;
     }
     s = s.rewind(m);
-    s.mode = mode::OK;
-    s = s.trivia(ids, ends, ev);
-    s = s.expect(set::PATTERN_PLACE, EXPRESSION, ids, ends, ev, notes, sets);
-    s = nth(s, d, true, ep, src, ids, ends, ev, er, sc, notes, sets);
-    if s.mode != mode::FAILED {
+    s.mode = Mode::Fine;
+    s = s.trivia(x, lent.events);
+    s = s.expect(set::PATTERN_PLACE, EXPRESSION, x, lent);
+    s = nth(s, d, true, x, lent);
+    if s.mode != Mode::Failed {
         return s;
     }
     s = s.rewind(m);
-    s.mode = mode::OK;
-    sign(s, d, may, ep, src, ids, ends, ev, er, sc, notes, sets)
+    s.mode = Mode::Fine;
+    sign(s, d, may, x, lent)
 }
 
 // MINUS TERM / BITWISE_NOT TERM / L_PAREN EXPR R_PAREN / PRIMARY_EXPR (DOT PRIMARY_EXPR)*
 #[cycle(expressions)]
-fn sign(
-    mut s: State,
-    d: usize,
-    may: bool,
-    ep: bool,
-    src: &[u8],
-    ids: &[u32],
-    ends: &[u32],
-    ev: &mut [u32],
-    er: &mut [u32],
-    sc: &mut [u64],
-    notes: &mut [usize; 69],
-    sets: &[[u64; 2]; 56],
-) -> State
-    requires { Asks src.now ids.now ends.now s notes.old ev.old er.old sc.old sets.now }
-    ensures { Reads ep d may signed (source src.now ids.now ends.now)
-        s notes.old result notes.new
-        (bufs ev.old er.old sc.old) (bufs ev.new er.new sc.new) }
+fn sign(mut s: State, d: usize, may: bool, x: &Given<'_>, lent: &mut Lent<'_>) -> State
+    requires { Asks x.now s lent.old }
+    ensures read { Reads d may signed x.now s lent.old result lent.new }
+    ensures lists { SameLists lent.old lent.new }
 {
-    if s.mode != mode::OK {
+    if s.mode != Mode::Fine {
         return s;
     }
     let m = s.mark();
-    s = s.trivia(ids, ends, ev);
-    s = s.expect(set::MINUS, EXPRESSION, ids, ends, ev, notes, sets);
-    s = term(s, d, true, ep, src, ids, ends, ev, er, sc, notes, sets);
-    if s.mode != mode::FAILED {
+    s = s.trivia(x, lent.events);
+    s = s.expect(set::MINUS, EXPRESSION, x, lent);
+    s = term(s, d, true, x, lent);
+    if s.mode != Mode::Failed {
         return s;
     }
     s = s.rewind(m);
-    s.mode = mode::OK;
-    s = s.trivia(ids, ends, ev);
-    s = s.expect(set::BITWISE_NOT, EXPRESSION, ids, ends, ev, notes, sets);
-    s = term(s, d, true, ep, src, ids, ends, ev, er, sc, notes, sets);
-    if s.mode != mode::FAILED {
+    s.mode = Mode::Fine;
+    s = s.trivia(x, lent.events);
+    s = s.expect(set::BITWISE_NOT, EXPRESSION, x, lent);
+    s = term(s, d, true, x, lent);
+    if s.mode != Mode::Failed {
         return s;
     }
     s = s.rewind(m);
-    s.mode = mode::OK;
-    s = s.trivia(ids, ends, ev);
-    s = s.expect(set::L_PAREN, EXPRESSION, ids, ends, ev, notes, sets);
-    s = expr(s, d, true, ep, src, ids, ends, ev, er, sc, notes, sets);
-    s = s.expect(set::R_PAREN, set::R_PAREN, ids, ends, ev, notes, sets);
-    if s.mode != mode::FAILED {
+    s.mode = Mode::Fine;
+    s = s.trivia(x, lent.events);
+    s = s.expect(set::L_PAREN, EXPRESSION, x, lent);
+    s = expr(s, d, true, x, lent);
+    s = s.expect(set::R_PAREN, set::R_PAREN, x, lent);
+    if s.mode != Mode::Failed {
         return s;
     }
     s = s.rewind(m);
-    s.mode = mode::OK;
-    dot(s, d, may, ep, src, ids, ends, ev, er, sc, notes, sets)
+    s.mode = Mode::Fine;
+    dot(s, d, may, x, lent)
 }
 
 // PRIMARY_EXPR (DOT PRIMARY_EXPR)*
 #[cycle(expressions)]
-fn dot(
-    mut s: State,
-    d: usize,
-    may: bool,
-    ep: bool,
-    src: &[u8],
-    ids: &[u32],
-    ends: &[u32],
-    ev: &mut [u32],
-    er: &mut [u32],
-    sc: &mut [u64],
-    notes: &mut [usize; 69],
-    sets: &[[u64; 2]; 56],
-) -> State
-    requires { Asks src.now ids.now ends.now s notes.old ev.old er.old sc.old sets.now }
-    ensures { Reads ep d may dotted (source src.now ids.now ends.now)
-        s notes.old result notes.new
-        (bufs ev.old er.old sc.old) (bufs ev.new er.new sc.new) }
+fn dot(mut s: State, d: usize, may: bool, x: &Given<'_>, lent: &mut Lent<'_>) -> State
+    requires { Asks x.now s lent.old }
+    ensures read { Reads d may dotted x.now s lent.old result lent.new }
+    ensures lists { SameLists lent.old lent.new }
 {
-    if s.mode != mode::OK {
+    if s.mode != Mode::Fine {
         return s;
     }
     let m = s.mark();
-    s = primary(s, d, true, ep, src, ids, ends, ev, er, sc, notes, sets);
-    s = more(
-        set::DOT,
-        EXPRESSION,
-        Item::PrimaryExpr,
-        s,
-        d,
-        ep,
-        src,
-        ids,
-        ends,
-        ev,
-        er,
-        sc,
-        notes,
-        sets,
-    );
-    if s.mode != mode::FAILED {
+    s = primary(s, d, true, x, lent);
+    s = more(set::DOT, EXPRESSION, Item::PrimaryExpr, s, d, x, lent);
+    if s.mode != Mode::Failed {
         return s;
     }
     s = s.rewind(m);
@@ -345,210 +218,118 @@ fn dot(
 
 // if IN_KW (IN_KW RANGE)
 #[cycle(expressions)]
-fn span(
-    mut s: State,
-    d: usize,
-    may: bool,
-    ep: bool,
-    src: &[u8],
-    ids: &[u32],
-    ends: &[u32],
-    ev: &mut [u32],
-    er: &mut [u32],
-    sc: &mut [u64],
-    notes: &mut [usize; 69],
-    sets: &[[u64; 2]; 56],
-) -> State
-    requires { Asks src.now ids.now ends.now s notes.old ev.old er.old sc.old sets.now }
-    ensures { Reads ep d may in_range (source src.now ids.now ends.now)
-        s notes.old result notes.new
-        (bufs ev.old er.old sc.old) (bufs ev.new er.new sc.new) }
+fn span(mut s: State, d: usize, may: bool, x: &Given<'_>, lent: &mut Lent<'_>) -> State
+    requires { Asks x.now s lent.old }
+    ensures read { Reads d may in_range x.now s lent.old result lent.new }
+    ensures lists { SameLists lent.old lent.new }
 {
-    if !s.sees(set::IN_KW, ids, sets) {
-        s.pass(set::IN_KW, ids, notes);
+    if !s.sees(set::IN_KW, x) {
+        s.pass(set::IN_KW, x, &mut lent.notes);
         return s;
     }
-    s = s.trivia(ids, ends, ev);
-    s = s.expect(set::IN_KW, set::IN_KW, ids, ends, ev, notes, sets);
-    s = range(s, d, may, ep, src, ids, ends, ev, er, sc, notes, sets);
+    s = s.trivia(x, lent.events);
+    s = s.expect(set::IN_KW, set::IN_KW, x, lent);
+    s = range(s, d, may, x, lent);
     s
 }
 
 // if L_BRACKET (L_BRACKET (EXPR R_BRACKET))
 #[cycle(expressions)]
-fn nth(
-    mut s: State,
-    d: usize,
-    may: bool,
-    ep: bool,
-    src: &[u8],
-    ids: &[u32],
-    ends: &[u32],
-    ev: &mut [u32],
-    er: &mut [u32],
-    sc: &mut [u64],
-    notes: &mut [usize; 69],
-    sets: &[[u64; 2]; 56],
-) -> State
-    requires { Asks src.now ids.now ends.now s notes.old ev.old er.old sc.old sets.now }
-    ensures { Reads ep d may index (source src.now ids.now ends.now)
-        s notes.old result notes.new
-        (bufs ev.old er.old sc.old) (bufs ev.new er.new sc.new) }
+fn nth(mut s: State, d: usize, may: bool, x: &Given<'_>, lent: &mut Lent<'_>) -> State
+    requires { Asks x.now s lent.old }
+    ensures read { Reads d may index x.now s lent.old result lent.new }
+    ensures lists { SameLists lent.old lent.new }
 {
-    if !s.sees(set::L_BRACKET, ids, sets) {
-        s.pass(set::L_BRACKET, ids, notes);
+    if !s.sees(set::L_BRACKET, x) {
+        s.pass(set::L_BRACKET, x, &mut lent.notes);
         return s;
     }
-    s = s.trivia(ids, ends, ev);
-    s = s.expect(set::L_BRACKET, set::L_BRACKET, ids, ends, ev, notes, sets);
-    s = expr(s, d, may, ep, src, ids, ends, ev, er, sc, notes, sets);
-    s = s.expect(set::R_BRACKET, set::R_BRACKET, ids, ends, ev, notes, sets);
+    s = s.trivia(x, lent.events);
+    s = s.expect(set::L_BRACKET, set::L_BRACKET, x, lent);
+    s = expr(s, d, may, x, lent);
+    s = s.expect(set::R_BRACKET, set::R_BRACKET, x, lent);
     s
 }
 
 // RANGE <- L_PAREN EXPR DOT DOT EXPR R_PAREN
 #[cycle(expressions)]
-fn range(
-    mut s: State,
-    d: usize,
-    may: bool,
-    ep: bool,
-    src: &[u8],
-    ids: &[u32],
-    ends: &[u32],
-    ev: &mut [u32],
-    er: &mut [u32],
-    sc: &mut [u64],
-    notes: &mut [usize; 69],
-    sets: &[[u64; 2]; 56],
-) -> State
-    requires { Asks src.now ids.now ends.now s notes.old ev.old er.old sc.old sets.now }
-    ensures { Reads ep d may (then (node G.RANGE)) (source src.now ids.now ends.now)
-        s notes.old result notes.new
-        (bufs ev.old er.old sc.old) (bufs ev.new er.new sc.new) }
+fn range(mut s: State, d: usize, may: bool, x: &Given<'_>, lent: &mut Lent<'_>) -> State
+    requires { Asks x.now s lent.old }
+    ensures read { Reads d may (then (node G.RANGE)) x.now s lent.old result lent.new }
+    ensures lists { SameLists lent.old lent.new }
 {
-    if s.mode != mode::OK {
+    if s.mode != Mode::Fine {
         return s;
     }
-    s = s.trivia(ids, ends, ev);
-    s = s.begin(d, ids, ends, ev);
+    s = s.trivia(x, lent.events);
+    s = s.begin(d, x, lent.events);
     let from = s.pos;
     let at = s.ev;
     if d == 0 {
-        return s.end(kind::RANGE, from, at, may, src, ids, ends, ev, er, notes);
+        return s.end(Kind::Range, from, at, may, x, lent);
     }
     let below = d - 1;
-    s = s.expect(set::L_PAREN, set::L_PAREN, ids, ends, ev, notes, sets);
-    s = expr(s, below, may, ep, src, ids, ends, ev, er, sc, notes, sets);
-    s = s.expect(set::DOT, set::DOT, ids, ends, ev, notes, sets);
-    s = s.expect(set::DOT, set::DOT, ids, ends, ev, notes, sets);
-    s = expr(s, below, may, ep, src, ids, ends, ev, er, sc, notes, sets);
-    s = s.expect(set::R_PAREN, set::R_PAREN, ids, ends, ev, notes, sets);
-    s.end(kind::RANGE, from, at, may, src, ids, ends, ev, er, notes)
+    s = s.expect(set::L_PAREN, set::L_PAREN, x, lent);
+    s = expr(s, below, may, x, lent);
+    s = s.expect(set::DOT, set::DOT, x, lent);
+    s = s.expect(set::DOT, set::DOT, x, lent);
+    s = expr(s, below, may, x, lent);
+    s = s.expect(set::R_PAREN, set::R_PAREN, x, lent);
+    s.end(Kind::Range, from, at, may, x, lent)
 }
 
 // PRIMARY_EXPR <- FUNC_CALL / IDENT L_BRACKET EXPR R_BRACKET / IDENT
 #[cycle(expressions)]
-fn primary(
-    mut s: State,
-    d: usize,
-    may: bool,
-    ep: bool,
-    src: &[u8],
-    ids: &[u32],
-    ends: &[u32],
-    ev: &mut [u32],
-    er: &mut [u32],
-    sc: &mut [u64],
-    notes: &mut [usize; 69],
-    sets: &[[u64; 2]; 56],
-) -> State
-    requires { Asks src.now ids.now ends.now s notes.old ev.old er.old sc.old sets.now }
-    ensures { Reads ep d may (then (node G.PRIMARY_EXPR)) (source src.now ids.now ends.now)
-        s notes.old result notes.new
-        (bufs ev.old er.old sc.old) (bufs ev.new er.new sc.new) }
+fn primary(mut s: State, d: usize, may: bool, x: &Given<'_>, lent: &mut Lent<'_>) -> State
+    requires { Asks x.now s lent.old }
+    ensures read { Reads d may (then (node G.PRIMARY_EXPR)) x.now s lent.old result lent.new }
+    ensures lists { SameLists lent.old lent.new }
 {
-    if s.mode != mode::OK {
+    if s.mode != Mode::Fine {
         return s;
     }
-    s = s.trivia(ids, ends, ev);
-    s = s.begin(d, ids, ends, ev);
+    s = s.trivia(x, lent.events);
+    s = s.begin(d, x, lent.events);
     let from = s.pos;
     let at = s.ev;
     if d == 0 {
-        return s.end(
-            kind::PRIMARY_EXPR,
-            from,
-            at,
-            may,
-            src,
-            ids,
-            ends,
-            ev,
-            er,
-            notes,
-        );
+        return s.end(Kind::PrimaryExpr, from, at, may, x, lent);
     }
     let below = d - 1;
-    s = id(s, below, may, ep, src, ids, ends, ev, er, sc, notes, sets);
-    s.end(
-        kind::PRIMARY_EXPR,
-        from,
-        at,
-        may,
-        src,
-        ids,
-        ends,
-        ev,
-        er,
-        notes,
-    )
+    s = id(s, below, may, x, lent);
+    s.end(Kind::PrimaryExpr, from, at, may, x, lent)
 }
 
 // The alternatives of PRIMARY_EXPR.
 #[cycle(expressions)]
-fn id(
-    mut s: State,
-    d: usize,
-    may: bool,
-    ep: bool,
-    src: &[u8],
-    ids: &[u32],
-    ends: &[u32],
-    ev: &mut [u32],
-    er: &mut [u32],
-    sc: &mut [u64],
-    notes: &mut [usize; 69],
-    sets: &[[u64; 2]; 56],
-) -> State
-    requires { Asks src.now ids.now ends.now s notes.old ev.old er.old sc.old sets.now }
-    ensures { Reads ep d may (grammar ep G.PRIMARY_EXPR) (source src.now ids.now ends.now)
-        s notes.old result notes.new
-        (bufs ev.old er.old sc.old) (bufs ev.new er.new sc.new) }
+fn id(mut s: State, d: usize, may: bool, x: &Given<'_>, lent: &mut Lent<'_>) -> State
+    requires { Asks x.now s lent.old }
+    ensures read { Reads d may (grammar x.now.entrypoint G.PRIMARY_EXPR) x.now s lent.old result lent.new }
+    ensures lists { SameLists lent.old lent.new }
 {
-    if s.mode != mode::OK {
+    if s.mode != Mode::Fine {
         return s;
     }
     let m = s.mark();
-    s = call(s, d, true, ep, src, ids, ends, ev, er, sc, notes, sets);
-    if s.mode != mode::FAILED {
+    s = call(s, d, true, x, lent);
+    if s.mode != Mode::Failed {
         return s;
     }
     s = s.rewind(m);
-    s.mode = mode::OK;
-    s = s.trivia(ids, ends, ev);
-    s = s.expect(set::IDENT, set::IDENT, ids, ends, ev, notes, sets);
-    s = s.expect(set::L_BRACKET, set::L_BRACKET, ids, ends, ev, notes, sets);
-    s = expr(s, d, true, ep, src, ids, ends, ev, er, sc, notes, sets);
-    s = s.expect(set::R_BRACKET, set::R_BRACKET, ids, ends, ev, notes, sets);
-    if s.mode != mode::FAILED {
+    s.mode = Mode::Fine;
+    s = s.trivia(x, lent.events);
+    s = s.expect(set::IDENT, set::IDENT, x, lent);
+    s = s.expect(set::L_BRACKET, set::L_BRACKET, x, lent);
+    s = expr(s, d, true, x, lent);
+    s = s.expect(set::R_BRACKET, set::R_BRACKET, x, lent);
+    if s.mode != Mode::Failed {
         return s;
     }
     s = s.rewind(m);
-    s.mode = mode::OK;
-    s = s.trivia(ids, ends, ev);
-    s = s.expect(set::IDENT, set::IDENT, ids, ends, ev, notes, sets);
-    if s.mode != mode::FAILED {
+    s.mode = Mode::Fine;
+    s = s.trivia(x, lent.events);
+    s = s.expect(set::IDENT, set::IDENT, x, lent);
+    if s.mode != Mode::Failed {
         return s;
     }
     s = s.rewind(m);
@@ -557,414 +338,194 @@ fn id(
 
 // FUNC_CALL <- IDENT L_PAREN (BOOLEAN_EXPR (COMMA BOOLEAN_EXPR)*)? R_PAREN
 #[cycle(expressions)]
-fn call(
-    mut s: State,
-    d: usize,
-    may: bool,
-    ep: bool,
-    src: &[u8],
-    ids: &[u32],
-    ends: &[u32],
-    ev: &mut [u32],
-    er: &mut [u32],
-    sc: &mut [u64],
-    notes: &mut [usize; 69],
-    sets: &[[u64; 2]; 56],
-) -> State
-    requires { Asks src.now ids.now ends.now s notes.old ev.old er.old sc.old sets.now }
-    ensures { Reads ep d may (then (node G.FUNC_CALL)) (source src.now ids.now ends.now)
-        s notes.old result notes.new
-        (bufs ev.old er.old sc.old) (bufs ev.new er.new sc.new) }
+fn call(mut s: State, d: usize, may: bool, x: &Given<'_>, lent: &mut Lent<'_>) -> State
+    requires { Asks x.now s lent.old }
+    ensures read { Reads d may (then (node G.FUNC_CALL)) x.now s lent.old result lent.new }
+    ensures lists { SameLists lent.old lent.new }
 {
-    if s.mode != mode::OK {
+    if s.mode != Mode::Fine {
         return s;
     }
-    s = s.trivia(ids, ends, ev);
-    s = s.begin(d, ids, ends, ev);
+    s = s.trivia(x, lent.events);
+    s = s.begin(d, x, lent.events);
     let from = s.pos;
     let at = s.ev;
     if d == 0 {
-        return s.end(
-            kind::FUNC_CALL,
-            from,
-            at,
-            may,
-            src,
-            ids,
-            ends,
-            ev,
-            er,
-            notes,
-        );
+        return s.end(Kind::FuncCall, from, at, may, x, lent);
     }
     let below = d - 1;
-    s = s.expect(set::IDENT, set::IDENT, ids, ends, ev, notes, sets);
-    s = s.expect(set::L_PAREN, set::L_PAREN, ids, ends, ev, notes, sets);
-    if s.mode != mode::OK {
-        return s.end(
-            kind::FUNC_CALL,
-            from,
-            at,
-            may,
-            src,
-            ids,
-            ends,
-            ev,
-            er,
-            notes,
-        );
+    s = s.expect(set::IDENT, set::IDENT, x, lent);
+    s = s.expect(set::L_PAREN, set::L_PAREN, x, lent);
+    if s.mode != Mode::Fine {
+        return s.end(Kind::FuncCall, from, at, may, x, lent);
     }
-    s = list(s, below, may, ep, src, ids, ends, ev, er, sc, notes, sets);
-    s = s.expect(set::R_PAREN, set::R_PAREN, ids, ends, ev, notes, sets);
-    s.end(
-        kind::FUNC_CALL,
-        from,
-        at,
-        may,
-        src,
-        ids,
-        ends,
-        ev,
-        er,
-        notes,
-    )
+    s = list(s, below, may, x, lent);
+    s = s.expect(set::R_PAREN, set::R_PAREN, x, lent);
+    s.end(Kind::FuncCall, from, at, may, x, lent)
 }
 
 // (BOOLEAN_EXPR (COMMA BOOLEAN_EXPR)*)?
 #[cycle(expressions)]
-fn list(
-    mut s: State,
-    d: usize,
-    may: bool,
-    ep: bool,
-    src: &[u8],
-    ids: &[u32],
-    ends: &[u32],
-    ev: &mut [u32],
-    er: &mut [u32],
-    sc: &mut [u64],
-    notes: &mut [usize; 69],
-    sets: &[[u64; 2]; 56],
-) -> State
-    requires { Asks src.now ids.now ends.now s notes.old ev.old er.old sc.old sets.now }
-    ensures { Reads ep d may args (source src.now ids.now ends.now)
-        s notes.old result notes.new
-        (bufs ev.old er.old sc.old) (bufs ev.new er.new sc.new) }
+fn list(mut s: State, d: usize, may: bool, x: &Given<'_>, lent: &mut Lent<'_>) -> State
+    requires { Asks x.now s lent.old }
+    ensures read { Reads d may args x.now s lent.old result lent.new }
+    ensures lists { SameLists lent.old lent.new }
 {
-    if s.mode != mode::OK {
+    if s.mode != Mode::Fine {
         return s;
     }
     let m = s.mark();
-    s = bool_expr(s, d, true, ep, src, ids, ends, ev, er, sc, notes, sets);
-    s = more(
-        set::COMMA,
-        set::COMMA,
-        Item::BooleanExpr,
-        s,
-        d,
-        ep,
-        src,
-        ids,
-        ends,
-        ev,
-        er,
-        sc,
-        notes,
-        sets,
-    );
-    if s.mode != mode::FAILED {
+    s = bool_expr(s, d, true, x, lent);
+    s = more(set::COMMA, set::COMMA, Item::BooleanExpr, s, d, x, lent);
+    if s.mode != Mode::Failed {
         return s;
     }
     s = s.rewind(m);
-    s.mode = mode::OK;
+    s.mode = Mode::Fine;
     s
 }
 
 // BOOLEAN_EXPR <- BOOLEAN_TERM ((AND_KW | OR_KW) BOOLEAN_TERM)*
 #[cycle(expressions)]
-pub fn bool_expr(
-    mut s: State,
-    d: usize,
-    may: bool,
-    ep: bool,
-    src: &[u8],
-    ids: &[u32],
-    ends: &[u32],
-    ev: &mut [u32],
-    er: &mut [u32],
-    sc: &mut [u64],
-    notes: &mut [usize; 69],
-    sets: &[[u64; 2]; 56],
-) -> State
-    requires { Asks src.now ids.now ends.now s notes.old ev.old er.old sc.old sets.now }
-    ensures { Reads ep d may (then (node G.BOOLEAN_EXPR)) (source src.now ids.now ends.now)
-        s notes.old result notes.new
-        (bufs ev.old er.old sc.old) (bufs ev.new er.new sc.new) }
+pub fn bool_expr(mut s: State, d: usize, may: bool, x: &Given<'_>, lent: &mut Lent<'_>) -> State
+    requires { Asks x.now s lent.old }
+    ensures read { Reads d may (then (node G.BOOLEAN_EXPR)) x.now s lent.old result lent.new }
+    ensures lists { SameLists lent.old lent.new }
 {
-    if s.mode != mode::OK {
+    if s.mode != Mode::Fine {
         return s;
     }
-    s = s.trivia(ids, ends, ev);
-    s = s.begin(d, ids, ends, ev);
+    s = s.trivia(x, lent.events);
+    s = s.begin(d, x, lent.events);
     let from = s.pos;
     let at = s.ev;
     if d == 0 {
-        return s.end(
-            kind::BOOLEAN_EXPR,
-            from,
-            at,
-            may,
-            src,
-            ids,
-            ends,
-            ev,
-            er,
-            notes,
-        );
+        return s.end(Kind::BooleanExpr, from, at, may, x, lent);
     }
     let below = d - 1;
-    s = bool_term(s, below, may, ep, src, ids, ends, ev, er, sc, notes, sets);
-    s = more(
-        set::AND_OR,
-        OPERATOR,
-        Item::BooleanTerm,
-        s,
-        below,
-        ep,
-        src,
-        ids,
-        ends,
-        ev,
-        er,
-        sc,
-        notes,
-        sets,
-    );
-    s.end(
-        kind::BOOLEAN_EXPR,
-        from,
-        at,
-        may,
-        src,
-        ids,
-        ends,
-        ev,
-        er,
-        notes,
-    )
+    s = bool_term(s, below, may, x, lent);
+    s = more(set::AND_OR, OPERATOR, Item::BooleanTerm, s, below, x, lent);
+    s.end(Kind::BooleanExpr, from, at, may, x, lent)
 }
 
 // BOOLEAN_TERM <- PATTERN_IDENT if (AT_KW | IN_KW) (AT_KW EXPR / IN_KW RANGE) / (TRUE_KW | FALSE_KW) / (NOT_KW | DEFINED_KW) BOOLEAN_TERM / FOR_EXPR /
 // OF_EXPR / WITH_EXPR / EXPR ((EQ | NE | LE | LT | GE | GT | CONTAINS_KW | ICONTAINS_KW | STARTSWITH_KW | ISTARTSWITH_KW | ENDSWITH_KW | IENDSWITH_KW |
 // IEQUALS_KW | MATCHES_KW) EXPR)* / L_PAREN BOOLEAN_EXPR R_PAREN
 #[cycle(expressions)]
-fn bool_term(
-    mut s: State,
-    d: usize,
-    may: bool,
-    ep: bool,
-    src: &[u8],
-    ids: &[u32],
-    ends: &[u32],
-    ev: &mut [u32],
-    er: &mut [u32],
-    sc: &mut [u64],
-    notes: &mut [usize; 69],
-    sets: &[[u64; 2]; 56],
-) -> State
-    requires { Asks src.now ids.now ends.now s notes.old ev.old er.old sc.old sets.now }
-    ensures { Reads ep d may (then (node G.BOOLEAN_TERM)) (source src.now ids.now ends.now)
-        s notes.old result notes.new
-        (bufs ev.old er.old sc.old) (bufs ev.new er.new sc.new) }
+fn bool_term(mut s: State, d: usize, may: bool, x: &Given<'_>, lent: &mut Lent<'_>) -> State
+    requires { Asks x.now s lent.old }
+    ensures read { Reads d may (then (node G.BOOLEAN_TERM)) x.now s lent.old result lent.new }
+    ensures lists { SameLists lent.old lent.new }
 {
-    if s.mode != mode::OK {
+    if s.mode != Mode::Fine {
         return s;
     }
-    s = s.trivia(ids, ends, ev);
-    s = s.begin(d, ids, ends, ev);
+    s = s.trivia(x, lent.events);
+    s = s.begin(d, x, lent.events);
     let from = s.pos;
     let at = s.ev;
     if d == 0 {
-        return s.end(
-            kind::BOOLEAN_TERM,
-            from,
-            at,
-            may,
-            src,
-            ids,
-            ends,
-            ev,
-            er,
-            notes,
-        );
+        return s.end(Kind::BooleanTerm, from, at, may, x, lent);
     }
     let below = d - 1;
-    s = fact(s, below, may, ep, src, ids, ends, ev, er, sc, notes, sets);
-    s.end(
-        kind::BOOLEAN_TERM,
-        from,
-        at,
-        may,
-        src,
-        ids,
-        ends,
-        ev,
-        er,
-        notes,
-    )
+    s = fact(s, below, may, x, lent);
+    s.end(Kind::BooleanTerm, from, at, may, x, lent)
 }
 
 // The alternatives of BOOLEAN_TERM.
 #[cycle(expressions)]
-fn fact(
-    mut s: State,
-    d: usize,
-    may: bool,
-    ep: bool,
-    src: &[u8],
-    ids: &[u32],
-    ends: &[u32],
-    ev: &mut [u32],
-    er: &mut [u32],
-    sc: &mut [u64],
-    notes: &mut [usize; 69],
-    sets: &[[u64; 2]; 56],
-) -> State
-    requires { Asks src.now ids.now ends.now s notes.old ev.old er.old sc.old sets.now }
-    ensures { Reads ep d may (grammar ep G.BOOLEAN_TERM) (source src.now ids.now ends.now)
-        s notes.old result notes.new
-        (bufs ev.old er.old sc.old) (bufs ev.new er.new sc.new) }
+fn fact(mut s: State, d: usize, may: bool, x: &Given<'_>, lent: &mut Lent<'_>) -> State
+    requires { Asks x.now s lent.old }
+    ensures read { Reads d may (grammar x.now.entrypoint G.BOOLEAN_TERM) x.now s lent.old result lent.new }
+    ensures lists { SameLists lent.old lent.new }
 {
-    if s.mode != mode::OK {
+    if s.mode != Mode::Fine {
         return s;
     }
     let m = s.mark();
-    s = s.trivia(ids, ends, ev);
-    s = s.expect(set::PATTERN_IDENT, EXPRESSION, ids, ends, ev, notes, sets);
-    s = spot(s, d, true, ep, src, ids, ends, ev, er, sc, notes, sets);
-    if s.mode != mode::FAILED {
+    s = s.trivia(x, lent.events);
+    s = s.expect(set::PATTERN_IDENT, EXPRESSION, x, lent);
+    s = spot(s, d, true, x, lent);
+    if s.mode != Mode::Failed {
         return s;
     }
     s = s.rewind(m);
-    s.mode = mode::OK;
-    s = s.trivia(ids, ends, ev);
-    s = s.expect(set::TRUE_FALSE, EXPRESSION, ids, ends, ev, notes, sets);
-    if s.mode != mode::FAILED {
+    s.mode = Mode::Fine;
+    s = s.trivia(x, lent.events);
+    s = s.expect(set::TRUE_FALSE, EXPRESSION, x, lent);
+    if s.mode != Mode::Failed {
         return s;
     }
     s = s.rewind(m);
-    s.mode = mode::OK;
-    s = s.trivia(ids, ends, ev);
-    s = s.expect(set::NOT_DEFINED, EXPRESSION, ids, ends, ev, notes, sets);
-    s = bool_term(s, d, true, ep, src, ids, ends, ev, er, sc, notes, sets);
-    if s.mode != mode::FAILED {
+    s.mode = Mode::Fine;
+    s = s.trivia(x, lent.events);
+    s = s.expect(set::NOT_DEFINED, EXPRESSION, x, lent);
+    s = bool_term(s, d, true, x, lent);
+    if s.mode != Mode::Failed {
         return s;
     }
     s = s.rewind(m);
-    s.mode = mode::OK;
-    all(s, d, may, ep, src, ids, ends, ev, er, sc, notes, sets)
+    s.mode = Mode::Fine;
+    all(s, d, may, x, lent)
 }
 
 // FOR_EXPR / OF_EXPR / WITH_EXPR / EXPR ((EQ | NE | LE | LT | GE | GT | CONTAINS_KW | ICONTAINS_KW | STARTSWITH_KW | ISTARTSWITH_KW | ENDSWITH_KW |
 // IENDSWITH_KW | IEQUALS_KW | MATCHES_KW) EXPR)* / L_PAREN BOOLEAN_EXPR R_PAREN
 #[cycle(expressions)]
-fn all(
-    mut s: State,
-    d: usize,
-    may: bool,
-    ep: bool,
-    src: &[u8],
-    ids: &[u32],
-    ends: &[u32],
-    ev: &mut [u32],
-    er: &mut [u32],
-    sc: &mut [u64],
-    notes: &mut [usize; 69],
-    sets: &[[u64; 2]; 56],
-) -> State
-    requires { Asks src.now ids.now ends.now s notes.old ev.old er.old sc.old sets.now }
-    ensures { Reads ep d may quantified (source src.now ids.now ends.now)
-        s notes.old result notes.new
-        (bufs ev.old er.old sc.old) (bufs ev.new er.new sc.new) }
+fn all(mut s: State, d: usize, may: bool, x: &Given<'_>, lent: &mut Lent<'_>) -> State
+    requires { Asks x.now s lent.old }
+    ensures read { Reads d may quantified x.now s lent.old result lent.new }
+    ensures lists { SameLists lent.old lent.new }
 {
-    if s.mode != mode::OK {
+    if s.mode != Mode::Fine {
         return s;
     }
     let m = s.mark();
-    s = for_expr(s, d, true, ep, src, ids, ends, ev, er, sc, notes, sets);
-    if s.mode != mode::FAILED {
+    s = for_expr(s, d, true, x, lent);
+    if s.mode != Mode::Failed {
         return s;
     }
     s = s.rewind(m);
-    s.mode = mode::OK;
-    s = of_expr(s, d, true, ep, src, ids, ends, ev, er, sc, notes, sets);
-    if s.mode != mode::FAILED {
+    s.mode = Mode::Fine;
+    s = of_expr(s, d, true, x, lent);
+    if s.mode != Mode::Failed {
         return s;
     }
     s = s.rewind(m);
-    s.mode = mode::OK;
-    s = with_expr(s, d, true, ep, src, ids, ends, ev, er, sc, notes, sets);
-    if s.mode != mode::FAILED {
+    s.mode = Mode::Fine;
+    s = with_expr(s, d, true, x, lent);
+    if s.mode != Mode::Failed {
         return s;
     }
     s = s.rewind(m);
-    s.mode = mode::OK;
-    test(s, d, may, ep, src, ids, ends, ev, er, sc, notes, sets)
+    s.mode = Mode::Fine;
+    test(s, d, may, x, lent)
 }
 
 // EXPR ((EQ | NE | LE | LT | GE | GT | CONTAINS_KW | ICONTAINS_KW | STARTSWITH_KW | ISTARTSWITH_KW | ENDSWITH_KW | IENDSWITH_KW | IEQUALS_KW |
 // MATCHES_KW) EXPR)* / L_PAREN BOOLEAN_EXPR R_PAREN
 #[cycle(expressions)]
-fn test(
-    mut s: State,
-    d: usize,
-    may: bool,
-    ep: bool,
-    src: &[u8],
-    ids: &[u32],
-    ends: &[u32],
-    ev: &mut [u32],
-    er: &mut [u32],
-    sc: &mut [u64],
-    notes: &mut [usize; 69],
-    sets: &[[u64; 2]; 56],
-) -> State
-    requires { Asks src.now ids.now ends.now s notes.old ev.old er.old sc.old sets.now }
-    ensures { Reads ep d may compared (source src.now ids.now ends.now)
-        s notes.old result notes.new
-        (bufs ev.old er.old sc.old) (bufs ev.new er.new sc.new) }
+fn test(mut s: State, d: usize, may: bool, x: &Given<'_>, lent: &mut Lent<'_>) -> State
+    requires { Asks x.now s lent.old }
+    ensures read { Reads d may compared x.now s lent.old result lent.new }
+    ensures lists { SameLists lent.old lent.new }
 {
-    if s.mode != mode::OK {
+    if s.mode != Mode::Fine {
         return s;
     }
     let m = s.mark();
-    s = expr(s, d, true, ep, src, ids, ends, ev, er, sc, notes, sets);
-    s = more(
-        set::COMPARISON,
-        EXPRESSION,
-        Item::Expr,
-        s,
-        d,
-        ep,
-        src,
-        ids,
-        ends,
-        ev,
-        er,
-        sc,
-        notes,
-        sets,
-    );
-    if s.mode != mode::FAILED {
+    s = expr(s, d, true, x, lent);
+    s = more(set::COMPARISON, EXPRESSION, Item::Expr, s, d, x, lent);
+    if s.mode != Mode::Failed {
         return s;
     }
     s = s.rewind(m);
-    s.mode = mode::OK;
-    s = s.trivia(ids, ends, ev);
-    s = s.expect(set::L_PAREN, EXPRESSION, ids, ends, ev, notes, sets);
-    s = bool_expr(s, d, true, ep, src, ids, ends, ev, er, sc, notes, sets);
-    s = s.expect(set::R_PAREN, set::R_PAREN, ids, ends, ev, notes, sets);
-    if s.mode != mode::FAILED {
+    s.mode = Mode::Fine;
+    s = s.trivia(x, lent.events);
+    s = s.expect(set::L_PAREN, EXPRESSION, x, lent);
+    s = bool_expr(s, d, true, x, lent);
+    s = s.expect(set::R_PAREN, set::R_PAREN, x, lent);
+    if s.mode != Mode::Failed {
         return s;
     }
     s = s.rewind(m);
@@ -973,43 +534,29 @@ fn test(
 
 // if (AT_KW | IN_KW) (AT_KW EXPR / IN_KW RANGE)
 #[cycle(expressions)]
-fn spot(
-    mut s: State,
-    d: usize,
-    may: bool,
-    ep: bool,
-    src: &[u8],
-    ids: &[u32],
-    ends: &[u32],
-    ev: &mut [u32],
-    er: &mut [u32],
-    sc: &mut [u64],
-    notes: &mut [usize; 69],
-    sets: &[[u64; 2]; 56],
-) -> State
-    requires { Asks src.now ids.now ends.now s notes.old ev.old er.old sc.old sets.now }
-    ensures { Reads ep d may place (source src.now ids.now ends.now)
-        s notes.old result notes.new
-        (bufs ev.old er.old sc.old) (bufs ev.new er.new sc.new) }
+fn spot(mut s: State, d: usize, may: bool, x: &Given<'_>, lent: &mut Lent<'_>) -> State
+    requires { Asks x.now s lent.old }
+    ensures read { Reads d may place x.now s lent.old result lent.new }
+    ensures lists { SameLists lent.old lent.new }
 {
-    if !s.sees(set::AT_OR_IN, ids, sets) {
-        s.pass(set::AT_OR_IN, ids, notes);
+    if !s.sees(set::AT_OR_IN, x) {
+        s.pass(set::AT_OR_IN, x, &mut lent.notes);
         return s;
     }
-    s = s.trivia(ids, ends, ev);
+    s = s.trivia(x, lent.events);
     let m = s.mark();
-    s = s.trivia(ids, ends, ev);
-    s = s.expect(set::AT_KW, set::AT_KW, ids, ends, ev, notes, sets);
-    s = expr(s, d, true, ep, src, ids, ends, ev, er, sc, notes, sets);
-    if s.mode != mode::FAILED {
+    s = s.trivia(x, lent.events);
+    s = s.expect(set::AT_KW, set::AT_KW, x, lent);
+    s = expr(s, d, true, x, lent);
+    if s.mode != Mode::Failed {
         return s;
     }
     s = s.rewind(m);
-    s.mode = mode::OK;
-    s = s.trivia(ids, ends, ev);
-    s = s.expect(set::IN_KW, set::IN_KW, ids, ends, ev, notes, sets);
-    s = range(s, d, true, ep, src, ids, ends, ev, er, sc, notes, sets);
-    if s.mode != mode::FAILED {
+    s.mode = Mode::Fine;
+    s = s.trivia(x, lent.events);
+    s = s.expect(set::IN_KW, set::IN_KW, x, lent);
+    s = range(s, d, true, x, lent);
+    if s.mode != Mode::Failed {
         return s;
     }
     s = s.rewind(m);
@@ -1019,100 +566,57 @@ fn spot(
 // FOR_EXPR <- FOR_KW QUANTIFIER (OF_KW (THEM_KW / PATTERN_IDENT_TUPLE) / IDENT (COMMA IDENT)* IN_KW ITERABLE) COLON L_PAREN (BOOLEAN_EXPR recover
 // R_PAREN) R_PAREN
 #[cycle(expressions)]
-fn for_expr(
-    mut s: State,
-    d: usize,
-    may: bool,
-    ep: bool,
-    src: &[u8],
-    ids: &[u32],
-    ends: &[u32],
-    ev: &mut [u32],
-    er: &mut [u32],
-    sc: &mut [u64],
-    notes: &mut [usize; 69],
-    sets: &[[u64; 2]; 56],
-) -> State
-    requires { Asks src.now ids.now ends.now s notes.old ev.old er.old sc.old sets.now }
-    ensures { Reads ep d may (then (node G.FOR_EXPR)) (source src.now ids.now ends.now)
-        s notes.old result notes.new
-        (bufs ev.old er.old sc.old) (bufs ev.new er.new sc.new) }
+fn for_expr(mut s: State, d: usize, may: bool, x: &Given<'_>, lent: &mut Lent<'_>) -> State
+    requires { Asks x.now s lent.old }
+    ensures read { Reads d may (then (node G.FOR_EXPR)) x.now s lent.old result lent.new }
+    ensures lists { SameLists lent.old lent.new }
 {
-    if s.mode != mode::OK {
+    if s.mode != Mode::Fine {
         return s;
     }
-    s = s.trivia(ids, ends, ev);
-    s = s.begin(d, ids, ends, ev);
+    s = s.trivia(x, lent.events);
+    s = s.begin(d, x, lent.events);
     let from = s.pos;
     let at = s.ev;
     if d == 0 {
-        return s.end(kind::FOR_EXPR, from, at, may, src, ids, ends, ev, er, notes);
+        return s.end(Kind::ForExpr, from, at, may, x, lent);
     }
     let below = d - 1;
-    s = s.expect(set::FOR_KW, EXPRESSION, ids, ends, ev, notes, sets);
-    if s.mode != mode::OK {
-        return s.end(kind::FOR_EXPR, from, at, may, src, ids, ends, ev, er, notes);
+    s = s.expect(set::FOR_KW, EXPRESSION, x, lent);
+    if s.mode != Mode::Fine {
+        return s.end(Kind::ForExpr, from, at, may, x, lent);
     }
-    s = quant(s, below, may, ep, src, ids, ends, ev, er, sc, notes, sets);
-    s = over(s, below, may, ep, src, ids, ends, ev, er, sc, notes, sets);
-    s = body(s, below, may, ep, src, ids, ends, ev, er, sc, notes, sets);
-    s.end(kind::FOR_EXPR, from, at, may, src, ids, ends, ev, er, notes)
+    s = quant(s, below, may, x, lent);
+    s = over(s, below, may, x, lent);
+    s = body(s, below, may, x, lent);
+    s.end(Kind::ForExpr, from, at, may, x, lent)
 }
 
 // OF_KW (THEM_KW / PATTERN_IDENT_TUPLE) / IDENT (COMMA IDENT)* IN_KW ITERABLE
 #[cycle(expressions)]
-fn over(
-    mut s: State,
-    d: usize,
-    may: bool,
-    ep: bool,
-    src: &[u8],
-    ids: &[u32],
-    ends: &[u32],
-    ev: &mut [u32],
-    er: &mut [u32],
-    sc: &mut [u64],
-    notes: &mut [usize; 69],
-    sets: &[[u64; 2]; 56],
-) -> State
-    requires { Asks src.now ids.now ends.now s notes.old ev.old er.old sc.old sets.now }
-    ensures { Reads ep d may over (source src.now ids.now ends.now)
-        s notes.old result notes.new
-        (bufs ev.old er.old sc.old) (bufs ev.new er.new sc.new) }
+fn over(mut s: State, d: usize, may: bool, x: &Given<'_>, lent: &mut Lent<'_>) -> State
+    requires { Asks x.now s lent.old }
+    ensures read { Reads d may over x.now s lent.old result lent.new }
+    ensures lists { SameLists lent.old lent.new }
 {
-    if s.mode != mode::OK {
+    if s.mode != Mode::Fine {
         return s;
     }
     let m = s.mark();
-    s = s.trivia(ids, ends, ev);
-    s = s.expect(set::OF_KW, set::OF_KW, ids, ends, ev, notes, sets);
-    s = them(s, d, true, ep, src, ids, ends, ev, er, sc, notes, sets);
-    if s.mode != mode::FAILED {
+    s = s.trivia(x, lent.events);
+    s = s.expect(set::OF_KW, set::OF_KW, x, lent);
+    s = them(s, d, true, x, lent);
+    if s.mode != Mode::Failed {
         return s;
     }
     s = s.rewind(m);
-    s.mode = mode::OK;
-    s = s.trivia(ids, ends, ev);
-    s = s.expect(set::IDENT, set::IDENT, ids, ends, ev, notes, sets);
-    s = more(
-        set::COMMA,
-        set::COMMA,
-        Item::Ident,
-        s,
-        d,
-        ep,
-        src,
-        ids,
-        ends,
-        ev,
-        er,
-        sc,
-        notes,
-        sets,
-    );
-    s = s.expect(set::IN_KW, set::IN_KW, ids, ends, ev, notes, sets);
-    s = iter(s, d, true, ep, src, ids, ends, ev, er, sc, notes, sets);
-    if s.mode != mode::FAILED {
+    s.mode = Mode::Fine;
+    s = s.trivia(x, lent.events);
+    s = s.expect(set::IDENT, set::IDENT, x, lent);
+    s = more(set::COMMA, set::COMMA, Item::Ident, s, d, x, lent);
+    s = s.expect(set::IN_KW, set::IN_KW, x, lent);
+    s = iter(s, d, true, x, lent);
+    if s.mode != Mode::Failed {
         return s;
     }
     s = s.rewind(m);
@@ -1121,109 +625,67 @@ fn over(
 
 // COLON L_PAREN (BOOLEAN_EXPR recover R_PAREN) R_PAREN
 #[cycle(expressions)]
-fn body(
-    mut s: State,
-    d: usize,
-    may: bool,
-    ep: bool,
-    src: &[u8],
-    ids: &[u32],
-    ends: &[u32],
-    ev: &mut [u32],
-    er: &mut [u32],
-    sc: &mut [u64],
-    notes: &mut [usize; 69],
-    sets: &[[u64; 2]; 56],
-) -> State
-    requires { Asks src.now ids.now ends.now s notes.old ev.old er.old sc.old sets.now }
-    ensures { Reads ep d may body (source src.now ids.now ends.now)
-        s notes.old result notes.new
-        (bufs ev.old er.old sc.old) (bufs ev.new er.new sc.new) }
+fn body(mut s: State, d: usize, may: bool, x: &Given<'_>, lent: &mut Lent<'_>) -> State
+    requires { Asks x.now s lent.old }
+    ensures read { Reads d may body x.now s lent.old result lent.new }
+    ensures lists { SameLists lent.old lent.new }
 {
-    s = s.expect(set::COLON, set::COLON, ids, ends, ev, notes, sets);
-    s = s.expect(set::L_PAREN, set::L_PAREN, ids, ends, ev, notes, sets);
-    if s.mode != mode::OK {
+    s = s.expect(set::COLON, set::COLON, x, lent);
+    s = s.expect(set::L_PAREN, set::L_PAREN, x, lent);
+    if s.mode != Mode::Fine {
         return s;
     }
-    s = bool_expr(s, d, may, ep, src, ids, ends, ev, er, sc, notes, sets);
-    s = s.recover(d, may, set::R_PAREN, src, ids, ends, ev, er, notes, sets);
-    s.expect(set::R_PAREN, set::R_PAREN, ids, ends, ev, notes, sets)
+    s = bool_expr(s, d, may, x, lent);
+    s = s.recover(d, may, set::R_PAREN, x, lent);
+    s.expect(set::R_PAREN, set::R_PAREN, x, lent)
 }
 
 // OF_EXPR <- QUANTIFIER OF_KW ((THEM_KW / PATTERN_IDENT_TUPLE) if (AT_KW | IN_KW) (AT_KW EXPR / IN_KW RANGE) / BOOLEAN_EXPR_TUPLE !(AT_KW | IN_KW))
 #[cycle(expressions)]
-fn of_expr(
-    mut s: State,
-    d: usize,
-    may: bool,
-    ep: bool,
-    src: &[u8],
-    ids: &[u32],
-    ends: &[u32],
-    ev: &mut [u32],
-    er: &mut [u32],
-    sc: &mut [u64],
-    notes: &mut [usize; 69],
-    sets: &[[u64; 2]; 56],
-) -> State
-    requires { Asks src.now ids.now ends.now s notes.old ev.old er.old sc.old sets.now }
-    ensures { Reads ep d may (then (node G.OF_EXPR)) (source src.now ids.now ends.now)
-        s notes.old result notes.new
-        (bufs ev.old er.old sc.old) (bufs ev.new er.new sc.new) }
+fn of_expr(mut s: State, d: usize, may: bool, x: &Given<'_>, lent: &mut Lent<'_>) -> State
+    requires { Asks x.now s lent.old }
+    ensures read { Reads d may (then (node G.OF_EXPR)) x.now s lent.old result lent.new }
+    ensures lists { SameLists lent.old lent.new }
 {
-    if s.mode != mode::OK {
+    if s.mode != Mode::Fine {
         return s;
     }
-    s = s.trivia(ids, ends, ev);
-    s = s.begin(d, ids, ends, ev);
+    s = s.trivia(x, lent.events);
+    s = s.begin(d, x, lent.events);
     let from = s.pos;
     let at = s.ev;
     if d == 0 {
-        return s.end(kind::OF_EXPR, from, at, may, src, ids, ends, ev, er, notes);
+        return s.end(Kind::OfExpr, from, at, may, x, lent);
     }
     let below = d - 1;
-    s = quant(s, below, may, ep, src, ids, ends, ev, er, sc, notes, sets);
-    s = s.expect(set::OF_KW, set::OF_KW, ids, ends, ev, notes, sets);
-    s = whom(s, below, may, ep, src, ids, ends, ev, er, sc, notes, sets);
-    s.end(kind::OF_EXPR, from, at, may, src, ids, ends, ev, er, notes)
+    s = quant(s, below, may, x, lent);
+    s = s.expect(set::OF_KW, set::OF_KW, x, lent);
+    s = whom(s, below, may, x, lent);
+    s.end(Kind::OfExpr, from, at, may, x, lent)
 }
 
 // (THEM_KW / PATTERN_IDENT_TUPLE) if (AT_KW | IN_KW) (AT_KW EXPR / IN_KW RANGE) / BOOLEAN_EXPR_TUPLE !(AT_KW | IN_KW)
 #[cycle(expressions)]
-fn whom(
-    mut s: State,
-    d: usize,
-    may: bool,
-    ep: bool,
-    src: &[u8],
-    ids: &[u32],
-    ends: &[u32],
-    ev: &mut [u32],
-    er: &mut [u32],
-    sc: &mut [u64],
-    notes: &mut [usize; 69],
-    sets: &[[u64; 2]; 56],
-) -> State
-    requires { Asks src.now ids.now ends.now s notes.old ev.old er.old sc.old sets.now }
-    ensures { Reads ep d may which (source src.now ids.now ends.now)
-        s notes.old result notes.new
-        (bufs ev.old er.old sc.old) (bufs ev.new er.new sc.new) }
+fn whom(mut s: State, d: usize, may: bool, x: &Given<'_>, lent: &mut Lent<'_>) -> State
+    requires { Asks x.now s lent.old }
+    ensures read { Reads d may which x.now s lent.old result lent.new }
+    ensures lists { SameLists lent.old lent.new }
 {
-    if s.mode != mode::OK {
+    if s.mode != Mode::Fine {
         return s;
     }
     let m = s.mark();
-    s = s.trivia(ids, ends, ev);
-    s = them(s, d, true, ep, src, ids, ends, ev, er, sc, notes, sets);
-    s = spot(s, d, true, ep, src, ids, ends, ev, er, sc, notes, sets);
-    if s.mode != mode::FAILED {
+    s = s.trivia(x, lent.events);
+    s = them(s, d, true, x, lent);
+    s = spot(s, d, true, x, lent);
+    if s.mode != Mode::Failed {
         return s;
     }
     s = s.rewind(m);
-    s.mode = mode::OK;
-    s = bools(s, d, true, ep, src, ids, ends, ev, er, sc, notes, sets);
-    s = s.unless(set::AT_OR_IN, ids, ends, ev, notes, sets);
-    if s.mode != mode::FAILED {
+    s.mode = Mode::Fine;
+    s = bools(s, d, true, x, lent);
+    s = s.unless(set::AT_OR_IN, x, lent);
+    if s.mode != Mode::Failed {
         return s;
     }
     s = s.rewind(m);
@@ -1232,357 +694,152 @@ fn whom(
 
 // WITH_EXPR <- WITH_KW (WITH_DECLS recover (COLON | L_PAREN)) COLON L_PAREN (BOOLEAN_EXPR recover R_PAREN) R_PAREN
 #[cycle(expressions)]
-fn with_expr(
-    mut s: State,
-    d: usize,
-    may: bool,
-    ep: bool,
-    src: &[u8],
-    ids: &[u32],
-    ends: &[u32],
-    ev: &mut [u32],
-    er: &mut [u32],
-    sc: &mut [u64],
-    notes: &mut [usize; 69],
-    sets: &[[u64; 2]; 56],
-) -> State
-    requires { Asks src.now ids.now ends.now s notes.old ev.old er.old sc.old sets.now }
-    ensures { Reads ep d may (then (node G.WITH_EXPR)) (source src.now ids.now ends.now)
-        s notes.old result notes.new
-        (bufs ev.old er.old sc.old) (bufs ev.new er.new sc.new) }
+fn with_expr(mut s: State, d: usize, may: bool, x: &Given<'_>, lent: &mut Lent<'_>) -> State
+    requires { Asks x.now s lent.old }
+    ensures read { Reads d may (then (node G.WITH_EXPR)) x.now s lent.old result lent.new }
+    ensures lists { SameLists lent.old lent.new }
 {
-    if s.mode != mode::OK {
+    if s.mode != Mode::Fine {
         return s;
     }
-    s = s.trivia(ids, ends, ev);
-    s = s.begin(d, ids, ends, ev);
+    s = s.trivia(x, lent.events);
+    s = s.begin(d, x, lent.events);
     let from = s.pos;
     let at = s.ev;
     if d == 0 {
-        return s.end(
-            kind::WITH_EXPR,
-            from,
-            at,
-            may,
-            src,
-            ids,
-            ends,
-            ev,
-            er,
-            notes,
-        );
+        return s.end(Kind::WithExpr, from, at, may, x, lent);
     }
     let below = d - 1;
-    s = s.expect(set::WITH_KW, EXPRESSION, ids, ends, ev, notes, sets);
-    if s.mode != mode::OK {
-        return s.end(
-            kind::WITH_EXPR,
-            from,
-            at,
-            may,
-            src,
-            ids,
-            ends,
-            ev,
-            er,
-            notes,
-        );
+    s = s.expect(set::WITH_KW, EXPRESSION, x, lent);
+    if s.mode != Mode::Fine {
+        return s.end(Kind::WithExpr, from, at, may, x, lent);
     }
-    s = decls(s, below, may, ep, src, ids, ends, ev, er, sc, notes, sets);
-    s = s.recover(
-        below,
-        may,
-        set::COLON_OR_PAREN,
-        src,
-        ids,
-        ends,
-        ev,
-        er,
-        notes,
-        sets,
-    );
-    s = body(s, below, may, ep, src, ids, ends, ev, er, sc, notes, sets);
-    s.end(
-        kind::WITH_EXPR,
-        from,
-        at,
-        may,
-        src,
-        ids,
-        ends,
-        ev,
-        er,
-        notes,
-    )
+    s = decls(s, below, may, x, lent);
+    s = s.recover(below, may, set::COLON_OR_PAREN, x, lent);
+    s = body(s, below, may, x, lent);
+    s.end(Kind::WithExpr, from, at, may, x, lent)
 }
 
 // WITH_DECLS <- WITH_DECL (COMMA WITH_DECL)*
 #[cycle(expressions)]
-fn decls(
-    mut s: State,
-    d: usize,
-    may: bool,
-    ep: bool,
-    src: &[u8],
-    ids: &[u32],
-    ends: &[u32],
-    ev: &mut [u32],
-    er: &mut [u32],
-    sc: &mut [u64],
-    notes: &mut [usize; 69],
-    sets: &[[u64; 2]; 56],
-) -> State
-    requires { Asks src.now ids.now ends.now s notes.old ev.old er.old sc.old sets.now }
-    ensures { Reads ep d may (then (node G.WITH_DECLS)) (source src.now ids.now ends.now)
-        s notes.old result notes.new
-        (bufs ev.old er.old sc.old) (bufs ev.new er.new sc.new) }
+fn decls(mut s: State, d: usize, may: bool, x: &Given<'_>, lent: &mut Lent<'_>) -> State
+    requires { Asks x.now s lent.old }
+    ensures read { Reads d may (then (node G.WITH_DECLS)) x.now s lent.old result lent.new }
+    ensures lists { SameLists lent.old lent.new }
 {
-    if s.mode != mode::OK {
+    if s.mode != Mode::Fine {
         return s;
     }
-    s = s.trivia(ids, ends, ev);
-    s = s.begin(d, ids, ends, ev);
+    s = s.trivia(x, lent.events);
+    s = s.begin(d, x, lent.events);
     let from = s.pos;
     let at = s.ev;
     if d == 0 {
-        return s.end(
-            kind::WITH_DECLS,
-            from,
-            at,
-            may,
-            src,
-            ids,
-            ends,
-            ev,
-            er,
-            notes,
-        );
+        return s.end(Kind::WithDecls, from, at, may, x, lent);
     }
     let below = d - 1;
-    if s.mode != mode::OK {
-        return s.end(
-            kind::WITH_DECLS,
-            from,
-            at,
-            may,
-            src,
-            ids,
-            ends,
-            ev,
-            er,
-            notes,
-        );
+    if s.mode != Mode::Fine {
+        return s.end(Kind::WithDecls, from, at, may, x, lent);
     }
-    s = s.trivia(ids, ends, ev);
-    s = decl(s, below, may, ep, src, ids, ends, ev, er, sc, notes, sets);
-    s = and(s, below, ep, src, ids, ends, ev, er, sc, notes, sets);
-    s.end(
-        kind::WITH_DECLS,
-        from,
-        at,
-        may,
-        src,
-        ids,
-        ends,
-        ev,
-        er,
-        notes,
-    )
+    s = s.trivia(x, lent.events);
+    s = decl(s, below, may, x, lent);
+    s = and(s, below, x, lent);
+    s.end(Kind::WithDecls, from, at, may, x, lent)
 }
 
 // (COMMA WITH_DECL)*
 #[cycle(expressions)]
-fn and(
-    mut s: State,
-    d: usize,
-    ep: bool,
-    src: &[u8],
-    ids: &[u32],
-    ends: &[u32],
-    ev: &mut [u32],
-    er: &mut [u32],
-    sc: &mut [u64],
-    notes: &mut [usize; 69],
-    sets: &[[u64; 2]; 56],
-) -> State
-    requires { Asks src.now ids.now ends.now s notes.old ev.old er.old sc.old sets.now }
-    ensures { Reads ep d true more_decls (source src.now ids.now ends.now)
-        s notes.old result notes.new
-        (bufs ev.old er.old sc.old) (bufs ev.new er.new sc.new) }
+fn and(mut s: State, d: usize, x: &Given<'_>, lent: &mut Lent<'_>) -> State
+    requires { Asks x.now s lent.old }
+    ensures read { Reads d true more_decls x.now s lent.old result lent.new }
+    ensures lists { SameLists lent.old lent.new }
 {
-    if s.mode != mode::OK {
+    if s.mode != Mode::Fine {
         return s;
     }
-    let mut n = ids.len() - s.pos + 1;
-    while n > 0 {
+    let turns = x.ids.len() - s.pos + 1;
+    for turn in 0..turns {
         let m = s.mark();
-        s = s.trivia(ids, ends, ev);
-        s = s.expect(set::COMMA, set::COMMA, ids, ends, ev, notes, sets);
-        s = decl(s, d, true, ep, src, ids, ends, ev, er, sc, notes, sets);
-        if s.mode != mode::OK {
+        s = s.trivia(x, lent.events);
+        s = s.expect(set::COMMA, set::COMMA, x, lent);
+        s = decl(s, d, true, x, lent);
+        if s.mode != Mode::Fine {
             return s.undone(m);
         }
-        n -= 1;
     }
     s
 }
 
 // WITH_DECL <- IDENT EQUAL EXPR
 #[cycle(expressions)]
-fn decl(
-    mut s: State,
-    d: usize,
-    may: bool,
-    ep: bool,
-    src: &[u8],
-    ids: &[u32],
-    ends: &[u32],
-    ev: &mut [u32],
-    er: &mut [u32],
-    sc: &mut [u64],
-    notes: &mut [usize; 69],
-    sets: &[[u64; 2]; 56],
-) -> State
-    requires { Asks src.now ids.now ends.now s notes.old ev.old er.old sc.old sets.now }
-    ensures { Reads ep d may (node G.WITH_DECL) (source src.now ids.now ends.now)
-        s notes.old result notes.new
-        (bufs ev.old er.old sc.old) (bufs ev.new er.new sc.new) }
+fn decl(mut s: State, d: usize, may: bool, x: &Given<'_>, lent: &mut Lent<'_>) -> State
+    requires { Asks x.now s lent.old }
+    ensures read { Reads d may (node G.WITH_DECL) x.now s lent.old result lent.new }
+    ensures lists { SameLists lent.old lent.new }
 {
-    s = s.begin(d, ids, ends, ev);
+    s = s.begin(d, x, lent.events);
     let from = s.pos;
     let at = s.ev;
     if d == 0 {
-        return s.end(
-            kind::WITH_DECL,
-            from,
-            at,
-            may,
-            src,
-            ids,
-            ends,
-            ev,
-            er,
-            notes,
-        );
+        return s.end(Kind::WithDecl, from, at, may, x, lent);
     }
     let below = d - 1;
-    s = s.expect(set::IDENT, set::IDENT, ids, ends, ev, notes, sets);
-    s = s.expect(set::EQUAL, set::EQUAL, ids, ends, ev, notes, sets);
-    s = expr(s, below, may, ep, src, ids, ends, ev, er, sc, notes, sets);
-    s.end(
-        kind::WITH_DECL,
-        from,
-        at,
-        may,
-        src,
-        ids,
-        ends,
-        ev,
-        er,
-        notes,
-    )
+    s = s.expect(set::IDENT, set::IDENT, x, lent);
+    s = s.expect(set::EQUAL, set::EQUAL, x, lent);
+    s = expr(s, below, may, x, lent);
+    s.end(Kind::WithDecl, from, at, may, x, lent)
 }
 
 // QUANTIFIER <- (ALL_KW | NONE_KW | ANY_KW) / TERM PERCENT / EXPR !PERCENT
 #[cycle(expressions)]
-fn quant(
-    mut s: State,
-    d: usize,
-    may: bool,
-    ep: bool,
-    src: &[u8],
-    ids: &[u32],
-    ends: &[u32],
-    ev: &mut [u32],
-    er: &mut [u32],
-    sc: &mut [u64],
-    notes: &mut [usize; 69],
-    sets: &[[u64; 2]; 56],
-) -> State
-    requires { Asks src.now ids.now ends.now s notes.old ev.old er.old sc.old sets.now }
-    ensures { Reads ep d may (then (node G.QUANTIFIER)) (source src.now ids.now ends.now)
-        s notes.old result notes.new
-        (bufs ev.old er.old sc.old) (bufs ev.new er.new sc.new) }
+fn quant(mut s: State, d: usize, may: bool, x: &Given<'_>, lent: &mut Lent<'_>) -> State
+    requires { Asks x.now s lent.old }
+    ensures read { Reads d may (then (node G.QUANTIFIER)) x.now s lent.old result lent.new }
+    ensures lists { SameLists lent.old lent.new }
 {
-    if s.mode != mode::OK {
+    if s.mode != Mode::Fine {
         return s;
     }
-    s = s.trivia(ids, ends, ev);
-    s = s.begin(d, ids, ends, ev);
+    s = s.trivia(x, lent.events);
+    s = s.begin(d, x, lent.events);
     let from = s.pos;
     let at = s.ev;
     if d == 0 {
-        return s.end(
-            kind::QUANTIFIER,
-            from,
-            at,
-            may,
-            src,
-            ids,
-            ends,
-            ev,
-            er,
-            notes,
-        );
+        return s.end(Kind::Quantifier, from, at, may, x, lent);
     }
     let below = d - 1;
-    s = how(s, below, may, ep, src, ids, ends, ev, er, sc, notes, sets);
-    s.end(
-        kind::QUANTIFIER,
-        from,
-        at,
-        may,
-        src,
-        ids,
-        ends,
-        ev,
-        er,
-        notes,
-    )
+    s = how(s, below, may, x, lent);
+    s.end(Kind::Quantifier, from, at, may, x, lent)
 }
 
 // The alternatives of QUANTIFIER.
 #[cycle(expressions)]
-fn how(
-    mut s: State,
-    d: usize,
-    may: bool,
-    ep: bool,
-    src: &[u8],
-    ids: &[u32],
-    ends: &[u32],
-    ev: &mut [u32],
-    er: &mut [u32],
-    sc: &mut [u64],
-    notes: &mut [usize; 69],
-    sets: &[[u64; 2]; 56],
-) -> State
-    requires { Asks src.now ids.now ends.now s notes.old ev.old er.old sc.old sets.now }
-    ensures { Reads ep d may (grammar ep G.QUANTIFIER) (source src.now ids.now ends.now)
-        s notes.old result notes.new
-        (bufs ev.old er.old sc.old) (bufs ev.new er.new sc.new) }
+fn how(mut s: State, d: usize, may: bool, x: &Given<'_>, lent: &mut Lent<'_>) -> State
+    requires { Asks x.now s lent.old }
+    ensures read { Reads d may (grammar x.now.entrypoint G.QUANTIFIER) x.now s lent.old result lent.new }
+    ensures lists { SameLists lent.old lent.new }
 {
-    if s.mode != mode::OK {
+    if s.mode != Mode::Fine {
         return s;
     }
     let m = s.mark();
-    s = s.trivia(ids, ends, ev);
-    s = s.expect(set::ALL_NONE_ANY, EXPRESSION, ids, ends, ev, notes, sets);
-    if s.mode != mode::FAILED {
+    s = s.trivia(x, lent.events);
+    s = s.expect(set::ALL_NONE_ANY, EXPRESSION, x, lent);
+    if s.mode != Mode::Failed {
         return s;
     }
     s = s.rewind(m);
-    s.mode = mode::OK;
-    s = term(s, d, true, ep, src, ids, ends, ev, er, sc, notes, sets);
-    s = s.expect(set::PERCENT, set::PERCENT, ids, ends, ev, notes, sets);
-    if s.mode != mode::FAILED {
+    s.mode = Mode::Fine;
+    s = term(s, d, true, x, lent);
+    s = s.expect(set::PERCENT, set::PERCENT, x, lent);
+    if s.mode != Mode::Failed {
         return s;
     }
     s = s.rewind(m);
-    s.mode = mode::OK;
-    s = expr(s, d, true, ep, src, ids, ends, ev, er, sc, notes, sets);
-    s = s.unless(set::PERCENT, ids, ends, ev, notes, sets);
-    if s.mode != mode::FAILED {
+    s.mode = Mode::Fine;
+    s = expr(s, d, true, x, lent);
+    s = s.unless(set::PERCENT, x, lent);
+    if s.mode != Mode::Failed {
         return s;
     }
     s = s.rewind(m);
@@ -1591,75 +848,47 @@ fn how(
 
 // ITERABLE <- RANGE / EXPR_TUPLE / EXPR
 #[cycle(expressions)]
-fn iter(
-    mut s: State,
-    d: usize,
-    may: bool,
-    ep: bool,
-    src: &[u8],
-    ids: &[u32],
-    ends: &[u32],
-    ev: &mut [u32],
-    er: &mut [u32],
-    sc: &mut [u64],
-    notes: &mut [usize; 69],
-    sets: &[[u64; 2]; 56],
-) -> State
-    requires { Asks src.now ids.now ends.now s notes.old ev.old er.old sc.old sets.now }
-    ensures { Reads ep d may (node G.ITERABLE) (source src.now ids.now ends.now)
-        s notes.old result notes.new
-        (bufs ev.old er.old sc.old) (bufs ev.new er.new sc.new) }
+fn iter(mut s: State, d: usize, may: bool, x: &Given<'_>, lent: &mut Lent<'_>) -> State
+    requires { Asks x.now s lent.old }
+    ensures read { Reads d may (node G.ITERABLE) x.now s lent.old result lent.new }
+    ensures lists { SameLists lent.old lent.new }
 {
-    s = s.begin(d, ids, ends, ev);
+    s = s.begin(d, x, lent.events);
     let from = s.pos;
     let at = s.ev;
     if d == 0 {
-        return s.end(kind::ITERABLE, from, at, may, src, ids, ends, ev, er, notes);
+        return s.end(Kind::Iterable, from, at, may, x, lent);
     }
     let below = d - 1;
-    s = vals(s, below, may, ep, src, ids, ends, ev, er, sc, notes, sets);
-    s.end(kind::ITERABLE, from, at, may, src, ids, ends, ev, er, notes)
+    s = vals(s, below, may, x, lent);
+    s.end(Kind::Iterable, from, at, may, x, lent)
 }
 
 // The alternatives of ITERABLE.
 #[cycle(expressions)]
-fn vals(
-    mut s: State,
-    d: usize,
-    may: bool,
-    ep: bool,
-    src: &[u8],
-    ids: &[u32],
-    ends: &[u32],
-    ev: &mut [u32],
-    er: &mut [u32],
-    sc: &mut [u64],
-    notes: &mut [usize; 69],
-    sets: &[[u64; 2]; 56],
-) -> State
-    requires { Asks src.now ids.now ends.now s notes.old ev.old er.old sc.old sets.now }
-    ensures { Reads ep d may (grammar ep G.ITERABLE) (source src.now ids.now ends.now)
-        s notes.old result notes.new
-        (bufs ev.old er.old sc.old) (bufs ev.new er.new sc.new) }
+fn vals(mut s: State, d: usize, may: bool, x: &Given<'_>, lent: &mut Lent<'_>) -> State
+    requires { Asks x.now s lent.old }
+    ensures read { Reads d may (grammar x.now.entrypoint G.ITERABLE) x.now s lent.old result lent.new }
+    ensures lists { SameLists lent.old lent.new }
 {
-    if s.mode != mode::OK {
+    if s.mode != Mode::Fine {
         return s;
     }
     let m = s.mark();
-    s = range(s, d, true, ep, src, ids, ends, ev, er, sc, notes, sets);
-    if s.mode != mode::FAILED {
+    s = range(s, d, true, x, lent);
+    if s.mode != Mode::Failed {
         return s;
     }
     s = s.rewind(m);
-    s.mode = mode::OK;
-    s = exprs(s, d, true, ep, src, ids, ends, ev, er, sc, notes, sets);
-    if s.mode != mode::FAILED {
+    s.mode = Mode::Fine;
+    s = exprs(s, d, true, x, lent);
+    if s.mode != Mode::Failed {
         return s;
     }
     s = s.rewind(m);
-    s.mode = mode::OK;
-    s = expr(s, d, true, ep, src, ids, ends, ev, er, sc, notes, sets);
-    if s.mode != mode::FAILED {
+    s.mode = Mode::Fine;
+    s = expr(s, d, true, x, lent);
+    if s.mode != Mode::Failed {
         return s;
     }
     s = s.rewind(m);
@@ -1668,154 +897,52 @@ fn vals(
 
 // EXPR_TUPLE <- L_PAREN EXPR (COMMA EXPR)* R_PAREN
 #[cycle(expressions)]
-fn exprs(
-    mut s: State,
-    d: usize,
-    may: bool,
-    ep: bool,
-    src: &[u8],
-    ids: &[u32],
-    ends: &[u32],
-    ev: &mut [u32],
-    er: &mut [u32],
-    sc: &mut [u64],
-    notes: &mut [usize; 69],
-    sets: &[[u64; 2]; 56],
-) -> State
-    requires { Asks src.now ids.now ends.now s notes.old ev.old er.old sc.old sets.now }
-    ensures { Reads ep d may (then (node G.EXPR_TUPLE)) (source src.now ids.now ends.now)
-        s notes.old result notes.new
-        (bufs ev.old er.old sc.old) (bufs ev.new er.new sc.new) }
+fn exprs(mut s: State, d: usize, may: bool, x: &Given<'_>, lent: &mut Lent<'_>) -> State
+    requires { Asks x.now s lent.old }
+    ensures read { Reads d may (then (node G.EXPR_TUPLE)) x.now s lent.old result lent.new }
+    ensures lists { SameLists lent.old lent.new }
 {
-    if s.mode != mode::OK {
+    if s.mode != Mode::Fine {
         return s;
     }
-    s = s.trivia(ids, ends, ev);
-    s = s.begin(d, ids, ends, ev);
+    s = s.trivia(x, lent.events);
+    s = s.begin(d, x, lent.events);
     let from = s.pos;
     let at = s.ev;
     if d == 0 {
-        return s.end(
-            kind::EXPR_TUPLE,
-            from,
-            at,
-            may,
-            src,
-            ids,
-            ends,
-            ev,
-            er,
-            notes,
-        );
+        return s.end(Kind::ExprTuple, from, at, may, x, lent);
     }
     let below = d - 1;
-    s = s.expect(set::L_PAREN, set::L_PAREN, ids, ends, ev, notes, sets);
-    s = expr(s, below, may, ep, src, ids, ends, ev, er, sc, notes, sets);
-    s = more(
-        set::COMMA,
-        set::COMMA,
-        Item::Expr,
-        s,
-        below,
-        ep,
-        src,
-        ids,
-        ends,
-        ev,
-        er,
-        sc,
-        notes,
-        sets,
-    );
-    s = s.expect(set::R_PAREN, set::R_PAREN, ids, ends, ev, notes, sets);
-    s.end(
-        kind::EXPR_TUPLE,
-        from,
-        at,
-        may,
-        src,
-        ids,
-        ends,
-        ev,
-        er,
-        notes,
-    )
+    s = s.expect(set::L_PAREN, set::L_PAREN, x, lent);
+    s = expr(s, below, may, x, lent);
+    s = more(set::COMMA, set::COMMA, Item::Expr, s, below, x, lent);
+    s = s.expect(set::R_PAREN, set::R_PAREN, x, lent);
+    s.end(Kind::ExprTuple, from, at, may, x, lent)
 }
 
 // BOOLEAN_EXPR_TUPLE <- L_PAREN BOOLEAN_EXPR (COMMA BOOLEAN_EXPR)* R_PAREN
 #[cycle(expressions)]
-fn bools(
-    mut s: State,
-    d: usize,
-    may: bool,
-    ep: bool,
-    src: &[u8],
-    ids: &[u32],
-    ends: &[u32],
-    ev: &mut [u32],
-    er: &mut [u32],
-    sc: &mut [u64],
-    notes: &mut [usize; 69],
-    sets: &[[u64; 2]; 56],
-) -> State
-    requires { Asks src.now ids.now ends.now s notes.old ev.old er.old sc.old sets.now }
-    ensures { Reads ep d may (then (node G.BOOLEAN_EXPR_TUPLE)) (source src.now ids.now ends.now)
-        s notes.old result notes.new
-        (bufs ev.old er.old sc.old) (bufs ev.new er.new sc.new) }
+fn bools(mut s: State, d: usize, may: bool, x: &Given<'_>, lent: &mut Lent<'_>) -> State
+    requires { Asks x.now s lent.old }
+    ensures read { Reads d may (then (node G.BOOLEAN_EXPR_TUPLE)) x.now s lent.old result lent.new }
+    ensures lists { SameLists lent.old lent.new }
 {
-    if s.mode != mode::OK {
+    if s.mode != Mode::Fine {
         return s;
     }
-    s = s.trivia(ids, ends, ev);
-    s = s.begin(d, ids, ends, ev);
+    s = s.trivia(x, lent.events);
+    s = s.begin(d, x, lent.events);
     let from = s.pos;
     let at = s.ev;
     if d == 0 {
-        return s.end(
-            kind::BOOLEAN_EXPR_TUPLE,
-            from,
-            at,
-            may,
-            src,
-            ids,
-            ends,
-            ev,
-            er,
-            notes,
-        );
+        return s.end(Kind::BooleanExprTuple, from, at, may, x, lent);
     }
     let below = d - 1;
-    s = s.expect(set::L_PAREN, set::L_PAREN, ids, ends, ev, notes, sets);
-    s = bool_expr(s, below, may, ep, src, ids, ends, ev, er, sc, notes, sets);
-    s = more(
-        set::COMMA,
-        set::COMMA,
-        Item::BooleanExpr,
-        s,
-        below,
-        ep,
-        src,
-        ids,
-        ends,
-        ev,
-        er,
-        sc,
-        notes,
-        sets,
-    );
-    s = s.expect(set::R_PAREN, set::R_PAREN, ids, ends, ev, notes, sets);
-    s.end(
-        kind::BOOLEAN_EXPR_TUPLE,
-        from,
-        at,
-        may,
-        src,
-        ids,
-        ends,
-        ev,
-        er,
-        notes,
-    )
+    s = s.expect(set::L_PAREN, set::L_PAREN, x, lent);
+    s = bool_expr(s, below, may, x, lent);
+    s = more(set::COMMA, set::COMMA, Item::BooleanExpr, s, below, x, lent);
+    s = s.expect(set::R_PAREN, set::R_PAREN, x, lent);
+    s.end(Kind::BooleanExprTuple, from, at, may, x, lent)
 }
 
 // A repetition: a row of the set and an item behind it. Its rows are a bound that is never reached.
@@ -1826,68 +953,45 @@ fn more(
     item: Item,
     mut s: State,
     d: usize,
-    ep: bool,
-    src: &[u8],
-    ids: &[u32],
-    ends: &[u32],
-    ev: &mut [u32],
-    er: &mut [u32],
-    sc: &mut [u64],
-    notes: &mut [usize; 69],
-    sets: &[[u64; 2]; 56],
+    x: &Given<'_>,
+    lent: &mut Lent<'_>,
 ) -> State
-    requires { Asks src.now ids.now ends.now s notes.old ev.old er.old sc.old sets.now × (code < 58) }
-    ensures { Reads ep d true (listed sep code item) (source src.now ids.now ends.now)
-        s notes.old result notes.new
-        (bufs ev.old er.old sc.old) (bufs ev.new er.new sc.new) }
+    requires { Asks x.now s lent.old × (code < 58) }
+    ensures read { Reads d true (listed sep code item) x.now s lent.old result lent.new }
+    ensures lists { SameLists lent.old lent.new }
 {
-    if s.mode != mode::OK {
+    if s.mode != Mode::Fine {
         return s;
     }
-    let mut n = ids.len() - s.pos + 1;
-    while n > 0 {
+    let turns = x.ids.len() - s.pos + 1;
+    for turn in 0..turns {
         let m = s.mark();
-        s = s.trivia(ids, ends, ev);
-        s = s.expect(sep, code, ids, ends, ev, notes, sets);
-        if s.mode != mode::OK {
+        s = s.trivia(x, lent.events);
+        s = s.expect(sep, code, x, lent);
+        if s.mode != Mode::Fine {
             return s.undone(m);
         }
-        s = each(item, s, d, ep, src, ids, ends, ev, er, sc, notes, sets);
-        if s.mode != mode::OK {
+        s = each(item, s, d, x, lent);
+        if s.mode != Mode::Fine {
             return s.undone(m);
         }
-        n -= 1;
     }
     s
 }
 
 // An item of a repetition.
 #[cycle(expressions)]
-fn each(
-    item: Item,
-    s: State,
-    d: usize,
-    ep: bool,
-    src: &[u8],
-    ids: &[u32],
-    ends: &[u32],
-    ev: &mut [u32],
-    er: &mut [u32],
-    sc: &mut [u64],
-    notes: &mut [usize; 69],
-    sets: &[[u64; 2]; 56],
-) -> State
-    requires { Asks src.now ids.now ends.now s notes.old ev.old er.old sc.old sets.now }
-    ensures { Reads ep d true (item_of item) (source src.now ids.now ends.now)
-        s notes.old result notes.new
-        (bufs ev.old er.old sc.old) (bufs ev.new er.new sc.new) }
+fn each(item: Item, s: State, d: usize, x: &Given<'_>, lent: &mut Lent<'_>) -> State
+    requires { Asks x.now s lent.old }
+    ensures read { Reads d true (item_of item) x.now s lent.old result lent.new }
+    ensures lists { SameLists lent.old lent.new }
 {
     match item {
-        Item::Ident => s.expect(set::IDENT, set::IDENT, ids, ends, ev, notes, sets),
-        Item::Term => term(s, d, true, ep, src, ids, ends, ev, er, sc, notes, sets),
-        Item::Expr => expr(s, d, true, ep, src, ids, ends, ev, er, sc, notes, sets),
-        Item::PrimaryExpr => primary(s, d, true, ep, src, ids, ends, ev, er, sc, notes, sets),
-        Item::BooleanTerm => bool_term(s, d, true, ep, src, ids, ends, ev, er, sc, notes, sets),
-        Item::BooleanExpr => bool_expr(s, d, true, ep, src, ids, ends, ev, er, sc, notes, sets),
+        Item::Ident => s.expect(set::IDENT, set::IDENT, x, lent),
+        Item::Term => term(s, d, true, x, lent),
+        Item::Expr => expr(s, d, true, x, lent),
+        Item::PrimaryExpr => primary(s, d, true, x, lent),
+        Item::BooleanTerm => bool_term(s, d, true, x, lent),
+        Item::BooleanExpr => bool_expr(s, d, true, x, lent),
     }
 }

@@ -2,16 +2,15 @@
 // the edition that the arguments name: --settings FILE --edition N. The listing is of edition 1, or of the edition that --listing names, 1 or 2.
 #![tactic(auto)]
 
-ghost use Rattle.std.specs.Prelude.{◌+◌, ◌≤◌, length};
+ghost use Rattle.std.specs.Prelude.{◌≤◌, length, IfOk};
 
-use console::{argument, open, print_decimal, write};
-use desk::read::Reading;
-use listing::{Line, Next, Number};
-use merger::Merged;
-use reading::Named;
-use settings::Chosen;
-use shapes::event::{DEPTH, END, EVENT, KIND, START};
-use shapes::refusal;
+use console::{argument, read_file, write};
+use desk::read::Answered;
+use listing::{Event, Line, Next};
+use reading::Unread;
+use settings::ChooseError;
+use shapes::event::EVENT;
+use shapes::refusal::Refusal;
 use std::env::Env;
 use std::io::Read;
 use std::rt::Files;
@@ -21,29 +20,22 @@ const MOST_BYTES: usize = 65536;
 
 const MOST_ROWS: usize = 4096;
 
-// How far the lines were taken. One row and one byte too many are counted, and no more, since that is all that refusal 1 asks.
+// The number of the line that does not read.
 #[derive(Clone, Copy)]
+struct UnreadLine(u64);
+
+// How far the lines were taken. One row and one byte too many are counted, and no more, since that is all that refusal 1 asks.
+#[derive(Drop)]
 struct Taken {
     // How many lines have read.
     lines: u64,
-    // Where, in the bytes at hand, the next line begins.
-    at: usize,
-    rows: usize,
-    size: usize,
     fuel: u32,
-}
-
-#[derive(Drop)]
-enum Step {
-    On(Taken),
-    // The number of the line that does not read.
-    Unread(u64),
-}
-
-#[derive(Drop)]
-enum Source {
-    Bytes(usize),
-    Unreadable,
+    size: usize,
+    rows: usize,
+    source: [u8; 65537],
+    ids: [u32; 4096],
+    starts: [u32; 4096],
+    ends: [u32; 4096],
 }
 
 // The settings edition by which the file is read, how long the settings text is, and the edition of the listing.
@@ -52,563 +44,295 @@ struct Edition {
     number: u32,
     size: usize,
     listing: u32,
+    ghost within: { size ≤ 65537 },
 }
 
-#[derive(Drop)]
-enum Asked {
-    By(Edition),
-    // An argument that is none, or a settings file that cannot be read or is too long.
-    Wrong,
-}
+// An argument that is none, or a settings file that cannot be read or is too long.
+#[derive(Clone, Copy)]
+struct Wrong;
 
-// The number, from 1, of the line behind those that have read. No run has so many lines that it wraps.
-fn next_number(t: Taken) -> u64 {
-    t.lines.wrapping_add(1)
-}
-
-// One read into the bytes from a place on: how many came, 0 where the input ends or a read fails.
-fn read_on(input: &mut impl Read, bytes: &mut [u8], at: usize) -> usize
-    requires { at ≤ length bytes.old }
-    ensures { at + result ≤ length bytes.old }
-{
-    match input.read(&mut bytes[at..]) {
-        Ok(n) => n,
-        Err(_) => 0,
-    }
-}
-
-// All that the room has place for. Only a read that fails is told apart from the end.
-fn read_source(file: &mut impl Read, room: &mut [u8]) -> Source {
-    let mut size = 0;
-    while size < room.len() {
-        let Ok(n) = file.read(&mut room[size..]) else {
-            return Source::Unreadable;
-        };
-        if n == 0 {
-            return Source::Bytes(size);
+impl Taken {
+    fn nothing() -> Taken {
+        Taken {
+            lines: 0,
+            fuel: 0,
+            size: 0,
+            rows: 0,
+            source: [0; 65537],
+            ids: [0; 4096],
+            starts: [0; 4096],
+            ends: [0; 4096],
         }
-        size += n;
     }
-    Source::Bytes(size)
-}
 
-fn open_source(rt: &impl Files, name: &[u8], room: &mut [u8]) -> Source {
-    let Some(mut file) = open(rt, name) else {
-        return Source::Unreadable;
-    };
-    read_source(&mut file, room)
-}
-
-// The first line. The file is read at once, since one that cannot be opened or read counts as this line, whatever lines follow.
-fn take_source(rt: &impl Files, line: &[u8], source: &mut [u8; 65537]) -> Step {
-    let Line::Source { from, to, fuel } = listing::read_line(line) else {
-        return Step::Unread(1);
-    };
-    let Source::Bytes(size) = open_source(rt, &line[from..to], source) else {
-        return Step::Unread(1);
-    };
-    Step::On(Taken {
-        lines: 1,
-        at: 0,
-        rows: 0,
-        size,
-        fuel,
-    })
-}
-
-// A line behind the first. Rows past the most still have to read, and are not kept.
-fn take_row(
-    t: Taken,
-    line: &[u8],
-    ids: &mut [u32; 4096],
-    starts: &mut [u32; 4096],
-    ends: &mut [u32; 4096],
-) -> Step {
-    let Line::Row { id, start, end } = listing::read_line(line) else {
-        return Step::Unread(next_number(t));
-    };
-    let mut next = t;
-    next.lines = next_number(t);
-    let n = t.rows;
-    if n < MOST_ROWS {
-        ids[n] = id;
-        starts[n] = start;
-        ends[n] = end;
-        next.rows = n + 1;
-        return Step::On(next);
+    // The number, from 1, of the line behind those that have read. No run has so many lines that it wraps.
+    fn next_number(&self) -> u64 {
+        self.lines.wrapping_add(1)
     }
-    next.rows = MOST_ROWS + 1;
-    Step::On(next)
-}
 
-fn take_line(
-    rt: &impl Files,
-    t: Taken,
-    line: &[u8],
-    source: &mut [u8; 65537],
-    ids: &mut [u32; 4096],
-    starts: &mut [u32; 4096],
-    ends: &mut [u32; 4096],
-) -> Step {
-    if t.lines == 0 {
-        return take_source(rt, line, source);
-    }
-    take_row(t, line, ids, starts, ends)
-}
-
-// The lines whose ends are in the bytes.
-fn take_lines(
-    rt: &impl Files,
-    first: Taken,
-    bytes: &[u8],
-    source: &mut [u8; 65537],
-    ids: &mut [u32; 4096],
-    starts: &mut [u32; 4096],
-    ends: &mut [u32; 4096],
-) -> Step {
-    let mut t = first;
-    let mut at = 0;
-    while at < bytes.len() {
-        let Next::Whole { to, next } = listing::next_line(bytes, at) else {
-            break;
+    // The first line. The file is read at once, since one that cannot be opened or read counts as this line, whatever lines follow.
+    fn take_source(&mut self, rt: &impl Files, line: &[u8]) -> Result<(), UnreadLine> {
+        let Some(Line::Source { from, to, fuel }) = listing::read_line(line) else {
+            return Err(UnreadLine(1));
         };
-        let step = take_line(rt, t, &bytes[at..to], source, ids, starts, ends);
-        let Step::On(after) = step else {
-            return step;
+        self.size = read_file(rt, &line[from..to], &mut self.source).ok_or(UnreadLine(1))?;
+        self.fuel = fuel;
+        self.lines = 1;
+        Ok(())
+    }
+
+    // A line behind the first. Rows past the most still have to read, and are not kept.
+    fn take_row(&mut self, line: &[u8]) -> Result<(), UnreadLine> {
+        let Some(Line::Row { id, start, end }) = listing::read_line(line) else {
+            return Err(UnreadLine(self.next_number()));
         };
-        t = after;
-        at = next;
-    }
-    t.at = at;
-    Step::On(t)
-}
-
-// What stands behind the last line feed, if anything does: the last line may lack its own. "Empty input .. counts as line 1."
-fn take_last(
-    rt: &impl Files,
-    t: Taken,
-    line: &[u8],
-    source: &mut [u8; 65537],
-    ids: &mut [u32; 4096],
-    starts: &mut [u32; 4096],
-    ends: &mut [u32; 4096],
-) -> Step {
-    if line.len() != 0 {
-        return take_line(rt, t, line, source, ids, starts, ends);
-    }
-    if t.lines == 0 {
-        return Step::Unread(1);
-    }
-    Step::On(t)
-}
-
-// Moves the bytes from a place up to another to the front, and answers how many they are.
-fn move_front(bytes: &mut [u8], at: usize, end: usize) -> usize
-    requires { end ≤ length bytes.old }
-    ensures { result ≤ length bytes.old }
-{
-    let mut from = at;
-    let mut to = 0;
-    while from < end {
-        bytes[to] = bytes[from];
-        from += 1;
-        to += 1;
-    }
-    to
-}
-
-// The whole input, in pieces. The buffer has place for more than the longest line that reads: where it is full of one line, nothing more can come, and
-// that line, taken as the last, does not read. A proved loop has to end, so this one counts down from a number that no run uses up.
-fn take_input(
-    rt: &impl Files,
-    input: &mut impl Read,
-    buffer: &mut [u8],
-    source: &mut [u8; 65537],
-    ids: &mut [u32; 4096],
-    starts: &mut [u32; 4096],
-    ends: &mut [u32; 4096],
-) -> Step {
-    let mut t = Taken {
-        lines: 0,
-        at: 0,
-        rows: 0,
-        size: 0,
-        fuel: 0,
-    };
-    let mut held = 0;
-    let mut turns = 0xffff_ffff_ffff_ffffu64;
-    while 0 < turns {
-        let more = read_on(input, buffer, held);
-        if more == 0 {
-            return take_last(rt, t, &buffer[..held], source, ids, starts, ends);
+        self.lines = self.next_number();
+        let n = self.rows;
+        if n < MOST_ROWS {
+            self.ids[n] = id;
+            self.starts[n] = start;
+            self.ends[n] = end;
+            self.rows = n + 1;
+        } else {
+            self.rows = MOST_ROWS + 1;
         }
-        let end = held + more;
-        let step = take_lines(rt, t, &buffer[..end], source, ids, starts, ends);
-        let Step::On(next) = step else {
-            return step;
-        };
-        t = next;
-        held = move_front(buffer, next.at, end);
-        turns -= 1;
+        Ok(())
     }
-    Step::Unread(next_number(t))
+
+    fn take_line(&mut self, rt: &impl Files, line: &[u8]) -> Result<(), UnreadLine> {
+        if self.lines == 0 {
+            self.take_source(rt, line)
+        } else {
+            self.take_row(line)
+        }
+    }
+
+    // The lines whose ends are in the bytes, and where the next line begins.
+    fn take_lines(&mut self, rt: &impl Files, bytes: &[u8]) -> Result<usize, UnreadLine>
+        ensures { IfOk result (λ n. n ≤ length bytes.now) }
+    {
+        let mut at = 0;
+        // Not a `for`: a line that is not ended is no line yet, and where it begins is the answer.
+        while let Next::Whole { to, next } = listing::next_line(bytes, at) {
+            self.take_line(rt, &bytes[at..to])?;
+            at = next;
+        }
+        Ok(at)
+    }
+
+    // What stands behind the last line feed, if anything does: the last line may lack its own. "Empty input .. counts as line 1."
+    fn take_last(&mut self, rt: &impl Files, line: &[u8]) -> Result<(), UnreadLine> {
+        if !line.is_empty() {
+            return self.take_line(rt, line);
+        }
+        if self.lines == 0 {
+            return Err(UnreadLine(1));
+        }
+        Ok(())
+    }
+
+    // The whole input, in pieces. The buffer has place for more than the longest line that reads: where it is full of one line, nothing more can come, and
+    // that line, taken as the last, does not read. A proved loop has to end, so this one counts to a number that no run uses up.
+    fn take_input(
+        &mut self,
+        rt: &impl Files,
+        input: &mut impl Read,
+        buffer: &mut [u8],
+    ) -> Result<(), UnreadLine> {
+        let mut held = 0;
+        for _ in 0..u64::MAX {
+            let more = input.read(&mut buffer[held..]).unwrap_or(0);
+            if more == 0 {
+                return self.take_last(rt, &buffer[..held]);
+            }
+            let end = held + more;
+            let at = self.take_lines(rt, &buffer[..end])?;
+            buffer.copy_within(at..end, 0);
+            held = end - at;
+        }
+        Err(UnreadLine(self.next_number()))
+    }
 }
 
-fn write_head(rt: &impl Print, edition: u32) {
+// A line of the listing, as that function spells it into a room.
+fn write_line<F: FnOnce(&mut [u8; 4096]) -> usize>(rt: &impl Print, spell: F)
+    requires { F.IsAlwaysCallable spell }
+{
     let mut room = [0u8; 4096];
-    let k = listing::head_line(edition, &mut room);
-    write(rt, &room[..k]);
+    let k = spell(&mut room);
+    write(rt, room.get(..k).unwrap_or(&[]));
 }
 
-fn write_unread(rt: &impl Print, number: u64) {
-    let mut room = [0u8; 4096];
-    let k = listing::unread_line(number, &mut room);
-    write(rt, &room[..k]);
-}
-
-fn write_refusal(rt: &impl Print, refusal: u32) {
-    let mut room = [0u8; 4096];
-    let k = listing::refusal_line(refusal, &mut room);
-    write(rt, &room[..k]);
-}
-
-fn say(err: &impl Print, text: &[u8]) {
-    write(err, text);
+fn write_refusal(rt: &impl Print, refusal: Refusal) {
+    write_line(rt, |room| listing::refusal_line(u32::from(refusal), room));
 }
 
 // 19 comes before the file is judged; its line is told beside the listing, which has no place for it.
 fn write_bad_line(rt: &impl Print, err: &impl Print, line: u32) {
-    write_refusal(rt, refusal::SETTINGS);
-    say(err, b"intake: the settings text does not read, line ");
-    print_decimal(err, line as u64);
-    say(err, b"\n");
+    write_refusal(rt, Refusal::Settings);
+    let _ = println!(err; "intake: the settings text does not read, line {line}");
 }
 
-fn write_result(rt: &impl Print, outcome: u32, rows: u32, fuel: u32) {
-    let mut room = [0u8; 4096];
-    let k = listing::result_line(outcome, rows, fuel, &mut room);
-    write(rt, &room[..k]);
-}
-
-fn write_event(
-    rt: &impl Print,
-    edition: u32,
-    sort: u32,
-    second: u32,
-    start: u32,
-    end: u32,
-    depth: u32,
-    errors: &[u32],
-) {
-    let mut room = [0u8; 4096];
-    let k = listing::event_line(edition, sort, second, start, end, depth, errors, &mut room);
-    write(rt, &room[..k]);
-}
-
+// An event's numbers stand in the order that the line has them.
 fn write_events(rt: &impl Print, edition: u32, events: &[u32], errors: &[u32]) {
-    let mut i = 0;
-    while i < events.len() / EVENT {
-        let at = i * EVENT;
-        write_event(
-            rt,
-            edition,
-            events[at],
-            events[at + KIND],
-            events[at + START],
-            events[at + END],
-            events[at + DEPTH],
-            errors,
-        );
-        i += 1;
+    for event in events.chunks_exact(EVENT) {
+        if let &[sort, second, start, end, depth] = event {
+            let event = Event {
+                sort,
+                second,
+                start,
+                end,
+                depth,
+            };
+            write_line(rt, |room| listing::event_line(edition, event, errors, room));
+        }
     }
 }
 
 // The first events of a list. Neither the reader nor the merger counts more than its room has.
 fn first_events(list: &[u32], count: usize) -> &[u32] {
-    if list.len() / EVENT < count {
-        return list;
-    }
-    let n = count * EVENT;
-    &list[..n]
+    list.get(..count.saturating_mul(EVENT)).unwrap_or(list)
 }
 
-// The reader's list is merged and written. Whether it was, so that the result can follow.
-fn write_merged(rt: &impl Print, edition: u32, events: &[u32], errors: &[u32]) -> bool {
+// The reader's list is merged and written, and behind it the result. Rows covered are rows that were read, so that every count of them fits.
+fn write_answer(rt: &impl Print, edition: u32, answered: Answered, events: &[u32], errors: &[u32]) {
+    let Answered {
+        outcome,
+        covered,
+        events: count,
+        errors: _,
+        left,
+    } = answered;
     let mut room = [0u32; 16384];
-    match merger::merge(events, &mut room) {
-        Merged::Malformed => {
-            write_refusal(rt, refusal::MALFORMED);
-            false
-        }
-        Merged::Unpaired => {
-            write_refusal(rt, refusal::UNPAIRED);
-            false
-        }
-        Merged::Full => {
-            write_refusal(rt, refusal::EVENTS);
-            false
-        }
-        Merged::Events(n) => {
+    match merger::merge(first_events(events, count), &mut room) {
+        Err(refusal) => write_refusal(rt, refusal),
+        Ok(n) => {
             write_events(rt, edition, first_events(&room, n), errors);
-            true
-        }
-    }
-}
-
-// Rows covered as the listing takes them: they are rows that were read, so that every count of them fits.
-fn row_count(covered: usize) -> u32 {
-    if MOST_ROWS < covered {
-        return MOST_ROWS as u32;
-    }
-    covered as u32
-}
-
-fn write_reading(rt: &impl Print, edition: u32, reading: Reading, events: &[u32], errors: &[u32]) {
-    match reading {
-        Reading::Refused(n) => write_refusal(rt, n),
-        Reading::Answered {
-            outcome,
-            covered,
-            events: count,
-            errors: _,
-            left,
-        } => {
-            if write_merged(rt, edition, first_events(events, count), errors) {
-                write_result(rt, outcome, row_count(covered), left);
-            }
+            let outcome = u32::from(outcome);
+            let rows = covered.min(MOST_ROWS) as u32;
+            write_line(rt, |room| listing::result_line(outcome, rows, left, room));
         }
     }
 }
 
 // "It .. has room for 4,096 events and 16,384 numbers of error records." 129 words of scratch are what 4,096 rows ask for.
-fn answer(
-    rt: &impl Print,
-    err: &impl Print,
-    text: &[u8],
-    edition: Edition,
-    source: &[u8],
-    ids: &[u32],
-    starts: &[u32],
-    ends: &[u32],
-    fuel: u32,
-) {
+fn answer_within(rt: &impl Print, err: &impl Print, t: &Taken, text: &[u8], edition: Edition) {
+    let size = t.size;
+    let rows = t.rows;
+    if MOST_BYTES < size || MOST_ROWS < rows {
+        write_refusal(rt, Refusal::Long);
+        return;
+    }
     let mut scratch = [0u64; 129];
     let mut events = [0u32; 16384];
     let mut errors = [0u32; 16384];
-    let named = reading::read(
+    let answer = reading::read(
         text,
         edition.number,
-        source,
-        ids,
-        starts,
-        ends,
-        fuel,
+        &t.source[..size],
+        &t.ids[..rows],
+        &t.starts[..rows],
+        &t.ends[..rows],
+        t.fuel,
         &mut scratch,
         &mut events,
         &mut errors,
     );
-    match named {
-        Named::BadLine(line) => write_bad_line(rt, err, line),
-        Named::Read(reading) => write_reading(rt, edition.listing, reading, &events, &errors),
+    match answer {
+        Ok(answered) => write_answer(rt, edition.listing, answered, &events, &errors),
+        Err(Unread::Refused(refusal)) => write_refusal(rt, refusal),
+        Err(Unread::BadLine(line)) => write_bad_line(rt, err, line),
     }
 }
 
-fn answer_within(
-    rt: &impl Print,
-    err: &impl Print,
-    t: Taken,
-    text: &[u8],
-    edition: Edition,
-    source: &[u8],
-    ids: &[u32],
-    starts: &[u32],
-    ends: &[u32],
-)
-    requires { (65536 ≤ length source.now) × (4096 ≤ length ids.now) × (4096 ≤ length starts.now) × (4096 ≤ length ends.now) }
-{
-    let size = t.size;
-    let rows = t.rows;
-    if MOST_BYTES < size {
-        write_refusal(rt, refusal::LONG);
-        return;
-    }
-    if MOST_ROWS < rows {
-        write_refusal(rt, refusal::LONG);
-        return;
-    }
-    answer(
-        rt,
-        err,
-        text,
-        edition,
-        &source[..size],
-        &ids[..rows],
-        &starts[..rows],
-        &ends[..rows],
-        t.fuel,
-    );
-}
-
-// As arrays, so that their lengths are known from their types.
-fn answer_taken(
-    rt: &impl Print,
-    err: &impl Print,
-    t: Taken,
-    text: &[u8],
-    edition: Edition,
-    source: &[u8; 65537],
-    ids: &[u32; 4096],
-    starts: &[u32; 4096],
-    ends: &[u32; 4096],
-) {
+fn answer(rt: &impl Print, err: &impl Print, t: &Taken, text: &[u8], edition: Edition) {
     match settings::choose(text, edition.number, t.fuel) {
-        Chosen::BadLine(line) => write_bad_line(rt, err, line),
-        Chosen::Unknown => answer_within(rt, err, t, text, edition, source, ids, starts, ends),
-        Chosen::Named(_) => answer_within(rt, err, t, text, edition, source, ids, starts, ends),
+        Err(ChooseError::BadLine(line)) => write_bad_line(rt, err, line),
+        Ok(_) | Err(ChooseError::Unknown) => answer_within(rt, err, t, text, edition),
     }
 }
 
-fn same(word: &[u8], wanted: &[u8]) -> bool {
-    if word.len() != wanted.len() {
-        return false;
-    }
-    let mut i = 0;
-    while i < word.len() {
-        if i < wanted.len() {
-            if word[i] != wanted[i] {
-                return false;
-            }
+impl Edition {
+    fn take_settings(
+        &mut self,
+        rt: &impl Files,
+        name: &[u8],
+        room: &mut [u8; 65537],
+    ) -> Result<(), Wrong> {
+        let size = read_file(rt, name, room).ok_or(Wrong)?;
+        if MOST_BYTES < size {
+            return Err(Wrong);
         }
-        i += 1;
+        self.size = size;
+        Ok(())
     }
-    true
-}
 
-fn take_settings(rt: &impl Files, name: &[u8], e: Edition, room: &mut [u8; 65537]) -> Asked {
-    let Source::Bytes(size) = open_source(rt, name, room) else {
-        return Asked::Wrong;
-    };
-    if MOST_BYTES < size {
-        return Asked::Wrong;
+    fn take_number(&mut self, digits: &[u8]) -> Result<(), Wrong> {
+        self.number = listing::read_number(digits).ok_or(Wrong)?;
+        Ok(())
     }
-    let mut next = e;
-    next.size = size;
-    Asked::By(next)
-}
 
-fn take_edition(digits: &[u8], e: Edition) -> Asked {
-    let Number::Is(number) = listing::read_number(digits) else {
-        return Asked::Wrong;
-    };
-    let mut next = e;
-    next.number = number;
-    Asked::By(next)
-}
+    // The edition of the listing: there are two.
+    fn take_listing(&mut self, word: &[u8]) -> Result<(), Wrong> {
+        self.listing = match word {
+            b"1" => 1,
+            b"2" => 2,
+            _ => return Err(Wrong),
+        };
+        Ok(())
+    }
 
-// The edition of the listing: there are two.
-fn take_listing(word: &[u8], e: Edition) -> Asked {
-    let mut next = e;
-    if same(word, b"1") {
-        next.listing = 1;
-        return Asked::By(next);
+    // A word and its value, where they are there.
+    fn take_pair(
+        &mut self,
+        rt: &(impl Files + Env),
+        at: usize,
+        next: usize,
+        room: &mut [u8; 65537],
+    ) -> Result<(), Wrong> {
+        let mut word = [0u8; 4096];
+        let n = argument(rt, at, &mut word);
+        if n == 0 {
+            return Ok(());
+        }
+        let mut value = [0u8; 4096];
+        let m = argument(rt, next, &mut value);
+        match &word[..n] {
+            b"--settings" => self.take_settings(rt, &value[..m], room),
+            b"--edition" => self.take_number(&value[..m]),
+            b"--listing" => self.take_listing(&value[..m]),
+            _ => Err(Wrong),
+        }
     }
-    if same(word, b"2") {
-        next.listing = 2;
-        return Asked::By(next);
-    }
-    Asked::Wrong
-}
-
-// A word and its value, where they are there.
-fn take_pair(
-    rt: &(impl Files + Env),
-    at: usize,
-    next: usize,
-    e: Edition,
-    room: &mut [u8; 65537],
-) -> Asked {
-    let mut word = [0u8; 4096];
-    let n = argument(rt, at, &mut word);
-    if n == 0 {
-        return Asked::By(e);
-    }
-    let mut value = [0u8; 4096];
-    let m = argument(rt, next, &mut value);
-    if same(&word[..n], b"--settings") {
-        return take_settings(rt, &value[..m], e, room);
-    }
-    if same(&word[..n], b"--edition") {
-        return take_edition(&value[..m], e);
-    }
-    if same(&word[..n], b"--listing") {
-        return take_listing(&value[..m], e);
-    }
-    Asked::Wrong
-}
-
-// The text of the settings. No more was taken than there is room for.
-fn text_of(e: Edition, room: &[u8; 65537]) -> &[u8] {
-    let n = e.size;
-    let all = &room[..];
-    if all.len() < n {
-        return all;
-    }
-    &all[..n]
 }
 
 // Up to three arguments with their values, in any order.
-fn take_arguments(rt: &(impl Files + Env), room: &mut [u8; 65537]) -> Asked {
-    let first = Edition {
+fn take_arguments(rt: &(impl Files + Env), room: &mut [u8; 65537]) -> Result<Edition, Wrong> {
+    let mut edition = Edition {
         number: 1,
         size: 0,
         listing: 1,
     };
-    let Asked::By(one) = take_pair(rt, 1, 2, first, room) else {
-        return Asked::Wrong;
-    };
-    let Asked::By(two) = take_pair(rt, 3, 4, one, room) else {
-        return Asked::Wrong;
-    };
-    take_pair(rt, 5, 6, two, room)
+    for (at, next) in [(1, 2), (3, 4), (5, 6)] {
+        edition.take_pair(rt, at, next, room)?;
+    }
+    Ok(edition)
 }
 
 fn main(rt: HostRuntime) {
     let err = rt.stderr();
     let mut room = [0u8; 65537];
-    let Asked::By(edition) = take_arguments(&rt, &mut room) else {
-        say(
-            &err,
-            b"intake: the arguments are --settings FILE, --edition N and --listing 1 or 2\n",
+    let Ok(edition) = take_arguments(&rt, &mut room) else {
+        let _ = println!(err;
+            "intake: the arguments are --settings FILE, --edition N and --listing 1 or 2"
         );
         return;
     };
+    write_line(&rt, |room| listing::head_line(edition.listing, room));
     let mut buffer = [0u8; 16384];
-    let mut source = [0u8; 65537];
-    let mut ids = [0u32; 4096];
-    let mut starts = [0u32; 4096];
-    let mut ends = [0u32; 4096];
-    write_head(&rt, edition.listing);
-    let step = take_input(
-        &rt,
-        &mut rt.reader(),
-        &mut buffer,
-        &mut source,
-        &mut ids,
-        &mut starts,
-        &mut ends,
-    );
-    match step {
-        Step::Unread(number) => write_unread(&rt, number),
-        Step::On(t) => answer_taken(
-            &rt,
-            &err,
-            t,
-            text_of(edition, &room),
-            edition,
-            &source,
-            &ids,
-            &starts,
-            &ends,
-        ),
+    let mut taken = Taken::nothing();
+    match taken.take_input(&rt, &mut rt.reader(), &mut buffer) {
+        Ok(()) => answer(&rt, &err, &taken, &room[..edition.size], edition),
+        Err(UnreadLine(number)) => write_line(&rt, |room| listing::unread_line(number, room)),
     }
 }

@@ -20,6 +20,7 @@ use Rattle.definition.proofs.File.{items_end, items_step}
 use Rattle.definition.proofs.Takes.{item_takes}
 use Rattle.definition.proofs.Suffix.{chain}
 use Rattle.definition.proofs.Numbers.{brought, numbers_end, numbers_step, numbers_chain}
+use Rattle.notes.specs.declared.names.Notes.{Notes}
 use Rattle.notes.specs.Whole.{Whole}
 use Rattle.notes.specs.Bits.{ifb, bit_at, Forgot, Cached}
 use Rattle.notes.specs.Means.{Bufs, bufs, Past, Means, Stands, Rows, mode_of, recorded, over_of}
@@ -88,17 +89,6 @@ module _ (x : Source) (s : Whole) (ev er sc sc' : List ℕ) (f : Forgot s.first 
       let v = w.0.0 in
       ((record { here = v.here; since = le_refl _; far_in = omega (arith, v.here); want_in = omega arith; want_since = λ n. absurd (n refl); unwant_in = omega arith; unwant_since = λ n. absurd (n refl) }, w.0.1, w.0.2), record { events = w.1.events; errors = w.1.errors; scratch = omega (arith, w.1.scratch, e) })
 
--- the two ways through the end of an item, by the mode
-module _ (s : Whole) where
-  abbrev rested : ℕ → Whole
-  rested m = record { pos = s.pos; fuel = s.fuel; mode = m; ev = s.ev; evcap = s.evcap; full = s.full; want = 0; unwant = 0; count = s.count; mask = s.mask; codes = s.codes; er = s.er; ercap = s.ercap; item = s.item; first = s.pos; far = s.pos; quote = s.quote; number = s.number }
-
-  pub settles_failed : s.mode ≡ 1 → rested 0 ≡ settled s
-  settles_failed e = ap (λ (c : Bool). rested (ifb c 0 s.mode)) (sym (eq-eqb s.mode 1 e))
-
-  pub settles_other : (s.mode ≡ 1 → ⊥) → rested s.mode ≡ settled s
-  settles_other n = ap (λ (c : Bool). rested (ifb c 0 s.mode)) (sym (ne_eqb s.mode 1 n))
-
 -- ROOMS
 sticky_item : (L : Limits) (p : Past) (x : Source) (a : P.State) → Sticky p x a (P.item L a)
 unfolding over_of
@@ -150,12 +140,6 @@ numbers_not L (suc k) i n a h e = ap (λ (m : Mode). numbers L (suc k) i (P.turn
 module _ (n : ℕ) (s : Whole) where
   abbrev left : Bool → Bool → Bool
   left c d = ifb c (ifb d (leb n s.pos) true) true
-
-  pub over_full : (s.full ≡ 0 → ⊥) → true ≡ over n s
-  over_full h = ap (λ (c : Bool). left c (eqb s.mode 0)) (sym (ne_eqb s.full 0 h))
-
-  pub over_stopped : s.full ≡ 0 → (s.mode ≡ 0 → ⊥) → true ≡ over n s
-  over_stopped z h = ap₂ left (sym (eq-eqb s.full 0 z)) (sym (ne_eqb s.mode 0 h))
 
   pub over_rows : s.full ≡ 0 → s.mode ≡ 0 → leb n s.pos ≡ over n s
   over_rows z h = ap₂ left (sym (eq-eqb s.full 0 z)) (sym (eq-eqb s.mode 0 h))
@@ -237,13 +221,15 @@ replicate_add : (n m i : ℕ) → replicate n i ++ replicate m i ≡ replicate (
 replicate_add zero m i = ap (λ (k : ℕ). replicate k i) (sym (zero-add m))
 replicate_add (suc n) m i = ap (λ (l : List ℕ). i ∷ l) (replicate_add n m i) ∙ ap (λ (k : ℕ). replicate k i) (sym (suc-add n m))
 
--- where the item's number is noted
-pub item_wf : (o : ℕ) (x : Source) (b : Bufs) (s s₁ : Whole) → Rows x → o ≤ length x.ids → Wf x b s → s₁ ≡ with_number o s → Wf x b s₁
-item_wf o x b s s₁ rows low w e = subst (Wf x b) (sym e) ((w.0.0, w.0.1, record { events = w.0.2.events; since = w.0.2.since; errors = w.0.2.errors; numbered = omega (arith, low, rows.lines.few) }), w.1)
+-- the item's number is noted
+abbrev pub noting : ℕ → Notes → Notes
+noting o n = record { want = n.want; unwant = n.unwant; count = n.count; mask = n.mask; er = n.er; ercap = n.ercap; item = n.item; first = n.first; far = n.far; quote = n.quote; number = o; codes = n.codes }
 
--- d₁ is that state
-module _ {bounds : ℕ × Bool} (o : ℕ) (x : Source) (d h u r : Tally) (d₁ s : Whole) (ev ev₁ ev₂ ev₃ er er₂ sc sc₂ sc₃ : List ℕ) (rows : Rows x) (low : o ≤ length x.ids) (w : Wf x (bufs ev er sc) d.state) (st : Settled d.state) (ready : (d.state.full ≡ 0) × (d.state.mode ≡ 0) × (d.state.pos < length x.ids))
-    (starts : d₁ ≡ with_number o d.state) (T : Events P.trivia x d₁ s ev ev₁) (H : Hands bounds x s d.before h (bufs ev₁ er sc) (bufs ev₂ er₂ sc₂)) (U : Tells x h.state h.before u (bufs ev₂ er₂ sc₂) (bufs ev₃ er₂ sc₂))
+pub item_wf : (o : ℕ) (x : Source) (b : Bufs) (s : Whole) → Rows x → o ≤ length x.ids → Wf x b s → Wf x b (with_number o s)
+item_wf o x b s rows low w = ((w.0.0, w.0.1, record { events = w.0.2.events; since = w.0.2.since; errors = w.0.2.errors; numbered = omega (arith, low, rows.lines.few) }), w.1)
+
+module _ {bounds : ℕ × Bool} (o : ℕ) (x : Source) (d h u r : Tally) (s : Whole) (ev ev₁ ev₂ ev₃ er er₂ sc sc₂ sc₃ : List ℕ) (rows : Rows x) (low : o ≤ length x.ids) (w : Wf x (bufs ev er sc) d.state) (st : Settled d.state) (ready : (d.state.full ≡ 0) × (d.state.mode ≡ 0) × (d.state.pos < length x.ids))
+    (passed : Events P.trivia x (with_number o d.state) s ev ev₁) (H : Hands bounds x s d.before h (bufs ev₁ er sc) (bufs ev₂ er₂ sc₂)) (U : Tells x h.state h.before u (bufs ev₂ er₂ sc₂) (bufs ev₃ er₂ sc₂))
     (is : r.state ≡ settled u.state) (same : r.before ≡ u.before) (F : Forgot u.state.first u.state.far sc₂ sc₃) (long : length sc₃ ≡ length sc₂) where
   z : d.state.full ≡ 0
   z = ready.0
@@ -254,11 +240,8 @@ module _ {bounds : ℕ × Bool} (o : ℕ) (x : Source) (d h u r : Tally) (d₁ s
   l : d.state.pos < length x.ids
   l = ready.2
 
-  passed : Events P.trivia x (with_number o d.state) s ev ev₁
-  passed = subst (λ (y : Whole). Events P.trivia x y s ev ev₁) starts T
-
   w₁ : Wf x (bufs ev er sc) (with_number o d.state)
-  w₁ = item_wf o x (bufs ev er sc) d.state (with_number o d.state) rows low w refl
+  w₁ = item_wf o x (bufs ev er sc) d.state rows low w
 
   module _ (L : Limits) (E R : ℕ) (ns : List ℕ) (a : P.State) (i : reach L ≡ bounds) (B : Between L E R ns x d (bufs ev er sc) a) where
     abbrev p : Past

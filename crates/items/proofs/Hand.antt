@@ -17,7 +17,7 @@ use Rattle.definition.specs.Prog.{Prog}
 use Rattle.definition.specs.Grammar.{item_of}
 use Rattle.definition.specs.Run as P
 use Rattle.definition.specs.Run.{Choice, Limits, Next, end, other, hit}
-use Rattle.definition.specs.Render.{Source, records}
+use Rattle.definition.specs.Render.{Source}
 use Rattle.definition.proofs.Accept.{each_at}
 use Rattle.notes.specs.Whole.{Whole}
 use Rattle.notes.specs.Means.{Bufs, Past, Stands, Apart, recorded, over_of}

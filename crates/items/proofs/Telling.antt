@@ -24,7 +24,7 @@ use Rattle.notes.specs.Bits.{ifb}
 use Rattle.notes.specs.Means.{bufs, Past, recorded, Chosen, Means, Stands, over_of}
 use Rattle.notes.specs.Did.{Wf}
 use Rattle.notes.proofs.Core.{depth_is}
-use Rattle.notes.proofs.Rooms.{flat_append, flat_size, lengths, said_is, ev_count, fits, first_of, spill, full_first, exceeds_none, exceeds_events}
+use Rattle.notes.proofs.Rooms.{flat_append, flat_size, lengths, said_is, ev_count, first_of, spill, full_first, exceeds_none, exceeds_events}
 use Rattle.items.specs.Items.{Tally, most, notes, Flushed, with_item, tell, told, Numbered, Tells}
 use Rattle.items.proofs.Writing.{notes_one, notes_none}
 

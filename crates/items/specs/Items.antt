@@ -1,5 +1,5 @@
 -- Items: error events out of records, and the state between two items.
-use Rattle.std.specs.Prelude.{ℕ, zero, suc, ◌+◌, ◌-◌, ◌*◌, ◌≤◌, ◌<◌, ◌≡◌, List, [], ◌∷◌, ◌++◌, Bool, true, false, eqb, leb, ltb, length, take, set, replicate}
+use Rattle.std.specs.Prelude.{None, ℕ, zero, suc, ◌+◌, ◌-◌, ◌*◌, ◌≤◌, ◌<◌, ◌≡◌, List, [], ◌∷◌, ◌++◌, Bool, true, false, eqb, leb, ltb, length, take, replicate}
 use Rattle.kinds.specs.Kinds as k
 use Rattle.shapes.specs.Sort as Sort
 use Rattle.shapes.specs.Shapes.{EVENT, event, Owned, of_item, items_in, behind}
@@ -7,6 +7,7 @@ use Rattle.definition.specs.Run as P
 use Rattle.definition.specs.Run.{Limits}
 use Rattle.definition.specs.Render.{Source, numbers}
 use Rattle.definition.specs.Buffer.{next_depth}
+use Rattle.notes.specs.declared.names.Notes.{Notes}
 use Rattle.notes.specs.Whole.{Whole}
 use Rattle.notes.specs.Bits.{ifb}
 use Rattle.notes.specs.Change.{with_ev, with_full}
@@ -14,6 +15,7 @@ use Rattle.notes.specs.Means.{Bufs, Past, Stands, recorded}
 use Rattle.notes.specs.Did.{Wf}
 use Rattle.steps.specs.Steps.{whole}
 use Rattle.items.specs.declared.Desk.{Desk}
+use Rattle.shapes.specs.declared.mode.Mode.TheVariants.{Fine}
 use Rattle.grammar.specs.Parts.{reach}
 
 -- the state as a whole, and how many error events stand written
@@ -21,9 +23,9 @@ pub record Tally : Type 0 where
   pub state : Whole
   pub before : ℕ
 
--- the same of a desk with what the list notes
-abbrev pub tally : Desk → List ℕ → Tally
-tally d l = record { state = whole d.state l; before = d.before }
+-- the same of a desk with what is noted
+abbrev pub tally : Desk → Notes → Tally
+tally d n = record { state = whole d.state n; before = d.before }
 
 -- an index of 32 bits can be counted up to here
 abbrev pub most : ℕ
@@ -165,8 +167,8 @@ pub record Goes (bounds : ℕ × Bool) (i n : ℕ) (x : Source) (d r : Tally) (b
 
 -- before the first item
 abbrev pub blank : ℕ → ℕ → Desk
-blank fuel evcap = record { state = record { pos = 0; ev = 0; evcap = evcap; fuel = fuel; mode = 0; full = 0 }; before = 0 }
+blank fuel evcap = record { state = record { pos = 0; ev = 0; evcap = evcap; fuel = fuel; mode = Fine; full = None }; before = 0 }
 
 -- where nothing is noted but how many numbers of error records may be written, and how long a text may be to be quoted
-abbrev pub clean : ℕ → ℕ → List ℕ
-clean ercap quote = set (set (replicate 69 0) 5 ercap) 9 quote
+abbrev pub clean : ℕ → ℕ → Notes
+clean room long = record { want = 0; unwant = 0; count = 0; mask = 0; er = 0; ercap = room; item = 0; first = 0; far = 0; quote = long; number = 0; codes = replicate 58 0 }

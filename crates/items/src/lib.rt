@@ -1,24 +1,27 @@
 // Items, one after another.
 #![tactic(auto)]
 
-ghost use Rattle.std.specs.Prelude.{◌≡◌, List, [], ℕ, ◌*◌, ◌≤◌, ◌<◌, length};
+ghost use Rattle.std.specs.Prelude.{◌≡◌, None, List, ℕ, ◌-◌, ◌*◌, ◌≤◌, ◌<◌, length, take, drop};
 ghost use Rattle.definition.specs.Render.{Source};
-ghost use Rattle.notes.specs.Whole.{er_of, ercap_of, far_of, first_of, item_of};
+ghost use Rattle.notes.specs.declared.names.Notes.{Notes};
+ghost use Rattle.notes.specs.Whole.{fresh};
 ghost use Rattle.notes.specs.Bits.{Forgot};
-ghost use Rattle.notes.specs.Means.{source, bufs, Lines, Rows};
+ghost use Rattle.notes.specs.Means.{bufs};
+ghost use Rattle.notes.specs.Reading.{source_of, bufs_of, SameLists};
 ghost use Rattle.notes.specs.Did.{Wf, Coded};
-ghost use Rattle.steps.specs.Steps.{whole, Tabled, Fits, Ready, Writes};
+ghost use Rattle.steps.specs.Steps.{whole, Fits, Ready, Writes};
 ghost use Rattle.items.specs.Items as Items;
 ghost use Rattle.items.specs.Items.{tally, Flushed, Tells, Strays, Hands, Goes, Settled, settled, junk_node};
 
 use choice::record;
 use grammar::rules::read_item;
-use kinds::{kind, set, within};
+use kinds::{Kind, has, set};
 use notes::cache::forget;
-use notes::names::{ER, FAR, FIRST, ITEM, NUMBER, UNWANT, WANT};
-use notes::rows::start_of;
+use notes::names::Notes;
+use notes::reading::{Given, Lent};
+use shapes::mode::Mode;
 use shapes::record::{END, HEAD, next_record};
-use shapes::{mode, sort};
+use shapes::sort::Sort;
 use steps::state::{State, around};
 
 // The state, and how many error events stand written.
@@ -28,10 +31,11 @@ pub struct Desk {
     pub before: u32,
 }
 
-// Writes the events of an item's records, the first with index `before`. The index stays within its bits, whatever stands in the records.
+// Writes the events of an item's records, the first with index `before`. The index stays within its bits, whatever stands in the records. Records are not of
+// one length, so each says where the next begins.
 pub fn flush(mut s: State, before: u32, records: &[u32], events: &mut [u32]) -> Desk
     requires { Fits s events.old }
-    ensures { (l : List ℕ) → Flushed records.now before (whole s l) (tally result l) events.old events.new }
+    ensures { (n : Notes) → Flushed records.now before (whole s n) (tally result n) events.old events.new }
 {
     let depth = around(s.ev, events);
     let mut at = 0;
@@ -45,7 +49,7 @@ pub fn flush(mut s: State, before: u32, records: &[u32], events: &mut [u32]) -> 
         }
         let start = records[at];
         let end = records[at + END];
-        s = s.write(sort::ERROR, index, start, end, depth, events);
+        s = s.write(Sort::Error, index, start, end, depth, events);
         index += 1;
         at = next_record(records, at);
     }
@@ -55,149 +59,117 @@ pub fn flush(mut s: State, before: u32, records: &[u32], events: &mut [u32]) -> 
     }
 }
 
-// Writes the pending errors as events; from then on they are no more pending.
-pub fn tell(
+// Writes the events of the records that stand between two places of the list, which stays as it was.
+fn pending(
     s: State,
     before: u32,
-    errors: &[u32],
+    from: usize,
+    to: usize,
+    errors: &mut [u32],
     events: &mut [u32],
-    notes: &mut [usize; 69],
 ) -> Desk
-    requires { Fits s events.old × (item_of notes.old ≤ er_of notes.old) × (er_of notes.old ≤ length errors.now) }
-    ensures { (x : Source) (sc : List ℕ) → Wf x (bufs events.old errors.now sc) (whole s notes.old)
-        → Tells x (whole s notes.old) before (tally result notes.new) (bufs events.old errors.now sc)
-        (bufs events.new errors.now sc) }
+    requires { Fits s events.old × (from ≤ to) × (to ≤ length errors.old) }
+    ensures { ((n : Notes) → Flushed (take (to - from) (drop from errors.old)) before (whole s n) (tally result n) events.old events.new)
+        × (errors.new ≡ errors.old) }
 {
-    let item = notes[ITEM];
-    let er = notes[ER];
-    let d = flush(s, before, &errors[item..er], events);
-    notes[ITEM] = er;
+    flush(s, before, &errors[from..to], events)
+}
+
+// Writes the pending errors as events; from then on they are no more pending.
+pub fn tell(s: State, before: u32, lent: &mut Lent<'_>) -> Desk
+    requires { Fits s lent.old.events.now
+        × (lent.old.notes.item ≤ lent.old.notes.er)
+        × (lent.old.notes.er ≤ length lent.old.errors.now) }
+    ensures told { (x : Source) (sc : List ℕ) → Wf x (bufs lent.old.events.now lent.old.errors.now sc) (whole s lent.old.notes)
+        → Tells x (whole s lent.old.notes) before (tally result lent.new.notes) (bufs lent.old.events.now lent.old.errors.now sc)
+        (bufs lent.new.events.now lent.old.errors.now sc) }
+    ensures errors { lent.new.errors.now ≡ lent.old.errors.now }
+    ensures scratch { lent.new.scratch ≡ lent.old.scratch }
+    ensures lists { SameLists lent.old lent.new }
+{
+    let item = lent.notes.item;
+    let er = lent.notes.er;
+    let d = pending(s, before, item, er, lent.errors, lent.events);
+    lent.notes.item = er;
     d
 }
 
 // An ERROR node up to the next rule, without fuel.
-pub fn junk(
-    mut s: State,
-    ids: &[u32],
-    ends: &[u32],
-    events: &mut [u32],
-    sets: &[[u64; 2]; 56],
-) -> State
-    requires { Lines ids.now ends.now × Fits s events.old × (s.pos ≤ length ids.now) × Tabled sets.now }
-    ensures { Writes junk_node ids.now ends.now s result events.old events.new }
+pub fn junk(mut s: State, x: &Given<'_>, events: &mut [u32]) -> State
+    requires { Fits s events.old × (s.pos ≤ length x.now.ids.now) }
+    ensures { Writes junk_node x.now s result events.old events.new }
 {
     let from = s.pos;
-    let start = start_of(from, ends);
-    s = s.put(sort::BEGIN, 0, start, start, events);
+    let start = x.start_of(from);
+    s = s.put(Sort::Begin, 0, start, start, events);
     let at = s.ev;
-    s = s.skip_to(set::RULE_KEYWORDS, ids, ends, events, sets);
-    s.shut(kind::ERROR, from, at, ends, events)
+    s = s.skip_to(set::RULE_KEYWORDS, x, events);
+    s.shut(u32::from(Kind::Error), from, at, x, events)
 }
 
 // A row that begins no item: error form 10 on it, its record before its event, and an ERROR node.
-pub fn stray(
-    mut s: State,
-    before: u32,
-    ids: &[u32],
-    ends: &[u32],
-    events: &mut [u32],
-    errors: &mut [u32],
-    notes: &mut [usize; 69],
-    sets: &[[u64; 2]; 56],
-) -> Desk
-    requires { Ready ids.now ends.now s notes.old events.old
-        × (ercap_of notes.old ≤ length errors.old)
-        × (s.pos < length ids.now)
-        × (s.full ≡ 0)
-        × Tabled sets.now }
-    ensures { (bytes sc : List ℕ)
-        → Wf (source bytes ids.now ends.now) (bufs events.old errors.old sc)
-        (whole s notes.old)
-        → Strays (source bytes ids.now ends.now) (whole s notes.old) before (tally result notes.new)
-        (bufs events.old errors.old sc) (bufs events.new errors.new sc) }
+pub fn stray(mut s: State, before: u32, x: &Given<'_>, lent: &mut Lent<'_>) -> Desk
+    requires { Ready x.now s lent.old
+        × (lent.old.notes.ercap ≤ length lent.old.errors.now)
+        × (s.pos < length x.now.ids.now)
+        × (s.full ≡ None) }
+    ensures written { (sc : List ℕ) → Wf (source_of x.now) (bufs lent.old.events.now lent.old.errors.now sc) (whole s lent.old.notes)
+        → Strays (source_of x.now) (whole s lent.old.notes) before (tally result lent.new.notes)
+        (bufs lent.old.events.now lent.old.errors.now sc)
+        (bufs lent.new.events.now lent.new.errors.now sc) }
+    ensures scratch { lent.new.scratch ≡ lent.old.scratch }
+    ensures lists { SameLists lent.old lent.new }
 {
     let at = s.pos;
-    let start = start_of(at, ends);
-    let end = ends[at];
-    s.full = record(start, end, 10, 0, [0u8; 96], errors, notes);
-    let d = tell(s, before, errors, events, notes);
-    let t = junk(d.state, ids, ends, events, sets);
+    let start = x.start_of(at);
+    let end = x.ends[at];
+    s.full = record(start, end, 10, &[], lent.errors, &mut lent.notes);
+    let d = tell(s, before, lent);
     Desk {
-        state: t,
+        state: junk(d.state, x, lent.events),
         before: d.before,
     }
 }
 
 // By the row at hand: an item, or a row that begins none; or nothing is left.
-pub fn at_hand(
-    s: State,
-    before: u32,
-    depth: usize,
-    src: &[u8],
-    ids: &[u32],
-    ends: &[u32],
-    events: &mut [u32],
-    errors: &mut [u32],
-    scratch: &mut [u64],
-    notes: &mut [usize; 69],
-    entrypoint: bool,
-    sets: &[[u64; 2]; 56],
-) -> Desk
-    requires { Rows (source src.now ids.now ends.now)
-        × Wf (source src.now ids.now ends.now) (bufs events.old errors.old scratch.old) (whole s notes.old)
-        × Tabled sets.now }
-    ensures { Hands (depth, entrypoint) (source src.now ids.now ends.now) (whole s notes.old) before
-        (tally result notes.new) (bufs events.old errors.old scratch.old)
-        (bufs events.new errors.new scratch.new) }
+pub fn at_hand(s: State, before: u32, depth: usize, x: &Given<'_>, lent: &mut Lent<'_>) -> Desk
+    requires { Wf (source_of x.now) (bufs_of lent.old) (whole s lent.old.notes) }
+    ensures read { Hands (depth, x.now.entrypoint) (source_of x.now) (whole s lent.old.notes) before
+        (tally result lent.new.notes) (bufs_of lent.old) (bufs_of lent.new) }
+    ensures lists { SameLists lent.old lent.new }
 {
-    if s.full != 0 {
-        return Desk {
-            state: s,
-            before: before,
-        };
+    if s.full.is_some() {
+        return Desk { state: s, before };
     }
     let at = s.pos;
-    if at >= ids.len() {
+    if at >= x.ids.len() {
+        return Desk { state: s, before };
+    }
+    let id = x.ids[at];
+    if has(set::RULE_OR_IMPORT, id) {
         return Desk {
-            state: s,
-            before: before,
+            state: read_item(id, s, depth, x, lent),
+            before,
         };
     }
-    let id = ids[at];
-    if within(set::RULE_OR_IMPORT, id, sets) {
-        let t = read_item(
-            id, s, depth, entrypoint, src, ids, ends, events, errors, scratch, notes, sets,
-        );
-        return Desk {
-            state: t,
-            before: before,
-        };
-    }
-    stray(s, before, ids, ends, events, errors, notes, sets)
+    stray(s, before, x, lent)
 }
 
 // What an item leaves behind is given up, but for place, fuel and outputs.
-pub fn settle(d: Desk, scratch: &mut [u64], notes: &mut [usize; 69]) -> Desk
-    requires { (2 * far_of notes.old ≤ 64 * length scratch.old) × Coded notes.old }
+pub fn settle(d: Desk, scratch: &mut [u64], notes: &mut Notes) -> Desk
+    requires { (2 * notes.old.far ≤ 64 * length scratch.old) × Coded notes.old }
     ensures { (whole result.state notes.new ≡ settled (whole d.state notes.old))
         × (result.before ≡ d.before)
-        × Forgot (first_of notes.old) (far_of notes.old) scratch.old scratch.new }
+        × Forgot (notes.old.first) (notes.old.far) scratch.old scratch.new }
 {
     let mut s = d.state;
-    let from = notes[FIRST];
-    let to = notes[FAR];
-    forget(from, to, scratch);
-    let at = s.pos;
-    notes[FIRST] = at;
-    notes[FAR] = at;
-    notes[WANT] = 0;
-    notes[UNWANT] = 0;
-    if s.mode == mode::FAILED {
-        s.mode = mode::OK;
-        return Desk {
-            state: s,
-            before: d.before,
-        };
+    forget(notes.first, notes.far, scratch);
+    notes.first = s.pos;
+    notes.far = s.pos;
+    notes.want = 0;
+    notes.unwant = 0;
+    if s.mode == Mode::Failed {
+        s.mode = Mode::Fine;
     }
     Desk {
         state: s,
@@ -206,99 +178,51 @@ pub fn settle(d: Desk, scratch: &mut [u64], notes: &mut [usize; 69]) -> Desk
 }
 
 // Whether no item is to be read: a room was exceeded, the reader stopped, or no row is left.
-pub fn over(s: State, ids: &[u32]) -> bool
-    ensures { result ≡ Items.over (length ids.now) (whole s []) }
+pub fn over(s: State, x: &Given<'_>) -> bool
+    ensures { result ≡ Items.over (length x.now.ids.now) (whole s fresh) }
 {
-    if s.full != 0 {
+    if s.full.is_some() {
         return true;
     }
-    if s.mode != mode::OK {
+    if s.mode != Mode::Fine {
         return true;
     }
-    s.pos >= ids.len()
+    s.pos >= x.ids.len()
 }
 
 // One item with its number, if the state is in good order and rows are left.
-pub fn item(
-    d: Desk,
-    number: usize,
-    depth: usize,
-    src: &[u8],
-    ids: &[u32],
-    ends: &[u32],
-    events: &mut [u32],
-    errors: &mut [u32],
-    scratch: &mut [u64],
-    notes: &mut [usize; 69],
-    entrypoint: bool,
-    sets: &[[u64; 2]; 56],
-) -> Desk
-    requires { Rows (source src.now ids.now ends.now)
-        × Wf (source src.now ids.now ends.now) (bufs events.old errors.old scratch.old) (whole d.state notes.old)
-        × Settled (whole d.state notes.old)
-        × (number ≤ length ids.now)
-        × Tabled sets.now }
-    ensures { Goes (depth, entrypoint) number 1 (source src.now ids.now ends.now) (tally d notes.old)
-        (tally result notes.new) (bufs events.old errors.old scratch.old)
-        (bufs events.new errors.new scratch.new) }
+pub fn item(d: Desk, number: usize, depth: usize, x: &Given<'_>, lent: &mut Lent<'_>) -> Desk
+    requires { Wf (source_of x.now) (bufs_of lent.old) (whole d.state lent.old.notes)
+        × Settled (whole d.state lent.old.notes)
+        × (number ≤ length x.now.ids.now) }
+    ensures read { Goes (depth, x.now.entrypoint) number 1 (source_of x.now) (tally d lent.old.notes)
+        (tally result lent.new.notes) (bufs_of lent.old) (bufs_of lent.new) }
+    ensures lists { SameLists lent.old lent.new }
 {
     let s = d.state;
-    if over(s, ids) {
+    if over(s, x) {
         return d;
     }
-    notes[NUMBER] = number;
-    let t = s.trivia(ids, ends, events);
-    let h = at_hand(
-        t, d.before, depth, src, ids, ends, events, errors, scratch, notes, entrypoint, sets,
-    );
-    let u = tell(h.state, h.before, errors, events, notes);
-    settle(u, scratch, notes)
+    lent.notes.number = number;
+    let t = s.trivia(x, lent.events);
+    let h = at_hand(t, d.before, depth, x, lent);
+    let u = tell(h.state, h.before, lent);
+    settle(u, lent.scratch, &mut lent.notes)
 }
 
 // All items, numbered from 1: each takes a row, so there are no more of them than rows.
-pub fn items(
-    mut d: Desk,
-    depth: usize,
-    src: &[u8],
-    ids: &[u32],
-    ends: &[u32],
-    events: &mut [u32],
-    errors: &mut [u32],
-    scratch: &mut [u64],
-    notes: &mut [usize; 69],
-    entrypoint: bool,
-    sets: &[[u64; 2]; 56],
-) -> Desk
-    requires { Rows (source src.now ids.now ends.now)
-        × Wf (source src.now ids.now ends.now) (bufs events.old errors.old scratch.old) (whole d.state notes.old)
-        × Settled (whole d.state notes.old)
-        × Tabled sets.now }
-    ensures { Goes (depth, entrypoint) 1 (length ids.now)
-        (source src.now ids.now ends.now)
-        (tally d notes.old) (tally result notes.new)
-        (bufs events.old errors.old scratch.old)
-        (bufs events.new errors.new scratch.new) }
+pub fn items(mut d: Desk, depth: usize, x: &Given<'_>, lent: &mut Lent<'_>) -> Desk
+    requires { Wf (source_of x.now) (bufs_of lent.old) (whole d.state lent.old.notes)
+        × Settled (whole d.state lent.old.notes) }
+    ensures read { Goes (depth, x.now.entrypoint) 1 (length x.now.ids.now) (source_of x.now)
+        (tally d lent.old.notes) (tally result lent.new.notes) (bufs_of lent.old) (bufs_of lent.new) }
+    ensures lists { SameLists lent.old lent.new }
 {
-    let mut n = ids.len();
-    while n > 0 {
-        if over(d.state, ids) {
+    for number in 0..x.ids.len() {
+        if over(d.state, x) {
             return d;
         }
-        d = item(
-            d,
-            ids.len() - n + 1,
-            depth,
-            src,
-            ids,
-            ends,
-            events,
-            errors,
-            scratch,
-            notes,
-            entrypoint,
-            sets,
-        );
-        n -= 1;
+        d = item(d, number + 1, depth, x, lent);
     }
     d
 }

@@ -8,9 +8,12 @@ use native.Mathlib.Decide.{dec_lt}
 use native.Mathlib.Omega.{arith}
 use borrow.Author.Tests.{eqb-true, ne_eqb}
 use lib.Dec.{eqb}
+use Rattle.std.proofs.Common.{cond, ◌==◌}
+use Rattle.std.specs.Prelude.{Some}
+use Rattle.std.specs.List.{find}
+use Rattle.std.specs.Option.{unwrap_or}
 use Rattle.kinds.specs.Sets.{id_of, pick, set_of}
-use Rattle.kinds.specs.Answers.{is_some, matched_of, kind_in}
-use Rattle.kinds.specs.declared.answer.Matched.TheVariants as m
+use Rattle.kinds.specs.Answers.{is_some, kind_in}
 use Rattle.kinds.proofs.Order.{set_none}
 use Rattle.kinds.proofs.Tables.{both, both_left, both_right, all, all_sound}
 
@@ -18,22 +21,18 @@ use Rattle.kinds.proofs.Tables.{both, both_left, both_right, all, all_sound}
 abbrev or_id : ℕ → Option ℕ → ℕ
 or_id i o = elim o [ none ↦ i | some a ↦ a ]
 
--- the search's answer
-pub found : (s i a : ℕ) → m.Kind a ≡ matched_of (pick (set_of s) i) → a ≡ kind_in s i
+-- the first kind with the id, by the library's `find`
+pub found : (s i : ℕ) → unwrap_or (find (λ a. i == id_of a) (set_of s)) i ≡ kind_in s i
 unfolding kind_in
-found s i a e = go (pick (set_of s) i) e
+found s i = go (set_of s)
   where
-    go : (o : Option ℕ) → m.Kind a ≡ matched_of o → a ≡ or_id i o
-    go none e = cc
-    go (some b) e = cc
-
-pub not_found : (s i : ℕ) → m.Nothing ≡ matched_of (pick (set_of s) i) → i ≡ kind_in s i
-unfolding kind_in
-not_found s i e = go (pick (set_of s) i) e
-  where
-    go : (o : Option ℕ) → m.Nothing ≡ matched_of o → i ≡ or_id i o
-    go none e = refl
-    go (some b) e = cc
+    go : (S : List ℕ) → unwrap_or (find (λ a. i == id_of a) S) i ≡ or_id i (pick S i)
+    go [] = refl
+    go (a ∷ S) =
+        elim (eqb i (id_of a)) as (λ b. unwrap_or (cond b (Some a) (find (λ x. i == id_of x) S)) i ≡ or_id i (elim b [ true ↦ some a | false ↦ pick S i ])) [
+          | true ↦ refl
+          | false ↦ go S
+        ]
 
 -- where a set has the id, its first kind that has it
 pub kind_in_right : (s i : ℕ) → is_some (pick (set_of s) i) ≡ true → pick (set_of s) i ≡ some (kind_in s i)

@@ -1,19 +1,7 @@
 -- What the answers of this crate stand for.
-use Rattle.std.specs.Prelude.{ℕ, zero, suc, ◌+◌, ◌-◌, ◌/◌, ◌%◌, ◌^◌, ◌≤◌, ◌≡◌, List, [], ◌∷◌, ◌++◌, map, Bool, true, false, eqb, length, get_or, take, drop}
+use Rattle.std.specs.Prelude.{ℕ, ◌+◌, ◌-◌, ◌/◌, ◌%◌, ◌^◌, ◌≤◌, ◌≡◌, List, [], ◌∷◌, ◌++◌, map, Bool, true, false, eqb, length, get_or, take, drop}
 use Rattle.std.proofs.Math.Option.{Option, none, some}
 use Rattle.kinds.specs.Sets.{id_of, pick, sets, set_of}
-use Rattle.kinds.specs.declared.answer.Matched.{Matched}
-use Rattle.kinds.specs.declared.answer.Matched.TheVariants as m
-use Rattle.kinds.specs.declared.answer.Name.{Name}
-use Rattle.kinds.specs.declared.answer.Name.TheVariants as n
-
-abbrev pub matched_of : Option ℕ → Matched
-matched_of none = m.Nothing
-matched_of (some a) = m.Kind a
-
-abbrev pub name_of : Option ℕ → Name
-name_of none = n.Nothing
-name_of (some a) = n.Is a
 
 abbrev pub is_some : Option ℕ → Bool
 is_some none = false
@@ -41,19 +29,10 @@ abbrev pub joined : List (List ℕ) → List ℕ
 joined [] = []
 joined (S ∷ Ss) = S ++ joined Ss
 
--- the kinds of all sets
-abbrev pub order : List ℕ
-order = joined sets
-
 -- where each list begins when the first begins at n, and where the last ends
 abbrev pub starts : ℕ → List (List ℕ) → List ℕ
 starts n [] = n ∷ []
 starts n (L ∷ Ls) = n ∷ starts (n + length L) Ls
-
--- the number i is none of those below n, as the last arm of a `match` on each of them knows it
-abbrev pub NoneBelow : ℕ → ℕ → Type 0
-NoneBelow zero i = Unit
-NoneBelow (suc n) i = NoneBelow n i × (i ≡ n → ⊥)
 
 -- the list l stands in the whole at from up to to
 pub record PartOf (whole l : List ℕ) (from to : ℕ) : Type 0 where

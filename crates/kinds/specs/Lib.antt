@@ -3,3 +3,4 @@ pub mod Sets
 pub mod Answers
 pub mod Texts
 pub mod Spelling
+pub mod Numbers

@@ -1,5 +1,6 @@
 -- How kinds and names are spelled: as docs/KINDS.md has them, in bytes.
 use Rattle.std.specs.Prelude.{ℕ, ◌≤◌, ◌≡◌, List, [], ◌∷◌, ◌++◌, map, length, get_or, take, drop}
+use Rattle.std.proofs.Common.{Bor}
 use Prim.Native.Char.{code}
 use Prim.Native.String as s
 use Rattle.kinds.specs.Texts as t
@@ -25,6 +26,10 @@ kind_text k = get_or kind_texts k []
 
 unfoldable pub name_text : ℕ → List ℕ
 name_text n = get_or name_texts n []
+
+-- the n-th of a table's texts, and the empty text past the last
+abbrev pub nth : List (Bor (List ℕ)) → ℕ → List ℕ
+nth ts n = get_or (map (λ (t : Bor (List ℕ)). t.now) ts) n []
 
 -- r bytes were written at the front of the room, and the rest is as it was.
 -- The last two follow, and are stated so that a caller may lend that front without a proof of its own.

@@ -1,23 +1,20 @@
 // Ids, kinds and token sets.
 #![tactic(auto)]
 
-ghost use Rattle.std.specs.Prelude.{◌≡◌, [], get_or};
-ghost use Rattle.std.proofs.Math.ListN.{get_elem?};
-ghost use Rattle.kinds.specs.Sets.{is_id, trivial, id_of, kind_of, pick, ids_of, set_of};
-ghost use Rattle.kinds.specs.Answers.{matched_of, name_of, in_pair, kind_in, order, PartOf};
+ghost use Rattle.std.specs.Prelude.{◌≡◌, ◌==◌, [], get_or, slice_get};
+ghost use Rattle.std.specs.List.{find};
+ghost use Rattle.kinds.specs.Sets.{is_id, trivial, id_of, kind_of, ids_of, pick, set_of};
+ghost use Rattle.kinds.specs.Answers.{is_some, in_pair, kind_in};
 
-mod answer;
-pub mod id;
-pub mod kind;
+mod kind;
 pub mod name;
 pub mod set;
 mod table;
 mod text;
 
-use answer::Matched;
-pub use answer::Name;
+pub use kind::Kind;
 pub use table::SETS;
-use table::{begins, ordered};
+use table::kinds_of;
 pub use text::{spell_kind, spell_name};
 
 pub fn is_id(n: u32) -> bool
@@ -32,16 +29,28 @@ pub fn is_trivia(id: u32) -> bool
     id < 3
 }
 
+// The kinds that share an id, and the kinds whose number that id is.
+const MINUS: u32 = Kind::Minus as u32;
+
+const SUB: u32 = Kind::Sub as u32;
+
+const MUL: u32 = Kind::Mul as u32;
+
+const MOD: u32 = Kind::Mod as u32;
+
+const BITWISE_OR: u32 = Kind::BitwiseOr as u32;
+
 // The id that the rows of a token kind have.
+#[tactic(auto, unfolding(crate::specs::Sets::id_of))]
 pub fn id_of(kind: u32) -> u32
     ensures { result ≡ id_of kind }
 {
     match kind {
-        kind::MINUS => kind::HYPHEN,
-        kind::SUB => kind::HYPHEN,
-        kind::MUL => kind::ASTERISK,
-        kind::MOD => kind::PERCENT,
-        kind::BITWISE_OR => kind::PIPE,
+        MINUS => Kind::Hyphen as u32,
+        SUB => Kind::Hyphen as u32,
+        MUL => Kind::Asterisk as u32,
+        MOD => Kind::Percent as u32,
+        BITWISE_OR => Kind::Pipe as u32,
         _ => kind,
     }
 }
@@ -68,84 +77,46 @@ pub fn member(pair: [u64; 2], id: u32) -> bool
     false
 }
 
-// Whether the set has a kind with the id, by a table of pairs that is lent: one that is named here would be laid out anew at each call.
+// Whether the set has a kind with the id, by the table of pairs that is lent.
 pub fn within(set: usize, id: u32, sets: &[[u64; 2]; 56]) -> bool
     ensures { result ≡ in_pair (get_or sets.now set []) id }
 {
-    let table = &sets[..];
-    if set < table.len() {
-        let pair = table[set];
-        return member(pair, id);
+    if set < sets.len() {
+        return member(sets[set], id);
     }
     false
 }
 
-// Where a set stands in the order of all kinds.
-#[derive(Drop)]
-struct Part {
-    from: usize,
-    to: usize,
-}
-
-fn place(set: usize) -> Part
-    ensures { PartOf order (set_of set) result.from result.to }
+// Whether a set has a kind with the id.
+pub fn has(set: usize, id: u32) -> bool
+    ensures { result ≡ is_some (pick (set_of set) id) }
 {
-    if set < 56 {
-        return Part {
-            from: begins(set),
-            to: begins(set + 1),
-        };
-    }
-    Part { from: 0, to: 0 }
+    within(set, id, &SETS)
 }
 
 // The first kind in the set that has the id.
-fn matched(set: usize, id: u32) -> Matched
-    ensures { result ≡ matched_of (pick (set_of set) id) }
+fn matched(set: usize, id: u32) -> Option<u32>
+    ensures { result ≡ find (λ a. id == id_of a) (set_of set) }
 {
-    let p = place(set);
-    let to = p.to;
-    let mut i = p.from;
-    while i < to {
-        let kind = ordered(i);
-        if id_of(kind) == id {
-            return Matched::Kind(kind);
-        }
-        i += 1;
-    }
-    Matched::Nothing
+    kinds_of(set)
+        .iter()
+        .copied()
+        .find(|kind| id == id_of(*kind))
 }
 
 // The kind that a set names for an id that it has. Only in two sets does a kind have another number than its id, so only they are searched.
 pub fn kind_in(set: usize, id: u32) -> u32
     ensures { result ≡ kind_in set id }
 {
-    if set == set::MINUS {
-        return searched(set, id);
-    }
-    if set == set::ARITHMETIC {
-        return searched(set, id);
+    if set == set::MINUS || set == set::ARITHMETIC {
+        return matched(set, id).unwrap_or(id);
     }
     id
 }
 
-fn searched(set: usize, id: u32) -> u32
-    ensures { result ≡ kind_in set id }
-{
-    let Matched::Kind(kind) = matched(set, id) else {
-        return id;
-    };
-    kind
-}
-
 // The k-th, from 0, of the names that the set enters.
-pub fn name_at(set: usize, k: usize) -> Name
-    ensures { result ≡ name_of (get_elem? (ids_of (set_of set)) k) }
+pub fn name_at(set: usize, k: usize) -> Option<u32>
+    ensures { result ≡ slice_get (ids_of (set_of set)) k }
 {
-    let p = place(set);
-    let from = p.from;
-    if k < p.to - from {
-        return Name::Is(id_of(ordered(from + k)));
-    }
-    Name::Nothing
+    kinds_of(set).get(k).map(|kind| id_of(*kind))
 }

@@ -1,7 +1,7 @@
 -- Parts of the grammar's lines of modifiers, tags and meta that have a function of their own.
 use Rattle.std.specs.Prelude.{[], ◌∷◌}
 use Rattle.kinds.specs.Kinds as k
-use Rattle.definition.specs.Prog.{Prog, RULE_MODS, RULE_TAGS, META_BLK, META_DEF, ifnext, opt, many, ◌⨟◌, ◌⫽◌, last, recover, node}
+use Rattle.definition.specs.Prog.{Prog, RULE_MODS, RULE_TAGS, META_BLK, META_DEF, ifnext, opt, ◌⨟◌, ◌⫽◌, last, recover, node}
 use Rattle.definition.specs.Grammar.{set, one, some}
 
 -- of RULE_DECL
@@ -15,14 +15,8 @@ abbrev pub metas : Prog
 metas = ifnext (k.META_KW ∷ []) (node META_BLK ⨟ recover (k.STRINGS_KW ∷ k.CONDITION_KW ∷ []))
 
 -- of RULE_TAGS, META_BLK and META_DEF
-abbrev pub more_idents : Prog
-more_idents = many (one k.IDENT)
-
 abbrev pub idents : Prog
 idents = some (one k.IDENT)
-
-abbrev pub more_metas : Prog
-more_metas = many (node META_DEF)
 
 abbrev pub meta_defs : Prog
 meta_defs = some (node META_DEF)

@@ -4,12 +4,12 @@ use mathlib.Core.Path.{◌≡◌, refl, sym, ap, ◌∙◌}
 use mathlib.Core.Logic.{⊎_elim}
 use mathlib.Core.List.{List, [], ◌∷◌, ◌++◌}
 use mathlib.Core.Bool.{Bool, true, false, cond, ◌&&◌}
-use mathlib.Core.Option.{none, some}
+use Rattle.std.specs.Prelude.{Some, None}
 use native.Mathlib.Nat.{pow-succ'}
 use native.Mathlib.Numerals.{add-one}
 use native.Mathlib.Omega.{arith}
-use borrow.Author.Tests.{lt-ltb, le-ltb, le-leb, lt-leb}
-use lib.Dec.{ltb}
+use borrow.Author.Tests.{lt-ltb, le-ltb, le-leb, eqb-true, eqb-false}
+use lib.Dec.{eqb, ltb}
 use lib.ListN.{length, get_or, drop, length-append, drop_of_length-le}
 use lib.Seq.{drop-cons}
 use Rattle.listing.proofs.Either.{either}
@@ -32,39 +32,33 @@ onward_least (b ∷ bs) n = omega (arith, onward_least bs (n * 10 + (b - 48)))
 is_digit_lem : (b : ℕ) → 48 ≤ b → b ≤ 57 → is_digit b ≡ true
 is_digit_lem b l h = rw (le-leb 48 b l, le-leb b 57 h)
 
-too_low : (b : ℕ) → b < 48 → is_digit b ≡ false
-too_low b h = rw (lt-leb 48 b h)
-
-too_high : (b : ℕ) → 57 < b → is_digit b ≡ false
-too_high b h = rw (le-leb 48 b (omega arith), lt-leb b 57 h)
-
-no_number : (bs : List ℕ) → is_number bs ≡ false → number bs ≡ none
+no_number : (bs : List ℕ) → is_number bs ≡ false → number bs ≡ None
 unfolding number
-no_number bs e = ap (λ (t : Bool). cond t (some (value bs)) none) e
+no_number bs e = ap (λ (t : Bool). cond t (Some (value bs)) None) e
 
-pub empty : (bs : List ℕ) → length bs ≡ 0 → number bs ≡ none
+pub empty : (bs : List ℕ) → eqb (length bs) 0 ≡ true → number bs ≡ None
 empty [] e = no_number [] refl
-empty (b ∷ bs) e = absurd (omega arith)
+empty (b ∷ bs) e = absurd (omega (arith, eqb-true (length (b ∷ bs)) 0 e))
 
 and_false : (t : Bool) → (t && false) ≡ false
 and_false true = refl
 and_false false = refl
 
 -- a test that fails on digits or size fails for the text, which has a byte
-not_digits : (bs : List ℕ) → 0 < length bs → all_digits bs ≡ false → number bs ≡ none
+not_digits : (bs : List ℕ) → 0 < length bs → all_digits bs ≡ false → number bs ≡ None
 not_digits [] h e = absurd (omega arith)
 not_digits (b ∷ bs) h e = no_number (b ∷ bs) (ap (λ (t : Bool). t && ltb (value (b ∷ bs)) (2 ^ 32)) e)
 
-too_large : (bs : List ℕ) → 0 < length bs → 2 ^ 32 ≤ value bs → number bs ≡ none
+too_large : (bs : List ℕ) → 0 < length bs → 2 ^ 32 ≤ value bs → number bs ≡ None
 too_large [] h k = absurd (omega arith)
 too_large (b ∷ bs) h k = no_number (b ∷ bs) (ap (λ (t : Bool). all_digits (b ∷ bs) && t) (le-ltb _ (2 ^ 32) k) ∙ and_false (all_digits (b ∷ bs)))
 
-whole : (bs : List ℕ) → 0 < length bs → all_digits bs ≡ true → value bs < 2 ^ 32 → number bs ≡ some (value bs)
+whole : (bs : List ℕ) → 0 < length bs → all_digits bs ≡ true → value bs < 2 ^ 32 → number bs ≡ Some (value bs)
 unfolding number
 whole [] h d k = absurd (omega arith)
 whole (b ∷ bs) h d k =
-    ap (λ (t : Bool). cond (t && ltb (value (b ∷ bs)) (2 ^ 32)) (some (value (b ∷ bs))) none) d
-    ∙ ap (λ (t : Bool). cond t (some (value (b ∷ bs))) none) (lt-ltb _ (2 ^ 32) k)
+    ap (λ (t : Bool). cond (t && ltb (value (b ∷ bs)) (2 ^ 32)) (Some (value (b ∷ bs))) None) d
+    ∙ ap (λ (t : Bool). cond t (Some (value (b ∷ bs))) None) (lt-ltb _ (2 ^ 32) k)
 
 module _ {bs : List ℕ} {n i : ℕ} (g : Reading bs n i) where
   next_digits : i < length bs → all_digits bs ≡ (is_digit (get_or bs i 0) && all_digits (drop (suc i) bs))
@@ -73,16 +67,10 @@ module _ {bs : List ℕ} {n i : ℕ} (g : Reading bs n i) where
   next_spells : i < length bs → value bs ≡ onward (n * 10 + (get_or bs i 0 - 48)) (drop (suc i) bs)
   next_spells h = g.spells ∙ ap (onward n) (drop-cons bs i 0 h)
 
-  pub stray : i < length bs → is_digit (get_or bs i 0) ≡ false → number bs ≡ none
+  pub stray : i < length bs → is_digit (get_or bs i 0) ≡ false → number bs ≡ None
   stray h e = not_digits bs (omega arith) (next_digits h ∙ ap (λ (t : Bool). t && all_digits (drop (suc i) bs)) e)
 
-  pub below : i < length bs → get_or bs i 0 < 48 → number bs ≡ none
-  below h k = stray h (too_low _ k)
-
-  pub above : i < length bs → 57 < get_or bs i 0 → number bs ≡ none
-  above h k = stray h (too_high _ k)
-
-  pub over : i < length bs → 2 ^ 32 ≤ n * 10 + (get_or bs i 0 - 48) → number bs ≡ none
+  pub over : i < length bs → 2 ^ 32 ≤ n * 10 + (get_or bs i 0 - 48) → number bs ≡ None
   over h k = too_large bs (omega arith) (omega (arith, next_spells h, onward_least (drop (suc i) bs) (n * 10 + (get_or bs i 0 - 48))))
 
   pub reading_on : i < length bs → 48 ≤ get_or bs i 0 → get_or bs i 0 ≤ 57 → n * 10 + (get_or bs i 0 - 48) < 2 ^ 32
@@ -95,10 +83,11 @@ module _ {bs : List ℕ} {n i : ℕ} (g : Reading bs n i) where
         spells = rw add-one (next_spells h);
       }
 
-  pub read : 0 < length bs → length bs ≤ i → number bs ≡ some n
-  read p h =
+  pub read : eqb (length bs) 0 ≡ false → length bs ≤ i → number bs ≡ Some n
+  read e h =
+      let p : 0 < length bs = omega (arith, eqb-false (length bs) 0 e) in
       let v : value bs ≡ n = g.spells ∙ ap (onward n) (drop_of_length-le bs h) in
-      whole bs p (g.digits ∙ ap all_digits (drop_of_length-le bs h)) (omega (arith, g.small)) ∙ ap some v
+      whole bs p (g.digits ∙ ap all_digits (drop_of_length-le bs h)) (omega (arith, g.small)) ∙ ap Some v
 
 -- WRITING
 
@@ -134,6 +123,9 @@ enough = by_tenths Enough ones more
 pub decimal_one : (n : ℕ) → n < 10 → (48 + n) ∷ [] ≡ decimal n
 unfolding decimal
 decimal_one n h = rw (lt-ltb n 10 h)
+
+pub decimal_last : (n : ℕ) → n < 10 → (48 + n % 10) ∷ [] ≡ decimal n
+decimal_last n h = ap (λ (d : ℕ). (48 + d) ∷ []) (omega arith) ∙ decimal_one n h
 
 pub decimal_more : (n : ℕ) → 10 ≤ n → decimal (n / 10) ++ ((48 + n % 10) ∷ []) ≡ decimal n
 unfolding decimal Enough
@@ -195,5 +187,5 @@ reads =
           ∙ omega arith;
     })
 
-pub reads_back : (n : ℕ) → n < 2 ^ 32 → number (decimal n) ≡ some n
-reads_back n h = whole (decimal n) (reads n).some_digit (reads n).digits (omega (arith, (reads n).value_of)) ∙ ap some (reads n).value_of
+pub reads_back : (n : ℕ) → n < 2 ^ 32 → number (decimal n) ≡ Some n
+reads_back n h = whole (decimal n) (reads n).some_digit (reads n).digits (omega (arith, (reads n).value_of)) ∙ ap Some (reads n).value_of

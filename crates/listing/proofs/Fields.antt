@@ -3,7 +3,7 @@ use Prim.Native.Nat.{ℕ, ◌+◌, ◌-◌, ◌≤◌, ◌<◌}
 use mathlib.Core.Path.{◌≡◌, refl, sym, ap, ◌∙◌}
 use mathlib.Core.List.{List, [], ◌∷◌}
 use mathlib.Core.Bool.{Bool, true, false, cond}
-use mathlib.Core.Option.{Option, none, some}
+use Rattle.std.specs.Prelude.{Option, Some, None}
 use native.Mathlib.Omega.{arith}
 use borrow.Author.Tests.{le-leb, lt-leb, ne_eqb}
 use lib.Dec.{eqb}
@@ -11,62 +11,50 @@ use lib.ListN.{length, get_or, drop, drop_of_length-le}
 use lib.Seq.{take-suc}
 use Rattle.listing.specs.Numbers.{number}
 use Rattle.listing.specs.Lines.{parted, behind, is_letter, source_from, source_of, row_from, row_of, fields_of, plain_of, line_of, unended, first_of, next_of, Piece}
-use Rattle.listing.specs.Read.{number_of}
+use Rattle.listing.specs.declared.read.Line.{Line}
 use Rattle.listing.specs.declared.read.Line.TheVariants as line
 use Rattle.listing.specs.declared.read.Next.TheVariants as next
-use Rattle.listing.specs.declared.read.Number.{Number}
 use Rattle.listing.proofs.Pieces.{part, marked, unmarked, one_piece, part_length, part_whole}
-
--- the number that the code's answer stands for
-pub told : (bs : List ℕ) {r : Number} → r ≡ number_of (number bs) → (a : Option ℕ) → r ≡ number_of a → number bs ≡ a
-told bs e a f = go (number bs) a (sym e ∙ f)
-  where
-    go : (o a : Option ℕ) → number_of o ≡ number_of a → o ≡ a
-    go none none e = refl
-    go none (some y) e = absurd (let z : ◌≡◌ {A = ℕ} 0 1 = cc in omega arith)
-    go (some x) none e = absurd (let z : ◌≡◌ {A = ℕ} 0 1 = cc in omega arith)
-    go (some x) (some y) e = cc
 
 -- where the piece that begins at from ends
 ends_at : (from to : ℕ) (s : List ℕ) → from ≤ to → to ≤ length s → from + length (part from to s) ≡ to
 ends_at from to s h k = omega (arith, part_length from to s h k)
 
-pub named : {a fuel : ℕ} → 2 ≤ a → line.Source 2 a fuel ≡ source_from (a - 2) (some fuel)
-named {a} {fuel} h = ap (λ (n : ℕ). line.Source 2 n fuel) (omega arith)
+pub named : {a fuel : ℕ} → 2 ≤ a → Some (line.Source 2 a fuel) ≡ source_from (a - 2) (Some fuel)
+named {a} {fuel} h = ap (λ (n : ℕ). Some (line.Source 2 n fuel)) (omega arith)
 
 -- the fields behind the letter, which begin at place 2
 module _ {s : List ℕ} {a : ℕ} (p : Piece 9 s 2 a) where
-  pub source_short : length s ≤ a → line.Unread ≡ source_of (parted 9 (drop 2 s))
+  pub source_short : length s ≤ a → None ≡ source_of (parted 9 (drop 2 s))
   source_short h = sym (ap source_of (unmarked p h))
 
-  pub row_short : length s ≤ a → line.Unread ≡ row_of (parted 9 (drop 2 s))
+  pub row_short : length s ≤ a → None ≡ row_of (parted 9 (drop 2 s))
   row_short h = sym (ap row_of (unmarked p h))
 
   module _ {b : ℕ} (h : a < length s) (q : Piece 9 s (a + 1) b) where
-    pub source_long : b < length s → line.Unread ≡ source_of (parted 9 (drop 2 s))
+    pub source_long : b < length s → None ≡ source_of (parted 9 (drop 2 s))
     source_long k =
         sym (ap source_of (marked p h)
         ∙ ap (λ (fs : List (List ℕ)). source_of (part 2 a s ∷ fs)) (marked q k)
-        ∙ one_piece (λ (fs : List (List ℕ)). source_of (part 2 a s ∷ part (a + 1) b s ∷ fs) ≡ line.Unread) (λ f fs. refl) 9 (drop (b + 1) s))
+        ∙ one_piece (λ (fs : List (List ℕ)). source_of (part 2 a s ∷ part (a + 1) b s ∷ fs) ≡ None) (λ f fs. refl) 9 (drop (b + 1) s))
 
-    pub source_two : length s ≤ b → {r : Number} → r ≡ number_of (number (part (a + 1) b s)) → (fuel : Option ℕ) → r ≡ number_of fuel
-        → source_from (a - 2) fuel ≡ source_of (parted 9 (drop 2 s))
-    source_two k e fuel t =
+    pub source_two : length s ≤ b → {fuel : Option ℕ} → fuel ≡ number (part (a + 1) b s) → source_from (a - 2) fuel ≡ source_of (parted 9 (drop 2 s))
+    source_two k e =
         sym (ap source_of (marked p h)
         ∙ ap (λ (fs : List (List ℕ)). source_of (part 2 a s ∷ fs)) (unmarked q k)
         ∙ ap (λ (n : ℕ). source_from n (number (part (a + 1) b s))) (part_length 2 a s p.forward p.within)
-        ∙ ap (source_from (a - 2)) (told (part (a + 1) b s) e fuel t))
+        ∙ ap (source_from (a - 2)) (sym e))
 
-    pub row_two : length s ≤ b → line.Unread ≡ row_of (parted 9 (drop 2 s))
+    pub row_two : length s ≤ b → None ≡ row_of (parted 9 (drop 2 s))
     row_two k = sym (ap row_of (marked p h) ∙ ap (λ (fs : List (List ℕ)). row_of (part 2 a s ∷ fs)) (unmarked q k))
 
     module _ {c : ℕ} (k : b < length s) (r : Piece 9 s (b + 1) c) where
-      pub row_long : c < length s → line.Unread ≡ row_of (parted 9 (drop 2 s))
+      pub row_long : c < length s → None ≡ row_of (parted 9 (drop 2 s))
       row_long l =
           sym (ap row_of (marked p h)
           ∙ ap (λ (fs : List (List ℕ)). row_of (part 2 a s ∷ fs)) (marked q k)
           ∙ ap (λ (fs : List (List ℕ)). row_of (part 2 a s ∷ part (a + 1) b s ∷ fs)) (marked r l)
-          ∙ one_piece (λ (fs : List (List ℕ)). row_of (part 2 a s ∷ part (a + 1) b s ∷ part (b + 1) c s ∷ fs) ≡ line.Unread) (λ f fs. refl) 9 (drop (c + 1) s))
+          ∙ one_piece (λ (fs : List (List ℕ)). row_of (part 2 a s ∷ part (a + 1) b s ∷ part (b + 1) c s ∷ fs) ≡ None) (λ f fs. refl) 9 (drop (c + 1) s))
 
       pub row_three : length s ≤ c
           → row_from (number (part 2 a s)) (number (part (a + 1) b s)) (number (part (b + 1) c s)) ≡ row_of (parted 9 (drop 2 s))
@@ -75,42 +63,42 @@ module _ {s : List ℕ} {a : ℕ} (p : Piece 9 s 2 a) where
           ∙ ap (λ (fs : List (List ℕ)). row_of (part 2 a s ∷ fs)) (marked q k)
           ∙ ap (λ (fs : List (List ℕ)). row_of (part 2 a s ∷ part (a + 1) b s ∷ fs)) (unmarked r l))
 
-pub too_long : (s : List ℕ) → 8192 < length s → line.Unread ≡ line_of s
+pub too_long : (s : List ℕ) → 8192 < length s → None ≡ line_of s
 unfolding line_of
 too_long s h = rw (lt-leb (length s) 8192 h)
 
-unlettered : (f : List ℕ) (fs : List (List ℕ)) → (length f ≡ 1 → ⊥) → line.Unread ≡ fields_of (f ∷ fs)
+unlettered : (f : List ℕ) (fs : List (List ℕ)) → (length f ≡ 1 → ⊥) → None ≡ fields_of (f ∷ fs)
 unlettered [] fs h = refl
 unlettered (b ∷ []) fs h = absurd (h refl)
 unlettered (b ∷ c ∷ f) fs h = refl
 
-alone : (f : List ℕ) → line.Unread ≡ fields_of (f ∷ [])
+alone : (f : List ℕ) → None ≡ fields_of (f ∷ [])
 alone f = go (is_letter 83 f) (is_letter 84 f)
   where
-    go : (t u : Bool) → line.Unread ≡ cond t line.Unread (cond u line.Unread line.Unread)
+    go : (t u : Bool) → ◌≡◌ {A = Option Line} None (cond t None (cond u None None))
     go true u = refl
     go false true = refl
     go false false = refl
 
 -- a line that is short enough, by the places of its first carriage return and its first tab
 module _ {s : List ℕ} {r : ℕ} (fits : length s ≤ 8192) (p : Piece 13 s 0 r) where
-  pub returned : r < length s → line.Unread ≡ line_of s
+  pub returned : r < length s → None ≡ line_of s
   unfolding line_of
   returned h =
       sym (rw (le-leb (length s) 8192 fits)
-      (ap plain_of (marked p h) ∙ one_piece (λ (ls : List (List ℕ)). plain_of (part 0 r s ∷ ls) ≡ line.Unread) (λ l ls. refl) 13 (drop (r + 1) s)))
+      (ap plain_of (marked p h) ∙ one_piece (λ (ls : List (List ℕ)). plain_of (part 0 r s ∷ ls) ≡ None) (λ l ls. refl) 13 (drop (r + 1) s)))
 
   plain : length s ≤ r → line_of s ≡ fields_of (parted 9 s)
   unfolding line_of
   plain h = rw (le-leb (length s) 8192 fits) (ap plain_of (unmarked p h) ∙ ap (λ (l : List ℕ). fields_of (parted 9 l)) (part_whole r s h))
 
   module _ {a : ℕ} (bare : length s ≤ r) (q : Piece 9 s 0 a) where
-    pub no_letter : (a ≡ 1 → ⊥) → line.Unread ≡ line_of s
+    pub no_letter : (a ≡ 1 → ⊥) → None ≡ line_of s
     no_letter h =
         unlettered (part 0 a s) (behind 9 s a) (λ e. h (omega (arith, e, part_length 0 a s q.forward q.within)))
         ∙ sym (plain bare ∙ ap fields_of q.is)
 
-    pub no_field : a ≡ 1 → length s < 2 → line.Unread ≡ line_of s
+    pub no_field : a ≡ 1 → length s < 2 → None ≡ line_of s
     no_field e h = alone (part 0 a s) ∙ sym (plain bare ∙ ap fields_of (unmarked q (omega arith)))
 
     module _ (e : a ≡ 1) (h : 2 ≤ length s) where
@@ -118,7 +106,7 @@ module _ {s : List ℕ} {r : ℕ} (fits : length s ≤ 8192) (p : Piece 13 s 0 r
       first = ap (λ (n : ℕ). part 0 n s) e ∙ take-suc s 0 0 (omega arith)
 
       lettered : line_of s
-          ≡ cond (eqb (get_or s 0 0) 83) (source_of (parted 9 (drop 2 s))) (cond (eqb (get_or s 0 0) 84) (row_of (parted 9 (drop 2 s))) line.Unread)
+          ≡ cond (eqb (get_or s 0 0) 83) (source_of (parted 9 (drop 2 s))) (cond (eqb (get_or s 0 0) 84) (row_of (parted 9 (drop 2 s))) None)
       lettered =
           plain bare
           ∙ ap fields_of (marked q (omega arith))
@@ -127,10 +115,10 @@ module _ {s : List ℕ} {r : ℕ} (fits : length s ≤ 8192) (p : Piece 13 s 0 r
 
       -- what stands where the first byte is x
       with_letter : (x : ℕ) → get_or s 0 0 ≡ x
-          → cond (eqb x 83) (source_of (parted 9 (drop 2 s))) (cond (eqb x 84) (row_of (parted 9 (drop 2 s))) line.Unread) ≡ line_of s
+          → cond (eqb x 83) (source_of (parted 9 (drop 2 s))) (cond (eqb x 84) (row_of (parted 9 (drop 2 s))) None) ≡ line_of s
       with_letter x k =
           sym (lettered
-          ∙ ap (λ (x : ℕ). cond (eqb x 83) (source_of (parted 9 (drop 2 s))) (cond (eqb x 84) (row_of (parted 9 (drop 2 s))) line.Unread)) k)
+          ∙ ap (λ (x : ℕ). cond (eqb x 83) (source_of (parted 9 (drop 2 s))) (cond (eqb x 84) (row_of (parted 9 (drop 2 s))) None)) k)
 
       pub is_source : get_or s 0 0 ≡ 83 → source_of (parted 9 (drop 2 s)) ≡ line_of s
       is_source k = with_letter 83 k
@@ -138,7 +126,7 @@ module _ {s : List ℕ} {r : ℕ} (fits : length s ≤ 8192) (p : Piece 13 s 0 r
       pub is_row : get_or s 0 0 ≡ 84 → row_of (parted 9 (drop 2 s)) ≡ line_of s
       is_row k = with_letter 84 k
 
-      pub is_neither : (get_or s 0 0 ≡ 83 → ⊥) → (get_or s 0 0 ≡ 84 → ⊥) → line.Unread ≡ line_of s
+      pub is_neither : (get_or s 0 0 ≡ 83 → ⊥) → (get_or s 0 0 ≡ 84 → ⊥) → None ≡ line_of s
       is_neither k l = rw (lettered, ne_eqb (get_or s 0 0) 83 k, ne_eqb (get_or s 0 0) 84 l)
 
 pub at_end : (s : List ℕ) (at : ℕ) → length s ≤ at → next.Nothing ≡ next_of s at

@@ -4,7 +4,7 @@ use Prim.Native.Nat.{ℕ, suc, ◌+◌, ◌-◌, ◌≤◌, ◌<◌}
 use mathlib.Core.Path.{◌≡◌, refl, sym, ap, subst, ◌∙◌}
 use mathlib.Core.List.{List, [], ◌∷◌, ◌++◌}
 use mathlib.Core.Bool.{Bool, true, false, cond}
-use mathlib.Core.Option.{Option, none, some}
+use Rattle.std.specs.Prelude.{Option, Some, None}
 use native.Mathlib.Omega.{arith}
 use borrow.Author.Tests.{eq-eqb}
 use lib.Dec.{leb, eqb}
@@ -35,10 +35,10 @@ total_parted m (b ∷ bs) = go (eqb b m) (total_parted m bs)
     go false e = led (parted m bs) e
 
 -- the name of a source line of n bytes lies in the line
-abbrev Named : ℕ → Line → Type 0
-Named n (line.Source from to fuel) = (from ≤ to) × (to ≤ n)
-Named n (line.Row id start end) = Unit
-Named n line.Unread = Unit
+abbrev Named : ℕ → Option Line → Type 0
+Named n None = Unit
+Named n (Some (line.Source from to fuel)) = (from ≤ to) × (to ≤ n)
+Named n (Some (line.Row id start end)) = Unit
 
 source_named : (n : ℕ) (fs : List (List ℕ)) → total fs + 1 ≡ n → Named n (source_of fs)
 source_named n [] e = tt
@@ -46,8 +46,8 @@ source_named n (name ∷ []) e = tt
 source_named n (name ∷ fuel ∷ []) e = go (number fuel)
   where
     go : (o : Option ℕ) → Named n (source_from (length name) o)
-    go none = tt
-    go (some f) = omega arith
+    go None = tt
+    go (Some f) = omega arith
 source_named n (name ∷ fuel ∷ f ∷ fs) e = tt
 
 row_named : (n : ℕ) (fs : List (List ℕ)) → Named n (row_of fs)
@@ -57,13 +57,13 @@ row_named n (id ∷ start ∷ []) = tt
 row_named n (id ∷ start ∷ end ∷ []) = go (number id) (number start) (number end)
   where
     go : (a b c : Option ℕ) → Named n (row_from a b c)
-    go none b c = tt
-    go (some x) none c = tt
-    go (some x) (some y) none = tt
-    go (some x) (some y) (some z) = tt
+    go None b c = tt
+    go (Some x) None c = tt
+    go (Some x) (Some y) None = tt
+    go (Some x) (Some y) (Some z) = tt
 row_named n (id ∷ start ∷ end ∷ f ∷ fs) = tt
 
-either_named : (n : ℕ) (t : Bool) (a b : Line) → Named n a → Named n b → Named n (cond t a b)
+either_named : (n : ℕ) (t : Bool) (a b : Option Line) → Named n a → Named n b → Named n (cond t a b)
 either_named n true a b p q = p
 either_named n false a b p q = q
 
@@ -71,8 +71,8 @@ fields_named : (n : ℕ) (fs : List (List ℕ)) → total fs ≡ suc n → Named
 fields_named n [] e = tt
 fields_named n ([] ∷ fs) e = tt
 fields_named n ((b ∷ []) ∷ fs) e =
-    either_named n (eqb b 83) (source_of fs) (cond (eqb b 84) (row_of fs) line.Unread) (source_named n fs (omega arith))
-    (either_named n (eqb b 84) (row_of fs) line.Unread (row_named n fs) tt)
+    either_named n (eqb b 83) (source_of fs) (cond (eqb b 84) (row_of fs) None) (source_named n fs (omega arith))
+    (either_named n (eqb b 84) (row_of fs) None (row_named n fs) tt)
 fields_named n ((b ∷ c ∷ f) ∷ fs) e = tt
 
 plain_named : (n : ℕ) (ls : List (List ℕ)) → total ls ≡ suc n → Named n (plain_of ls)
@@ -83,9 +83,9 @@ plain_named n (l ∷ k ∷ ls) e = tt
 line_named : (l : List ℕ) → Named (length l) (line_of l)
 unfolding line_of
 line_named l =
-    either_named (length l) (leb (length l) 8192) (plain_of (parted 13 l)) line.Unread (plain_named (length l) (parted 13 l) (total_parted 13 l)) tt
+    either_named (length l) (leb (length l) 8192) (plain_of (parted 13 l)) None (plain_named (length l) (parted 13 l) (total_parted 13 l)) tt
 
-pub name_within : (l : List ℕ) {r : Line} {from to fuel : ℕ} → r ≡ line_of l → r ≡ line.Source from to fuel → (from ≤ to) × (to ≤ length l)
+pub name_within : (l : List ℕ) {r : Option Line} {from to fuel : ℕ} → r ≡ line_of l → r ≡ Some (line.Source from to fuel) → (from ≤ to) × (to ≤ length l)
 name_within l e f = subst (Named (length l)) (sym e ∙ f) (line_named l)
 
 -- a whole line lies in the bytes, and its line feed too

@@ -8,3 +8,4 @@ pub mod Records
 pub mod Lent
 pub mod Small
 pub mod Marks
+pub mod Splits

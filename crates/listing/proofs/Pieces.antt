@@ -1,88 +1,94 @@
 -- The pieces of a text: looking for the mark byte after byte finds the first of them. Assumes nothing.
 use Prim.Native.Nat.{ℕ, suc, ◌+◌, ◌-◌, ◌≤◌, ◌<◌}
-use mathlib.Core.Path.{◌≡◌, refl, sym, ap, ◌∙◌}
-use mathlib.Core.List.{List, [], ◌∷◌, ◌++◌, append_assoc, append-nil}
-use mathlib.Core.Bool.{Bool, true, false, cond}
-use native.Mathlib.Numerals.{add-one}
-use native.Mathlib.Nat.{sub_self}
+use mathlib.Core.Path.{◌≡◌, refl, sym, ap, subst, ◌∙◌}
+use mathlib.Core.Logic.{◌⊎◌, inl, inr}
+use mathlib.Core.List.{List, [], ◌∷◌}
+use mathlib.Core.Bool.{Bool, true, false, cond, not}
 use native.Mathlib.Omega.{arith}
-use borrow.Author.Tests.{lt-ltb, le-ltb, eq-eqb, ne_eqb}
-use lib.Dec.{eqb}
-use lib.ListN.{length, get_or, take, drop, length-drop, drop_of_length-le}
-use lib.Seq.{drop-cons, take-suc, take_all, length-take-le, get_or-drop}
+use borrow.Author.Tests.{lt-ltb, le-ltb, ltb-false}
+use lib.Dec.{eqb, ltb}
+use lib.ListN.{length, take, drop, length-drop}
+use lib.Seq.{take_all, length-take-le, drop-drop}
+use Rattle.std.specs.Prelude.{◌==◌, position, Some, None}
+use Rattle.std.specs.List.{position_or_len}
 use Rattle.listing.specs.Lines.{onto, parted, behind, Piece}
+use Rattle.listing.proofs.Either.{either}
+use Rattle.listing.proofs.Rest.{rest, rest_is}
 
 -- the text from a place up to another
 abbrev pub part : ℕ → ℕ → List ℕ → List ℕ
 part from to s = take (to - from) (drop from s)
 
-onto_onto : (t u : List ℕ) (ps : List (List ℕ)) → onto t (onto u ps) ≡ onto (t ++ u) ps
-onto_onto t u [] = refl
-onto_onto t u (p ∷ ps) = ap (λ (q : List ℕ). q ∷ ps) (sym (append_assoc t u p))
+-- where the first mark stands, or the text's end
+abbrev front : ℕ → List ℕ → ℕ
+front m s = position_or_len (λ b. b == m) s
 
-onto_none : (m : ℕ) (s : List ℕ) → onto [] (parted m s) ≡ parted m s
-onto_none m [] = refl
-onto_none m (b ∷ bs) = go (eqb b m)
+front_within : (m : ℕ) (s : List ℕ) → front m s ≤ length s
+front_within m [] = omega arith
+front_within m (b ∷ bs) = go (eqb b m) (front_within m bs)
   where
-    go : (t : Bool) → onto [] (cond t ([] ∷ parted m bs) (onto (b ∷ []) (parted m bs))) ≡ cond t ([] ∷ parted m bs) (onto (b ∷ []) (parted m bs))
-    go true = refl
-    go false = onto_onto [] (b ∷ []) (parted m bs)
+    go : (t : Bool) → front m bs ≤ length bs → cond (not t) (1 + front m bs) 0 ≤ suc (length bs)
+    go true h = omega arith
+    go false h = omega arith
 
-part_more : (from i : ℕ) (s : List ℕ) → from ≤ i → i < length s → part from (i + 1) s ≡ part from i s ++ (get_or s i 0 ∷ [])
-part_more from i s h k =
-    let e : i + 1 - from ≡ suc (i - from) = omega arith in
-    let at : from + (i - from) ≡ i = omega arith in
-    ap (λ (n : ℕ). take n (drop from s)) e
-    ∙ take-suc (drop from s) (i - from) 0 (simp length-drop (omega arith))
-    ∙ ap (λ (x : ℕ). part from i s ++ (x ∷ [])) (get_or-drop from s (i - from) 0 ∙ ap (λ (n : ℕ). get_or s n 0) at)
+front_on : (m b k : ℕ) (bs : List ℕ) → onto (b ∷ []) (take k bs ∷ behind m bs k) ≡ take (1 + k) (b ∷ bs) ∷ behind m (b ∷ bs) (1 + k)
+front_on m b k bs =
+    let e : 1 + k ≡ suc k = omega arith in
+    let f : suc k + 1 ≡ suc (k + 1) = omega arith in
+    ap (λ (t : Bool). (b ∷ take k bs) ∷ cond t (parted m (drop (k + 1) bs)) []) (further (either k (length bs)))
+    ∙ sym (ap (λ (n : ℕ). take n (b ∷ bs) ∷ behind m (b ∷ bs) n) e
+    ∙ ap (λ (n : ℕ). (b ∷ take k bs) ∷ cond (ltb (suc k) (suc (length bs))) (parted m (drop n (b ∷ bs))) []) f)
+  where
+    further : (k < length bs) ⊎ (length bs ≤ k) → ltb k (length bs) ≡ ltb (suc k) (suc (length bs))
+    further (inl h) = rw (lt-ltb k (length bs) h, lt-ltb (suc k) (suc (length bs)) (omega arith)) refl
+    further (inr h) = rw (le-ltb k (length bs) h, le-ltb (suc k) (suc (length bs)) (omega arith)) refl
 
--- the bytes from `from` up to i are no marks
-pub record Seeking (m : ℕ) (s : List ℕ) (from i : ℕ) : Type 0 where
-  pub forward : from ≤ i
-  pub within : i ≤ length s
-  pub is : parted m (drop from s) ≡ onto (part from i s) (parted m (drop i s))
+fronted : (m : ℕ) (s : List ℕ) → parted m s ≡ take (front m s) s ∷ behind m s (front m s)
+fronted m [] = refl
+fronted m (b ∷ bs) = go (eqb b m) (fronted m bs)
+  where
+    go : (t : Bool) → parted m bs ≡ take (front m bs) bs ∷ behind m bs (front m bs)
+        → cond t ([] ∷ parted m bs) (onto (b ∷ []) (parted m bs)) ≡ take (cond (not t) (1 + front m bs) 0) (b ∷ bs) ∷ behind m (b ∷ bs) (cond (not t) (1 + front m bs) 0)
+    go true e = ap (λ (t : Bool). [] ∷ cond t (parted m bs) []) (sym (lt-ltb 0 (suc (length bs)) (omega arith)))
+    go false e = ap (onto (b ∷ [])) e ∙ front_on m b (front m bs) bs
 
-pub seeking : (m : ℕ) (s : List ℕ) (from : ℕ) → from ≤ length s → Seeking m s from from
-seeking m s from h =
-    record {
-      forward = omega arith;
-      within = h;
-      is = sym (onto_none m (drop from s)) ∙ ap (λ (n : ℕ). onto (take n (drop from s)) (parted m (drop from s))) (sym (sub_self from));
-    }
+front_some : (t : Bool) {k n : ℕ} → Some n ≡ cond t (Some k) None → n ≡ k
+front_some true e = cc
+front_some false e = absurd (let z : ◌≡◌ {A = ℕ} 0 1 = cc in omega arith)
 
-module _ {m : ℕ} {s : List ℕ} {from i : ℕ} (g : Seeking m s from i) where
-  pub seeking_on : i < length s → (get_or s i 0 ≡ m → ⊥) → Seeking m s from (i + 1)
-  seeking_on h ne =
+front_none : {k n : ℕ} (t : Bool) → ltb k n ≡ t → None ≡ cond t (Some k) None → n ≤ k
+front_none true i e = absurd (let z : ◌≡◌ {A = ℕ} 0 1 = cc in omega arith)
+front_none {k} {n} false i e = ltb-false k n i
+
+-- looking for the first mark of what stands from a place on finds the end of the piece
+module _ {m : ℕ} {s : List ℕ} {from : ℕ} (h : from ≤ length s) where
+  ends : (k : ℕ) → k ≡ front m (drop from s) → Piece m s from (from + k)
+  ends k e =
+      let short : k ≤ length s - from = omega (arith, e, front_within m (drop from s), length-drop from s) in
+      let same : from + k - from ≡ k = omega arith in
       record {
-        forward = omega (arith, g.forward);
+        forward = omega arith;
         within = omega arith;
         is =
-            g.is
-            ∙ ap (onto (part from i s))
-            (ap (parted m) (drop-cons s i 0 h)
-            ∙ ap (λ (t : Bool). cond t ([] ∷ parted m (drop (suc i) s)) (onto (get_or s i 0 ∷ []) (parted m (drop (suc i) s)))) (ne_eqb _ _ ne))
-            ∙ onto_onto (part from i s) (get_or s i 0 ∷ []) (parted m (drop (suc i) s))
-            ∙ ap (λ (t : List ℕ). onto t (parted m (drop (suc i) s))) (sym (part_more from i s g.forward h))
-            ∙ ap (λ (n : ℕ). onto (part from (i + 1) s) (parted m (drop n s))) (sym (add-one i));
+            fronted m (drop from s)
+            ∙ ap (λ (n : ℕ). take n (drop from s) ∷ behind m (drop from s) n) (sym e)
+            ∙ ap (λ (n : ℕ). take n (drop from s) ∷ behind m (drop from s) k) (sym same)
+            ∙ ap (λ (ps : List (List ℕ)). take (from + k - from) (drop from s) ∷ ps) (further (either k (length s - from)));
       }
+    where
+      further : (k < length s - from) ⊎ (length s - from ≤ k) → behind m (drop from s) k ≡ behind m s (from + k)
+      further (inl l) =
+          rw (lt-ltb k (length (drop from s)) (simp length-drop l), lt-ltb (from + k) (length s) (omega arith))
+          (ap (parted m) (drop-drop (k + 1) from s) ∙ ap (λ (n : ℕ). parted m (drop n s)) (omega arith))
+      further (inr l) = rw (le-ltb k (length (drop from s)) (simp length-drop l), le-ltb (from + k) (length s) (omega arith)) refl
 
-  ended : (ps : List (List ℕ)) → parted m (drop i s) ≡ [] ∷ ps → ps ≡ behind m s i → Piece m s from i
-  ended ps e b =
-      record {
-        forward = g.forward;
-        within = g.within;
-        is = g.is ∙ ap (onto (part from i s)) e ∙ ap (λ (t : List ℕ). t ∷ ps) (append-nil (part from i s)) ∙ ap (λ (qs : List (List ℕ)). part from i s ∷ qs) b;
-      }
+  pub found : {n : ℕ} → Some n ≡ position (λ b. b == m) (rest s from) → Piece m s from (from + n)
+  found {n} e = ends n (front_some _ (e ∙ ap (position (λ b. b == m)) (rest_is s from)))
 
-  pub seeking_found : i < length s → get_or s i 0 ≡ m → Piece m s from i
-  seeking_found h e =
-      ended (parted m (drop (suc i) s))
-      (ap (parted m) (drop-cons s i 0 h)
-      ∙ ap (λ (t : Bool). cond t ([] ∷ parted m (drop (suc i) s)) (onto (get_or s i 0 ∷ []) (parted m (drop (suc i) s)))) (eq-eqb _ _ e))
-      (rw (lt-ltb i (length s) h) (ap (λ (n : ℕ). parted m (drop n s)) (sym (add-one i))))
-
-  pub seeking_none : length s ≤ i → Piece m s from i
-  seeking_none h = ended [] (ap (parted m) (drop_of_length-le s h)) (rw (le-ltb i (length s) h))
+  pub unfound : None ≡ position (λ b. b == m) (rest s from) → Piece m s from (length s)
+  unfound e =
+      let k : length (drop from s) ≤ front m (drop from s) = front_none _ refl (e ∙ ap (position (λ b. b == m)) (rest_is s from)) in
+      subst (Piece m s from) (omega (arith, k, front_within m (drop from s), length-drop from s)) (ends (front m (drop from s)) refl)
 
 -- a piece that a mark ends has another behind it, and one that no mark ends has none
 module _ {m : ℕ} {s : List ℕ} {from to : ℕ} (p : Piece m s from to) where

@@ -11,9 +11,9 @@ use lib.Seq.{set_split, length-take-le, take_at, take_all, take-suc, drop-append
 use Rattle.kinds.specs.Spelling.{kind_text, name_text, Spelled}
 use Rattle.kinds.proofs.Spelt.{kind_at, kind_none, name_at, name_none, fits}
 use Rattle.listing.specs.Listing.{led, joined}
-use Rattle.listing.specs.Written.{Put}
+use Rattle.listing.specs.Written.{Put, Wrote}
+use Rattle.listing.specs.declared.write.Writer.{Writer}
 use Rattle.listing.proofs.Either.{either}
-use Rattle.listing.proofs.Rest.{rest, rest_is}
 
 pub put_one : (b at : ℕ) (before : List ℕ) → at < length before → Put (b ∷ []) at before (set before at b) (at + 1)
 put_one b at before h =
@@ -114,35 +114,49 @@ pub joined_none : (f : ℕ → List ℕ) (l : List ℕ) → length l ≡ 0 → 4
 joined_none f [] h = refl
 joined_none f (a ∷ l) h = absurd (omega arith)
 
-pub joined_some : (f : ℕ → List ℕ) (l : List ℕ) → (length l ≡ 0 → ⊥) → f (get_or l 0 0) ++ led 44 (map f (rest l 1)) ≡ joined (map f l)
-joined_some f [] h = absurd (h refl)
-joined_some f (a ∷ l) h = ap (λ (r : List ℕ). f a ++ led 44 (map f r)) (rest_is (a ∷ l) 1)
+pub joined_some : (f : ℕ → List ℕ) {l more : List ℕ} {a : ℕ} → l ≡ a ∷ more → f a ++ led 44 (map f more) ≡ joined (map f l)
+joined_some f e = sym (ap (λ (l : List ℕ). joined (map f l)) e)
+
+-- WRITERS
+
+pub then : {text more : List ℕ} {a b c : Writer} → Wrote text a b → Wrote more b c → Wrote (text ++ more) a c
+then p q = record { same = q.same ∙ p.same; as_long = q.as_long ∙ p.as_long; put = joins p.put q.put }
+
+pub wrote_as : {t text : List ℕ} {a b : Writer} → t ≡ text → Wrote t a b → Wrote text a b
+wrote_as {a = a} {b} e w = subst (λ (t : List ℕ). Wrote t a b) e w
+
+pub wrote_none : (a : Writer) → a.at ≤ length a.room.now → Wrote [] a a
+wrote_none a h = record { same = refl; as_long = refl; put = put_none a.at a.room.now h }
+
+-- a writer that begins at the front of a lent room leaves the text spelled in it
+pub spelled_by : {text : List ℕ} {a b : Writer} {after : List ℕ} → Wrote text a b → a.at ≡ 0 → (a.room.ghost_name ≡ b.room.ghost_name → after ≡ b.room.now)
+    → Spelled text a.room.now after b.at
+spelled_by {text} {a} {b} w e f =
+    subst (λ (l : List ℕ). Spelled text a.room.now l b.at) (sym (f (sym w.same)))
+    (spelled (subst (λ (n : ℕ). Put text n a.room.now b.room.now b.at) e w.put))
 
 -- what a loop has written: w says it of the elements passed, each of which takes at most so many bytes
-pub record Running (w : List ℕ → List ℕ) (most : ℕ) (l before : List ℕ) (at : ℕ) (after : List ℕ) (end i : ℕ) : Type 0 where
+pub record Running (w : List ℕ → List ℕ) (most : ℕ) (l : List ℕ) (before after : Writer) (i : ℕ) : Type 0 where
   pub so_far : i ≤ length l
-  pub as_long : length after ≡ length before
-  pub put : Put (w (take i l)) at before after end
-  pub bound : end ≤ at + most * i
+  pub wrote : Wrote (w (take i l)) before after
+  pub bound : after.at ≤ before.at + most * i
 
 module _ (w : List ℕ → List ℕ) (most : ℕ) where
-  pub running : (l before : List ℕ) (at : ℕ) → w [] ≡ [] → at ≤ length before → Running w most l before at before at 0
-  running l before at e h =
-      record { so_far = omega arith; as_long = refl; put = put_as (sym e) (put_none at before h); bound = omega arith }
+  pub running : (l : List ℕ) (a : Writer) → w [] ≡ [] → a.at ≤ length a.room.now → Running w most l a a 0
+  running l a e h = record { so_far = omega arith; wrote = wrote_as (sym e) (wrote_none a h); bound = omega arith }
 
-module _ {w : List ℕ → List ℕ} {most : ℕ} {l before : List ℕ} {at : ℕ} {after : List ℕ} {end i : ℕ} (g : Running w most l before at after end i) where
-  pub running_on : {t last : List ℕ} {r : ℕ} → i < length l → w (take i l) ++ t ≡ w (take (i + 1) l) → Put t end after last r → r ≤ end + most
-      → Running w most l before at last r (i + 1)
-  running_on h e p b =
+module _ {w : List ℕ → List ℕ} {most : ℕ} {l : List ℕ} {a b : Writer} {i : ℕ} (g : Running w most l a b i) where
+  pub running_on : {t : List ℕ} {c : Writer} → i < length l → w (take i l) ++ t ≡ w (take (i + 1) l) → Wrote t b c → c.at ≤ b.at + most
+      → Running w most l a c (i + 1)
+  running_on h e p k =
       record {
         so_far = omega arith;
-        as_long = kept p ∙ g.as_long;
-        put = put_as e (joins g.put p);
+        wrote = wrote_as e (then g.wrote p);
         bound = omega (arith, g.bound, mul-add most i 1, mul-one most);
       }
 
-  pub ran : length l ≤ i → Put (w l) at before after end
-  ran h = put_as (ap w (take_all i l h)) g.put
+  pub ran : length l ≤ i → Wrote (w l) a b
+  ran h = wrote_as (ap w (take_all i l h)) g.wrote
 
 -- SPELLINGS
 

@@ -1,7 +1,6 @@
 -- What the lines of the input read to (document 01): "The program reads tab-separated lines from standard input: `S`, file name, fuel;
 -- then `T`, id, start, end per row". A carriage return, a field too many and a line over 8,192 bytes do not read.
-use Rattle.std.specs.Prelude.{ℕ, ◌+◌, ◌-◌, ◌≤◌, ◌≡◌, List, [], ◌∷◌, ◌++◌, Bool, false, cond, leb, ltb, eqb, length, take, drop}
-use Rattle.std.proofs.Math.Option.{Option, none, some}
+use Rattle.std.specs.Prelude.{ℕ, ◌+◌, ◌-◌, ◌≤◌, ◌≡◌, List, [], ◌∷◌, ◌++◌, Bool, false, cond, leb, ltb, eqb, length, take, drop, Option, Some, None}
 use Rattle.listing.specs.Numbers.{number}
 use Rattle.listing.specs.declared.read.Line.{Line}
 use Rattle.listing.specs.declared.read.Line.TheVariants as line
@@ -25,44 +24,44 @@ is_letter x (b ∷ []) = eqb b x
 is_letter x (b ∷ c ∷ bs) = false
 
 -- a name of n bytes stands behind the letter and its tab
-abbrev pub source_from : ℕ → Option ℕ → Line
-source_from n none = line.Unread
-source_from n (some fuel) = line.Source 2 (2 + n) fuel
+abbrev pub source_from : ℕ → Option ℕ → Option Line
+source_from n None = None
+source_from n (Some fuel) = Some (line.Source 2 (2 + n) fuel)
 
 -- "file name, fuel"
-abbrev pub source_of : List (List ℕ) → Line
-source_of [] = line.Unread
-source_of (name ∷ []) = line.Unread
+abbrev pub source_of : List (List ℕ) → Option Line
+source_of [] = None
+source_of (name ∷ []) = None
 source_of (name ∷ fuel ∷ []) = source_from (length name) (number fuel)
-source_of (name ∷ fuel ∷ f ∷ fs) = line.Unread
+source_of (name ∷ fuel ∷ f ∷ fs) = None
 
-abbrev pub row_from : Option ℕ → Option ℕ → Option ℕ → Line
-row_from none start end = line.Unread
-row_from (some a) none end = line.Unread
-row_from (some a) (some b) none = line.Unread
-row_from (some a) (some b) (some c) = line.Row a b c
+abbrev pub row_from : Option ℕ → Option ℕ → Option ℕ → Option Line
+row_from None start end = None
+row_from (Some a) None end = None
+row_from (Some a) (Some b) None = None
+row_from (Some a) (Some b) (Some c) = Some (line.Row a b c)
 
 -- "id, start, end"
-abbrev pub row_of : List (List ℕ) → Line
-row_of [] = line.Unread
-row_of (id ∷ []) = line.Unread
-row_of (id ∷ start ∷ []) = line.Unread
+abbrev pub row_of : List (List ℕ) → Option Line
+row_of [] = None
+row_of (id ∷ []) = None
+row_of (id ∷ start ∷ []) = None
 row_of (id ∷ start ∷ end ∷ []) = row_from (number id) (number start) (number end)
-row_of (id ∷ start ∷ end ∷ f ∷ fs) = line.Unread
+row_of (id ∷ start ∷ end ∷ f ∷ fs) = None
 
 -- by the letter, `S` or `T`
-abbrev pub fields_of : List (List ℕ) → Line
-fields_of [] = line.Unread
-fields_of (l ∷ fs) = cond (is_letter 83 l) (source_of fs) (cond (is_letter 84 l) (row_of fs) line.Unread)
+abbrev pub fields_of : List (List ℕ) → Option Line
+fields_of [] = None
+fields_of (l ∷ fs) = cond (is_letter 83 l) (source_of fs) (cond (is_letter 84 l) (row_of fs) None)
 
 -- a line that no carriage return parts
-abbrev pub plain_of : List (List ℕ) → Line
-plain_of [] = line.Unread
+abbrev pub plain_of : List (List ℕ) → Option Line
+plain_of [] = None
 plain_of (l ∷ []) = fields_of (parted 9 l)
-plain_of (l ∷ k ∷ ls) = line.Unread
+plain_of (l ∷ k ∷ ls) = None
 
-unfoldable pub line_of : List ℕ → Line
-line_of l = cond (leb (length l) 8192) (plain_of (parted 13 l)) line.Unread
+unfoldable pub line_of : List ℕ → Option Line
+line_of l = cond (leb (length l) 8192) (plain_of (parted 13 l)) None
 
 abbrev pub unended : List ℕ → Next
 unended [] = next.Nothing

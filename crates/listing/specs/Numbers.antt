@@ -1,6 +1,5 @@
 -- Numbers as text: read from digits ("digits only, under 2^32, leading zeros allowed"), and written ("Numbers are decimal").
-use Rattle.std.specs.Prelude.{ℕ, zero, suc, ◌+◌, ◌-◌, ◌*◌, ◌/◌, ◌%◌, ◌^◌, List, [], ◌∷◌, ◌++◌, Bool, true, false, cond, ◌&&◌, leb, ltb}
-use Rattle.std.proofs.Math.Option.{Option, none, some}
+use Rattle.std.specs.Prelude.{ℕ, zero, suc, ◌+◌, ◌-◌, ◌*◌, ◌/◌, ◌%◌, ◌^◌, List, [], ◌∷◌, ◌++◌, Bool, true, false, cond, ◌&&◌, leb, ltb, Option, Some, None}
 
 -- `0` to `9`
 abbrev pub is_digit : ℕ → Bool
@@ -24,7 +23,7 @@ is_number [] = false
 is_number (b ∷ bs) = all_digits (b ∷ bs) && ltb (value (b ∷ bs)) (2 ^ 32)
 
 unfoldable pub number : List ℕ → Option ℕ
-number bs = cond (is_number bs) (some (value bs)) none
+number bs = cond (is_number bs) (Some (value bs)) None
 
 -- n in decimal: the digits of its tenth, and its last digit. So many digits at most; n has no more than n + 1
 abbrev pub decimals : ℕ → ℕ → List ℕ

@@ -4,8 +4,7 @@
 mod read;
 mod write;
 
-pub use read::{LONGEST, Line, Next, Number, next_line, piece_end, read_line, read_number};
+pub use read::{LONGEST, Line, Next, next_line, piece_end, read_line, read_number};
 pub use write::{
-    event_line, head_line, numbers_line, put, put_byte, put_decimal, put_numbers, refusal_line,
-    result_line, unread_line,
+    Event, Writer, event_line, head_line, numbers_line, refusal_line, result_line, unread_line,
 };

@@ -13,32 +13,25 @@ use Rattle.shapes.specs.Sort as Sort
 use Rattle.shapes.specs.Shapes.{EVENT, Entry, flat, entries}
 use Rattle.definition.specs.Merge.{error_of, Span, Mark, opens, joins, closes, keeps, ended, marked, marks, paired, reach, error_event, merge, finished, Returned, merging}
 use Rattle.merger.specs.Answer.{returning}
-use Rattle.merger.specs.declared.Merged.{Merged}
-use Rattle.merger.specs.declared.Merged.TheVariants.{Malformed, Unpaired, Full, Events}
+use Rattle.shapes.specs.declared.refusal.Refusal.{Refusal}
+use Rattle.shapes.proofs.Refused.{answer_at, refused_back}
+use Rattle.std.specs.Prelude.{Result, Ok, Err}
 use Rattle.merger.proofs.Bools.{never, and_left, and_right, sort_of, kind_of}
 
 -- ONE OUTCOME
-pick : Bool → Merged → Merged → Merged
-pick true a b = a
-pick false a b = b
+answer_of : Returned → Result ℕ Refusal
+answer_of z = answer_at z.number z.count
 
-answer_of : Returned → Merged
-answer_of z = pick (eqb z.number 0) (Events z.count) (pick (eqb z.number 9) Malformed (pick (eqb z.number 10) Unpaired Full))
+answer_back : (r : Result ℕ Refusal) (l : List ℕ) → answer_of (returning r l) ≡ r
+unfolding answer_of
+answer_back (Ok n) l = refl
+answer_back (Err e) l = refused_back e 0
 
-answer_back : (r : Merged) (l : List ℕ) → answer_of (returning r l) ≡ r
-unfolding pick answer_of
-answer_back Malformed l = refl
-answer_back Unpaired l = refl
-answer_back Full l = refl
-answer_back (Events n) l = refl
+room_back : (r : Result ℕ Refusal) (l : List ℕ) → (returning r l).room ≡ l
+room_back (Ok n) l = refl
+room_back (Err e) l = refl
 
-room_back : (r : Merged) (l : List ℕ) → (returning r l).room ≡ l
-room_back Malformed l = refl
-room_back Unpaired l = refl
-room_back Full l = refl
-room_back (Events n) l = refl
-
-pub one_outcome : (events lent : List ℕ) (r r' : Merged) (l l' : List ℕ) → returning r l ≡ merging events lent → returning r' l' ≡ merging events lent → (r ≡ r') × (l ≡ l')
+pub one_outcome : (events lent : List ℕ) (r r' : Result ℕ Refusal) (l l' : List ℕ) → returning r l ≡ merging events lent → returning r' l' ≡ merging events lent → (r ≡ r') × (l ≡ l')
 one_outcome events lent r r' l l' p q =
     let same : returning r l ≡ returning r' l' = p ∙ sym q in
     (sym (answer_back r l) ∙ ap answer_of same ∙ answer_back r' l', sym (room_back r l) ∙ ap (λ (z : Returned). z.room) same ∙ room_back r' l')

@@ -1,10 +1,11 @@
--- The next mark: which mark the event at a place is, with the event after it where the two are joined.
+-- The first mark of a list: which mark its first event is, with the event after it where the two are joined.
 use Prim.Native.Nat.{ℕ, ◌+◌, ◌-◌, ◌≤◌, ◌<◌}
 use mathlib.Core.Path.{◌≡◌, refl, ap, sym, ◌∙◌}
 use mathlib.Core.List.{List, [], ◌∷◌}
 use mathlib.Core.Bool.{Bool, true, false, ◌&&◌}
 use lib.Dec.{eqb}
-use lib.ListN.{length, get_or, drop}
+use lib.ListN.{length, get_or, take, drop, length-drop}
+use lib.Seq.{take_all, get_or-take}
 use borrow.Author.Tests.{eq-eqb, ne_eqb}
 use native.Mathlib.Omega.{arith}
 use Rattle.kinds.specs.Kinds as k
@@ -12,7 +13,7 @@ use Rattle.shapes.specs.Sort as Sort
 use Rattle.shapes.specs.Shapes.{EVENT, Entry, entries}
 use Rattle.definition.specs.Merge.{Mark, opens, joins, closes, keeps, ended, marked, marks, error_of}
 use Rattle.events.specs.Events.{entry_at}
-use Rattle.merger.specs.Events.{rest}
+use Rattle.merger.specs.Events.{marks_of}
 use Rattle.merger.proofs.Bools.{sort_of}
 use Rattle.events.proofs.Lists.{entries_at, entries_end}
 
@@ -56,40 +57,61 @@ other e s h = ap (λ (t : Bool). eqb e.0 s && t) (ne_eqb e.1 k.ERROR h) ∙ go (
     go true = refl
     go false = refl
 
--- AT A PLACE: e is the event there
-module _ (l : List ℕ) (at : ℕ) (more : at + EVENT ≤ length l) (e : Entry) (is : e ≡ entry_at l at) where
-  here : rest l at ≡ marks (e ∷ entries (drop (at + EVENT) l))
-  here = ap marks (entries_at l at more) ∙ ap (λ (f : Entry). marks (f ∷ entries (drop (at + EVENT) l))) (sym is)
+-- OF A LIST: e is its first event
 
-  pub opens_at : error_of Sort.BEGIN e ≡ true → rest l at ≡ opens e.4 (e.2, e.3) ∷ rest l (at + EVENT)
-  opens_at h = here ∙ opened e (entries (drop (at + EVENT) l)) h
+-- the list behind its first event, as the code takes it
+abbrev pub behind : List ℕ → List ℕ
+behind l = take (length l - EVENT) (drop EVENT l)
 
-  pub keeps_at : error_of Sort.BEGIN e ≡ false → error_of Sort.END e ≡ false → rest l at ≡ keeps e ∷ rest l (at + EVENT)
-  keeps_at h g = here ∙ kept e (entries (drop (at + EVENT) l)) h g
+behind_is : (l : List ℕ) → behind l ≡ drop EVENT l
+behind_is l = take_all (length l - EVENT) (drop EVENT l) (rw length-drop (omega arith))
 
-  pub other_at : (get_or l (at + 1) 0 ≡ k.ERROR → ⊥) → rest l at ≡ keeps e ∷ rest l (at + EVENT)
-  other_at h = let n : e.1 ≡ k.ERROR → ⊥ = λ p. h (sym (ap (λ (f : Entry). f.1) is) ∙ p) in keeps_at (other e 1 n) (other e 3 n)
+module _ (l : List ℕ) (more : EVENT ≤ length l) (e : Entry) (is : e ≡ entry_at l 0) where
+  here : marks_of l ≡ marks (e ∷ entries (behind l))
+  here =
+      ap marks (entries_at l 0 more)
+      ∙ ap (λ (f : Entry). marks (f ∷ entries (drop EVENT l))) (sym is)
+      ∙ ap (λ (r : List ℕ). marks (e ∷ entries r)) (sym (behind_is l))
 
-  no_begin : (d : ℕ) → error_of Sort.BEGIN e ≡ false → ended d (rest l at) ≡ closes d ∷ rest l at
-  no_begin d h = ap (ended d) here ∙ closed d e (entries (drop (at + EVENT) l)) h ∙ ap (λ (ms : List Mark). closes d ∷ ms) (sym here)
+  pub opens_first : error_of Sort.BEGIN e ≡ true → marks_of l ≡ opens e.4 (e.2, e.3) ∷ marks_of (behind l)
+  opens_first h = here ∙ opened e (entries (behind l)) h
 
-pub rest_end : (l : List ℕ) (at : ℕ) → length l - at < EVENT → rest l at ≡ []
-rest_end l at h = ap marks (entries_end l at h)
+  pub keeps_first : error_of Sort.BEGIN e ≡ false → error_of Sort.END e ≡ false → marks_of l ≡ keeps e ∷ marks_of (behind l)
+  keeps_first h g = here ∙ kept e (entries (behind l)) h g
 
--- an end at a place, e the event after it
-module _ (l : List ℕ) (at : ℕ) (more : at + EVENT ≤ length l) (end : error_of Sort.END (entry_at l at) ≡ true) where
+  pub other_first : (get_or l 1 0 ≡ k.ERROR → ⊥) → marks_of l ≡ keeps e ∷ marks_of (behind l)
+  other_first h = let n : e.1 ≡ k.ERROR → ⊥ = λ p. h (sym (ap (λ (f : Entry). f.1) is) ∙ p) in keeps_first (other e 1 n) (other e 3 n)
+
+  no_begin : (d : ℕ) → error_of Sort.BEGIN e ≡ false → ended d (marks_of l) ≡ closes d ∷ marks_of l
+  no_begin d h = ap (ended d) here ∙ closed d e (entries (behind l)) h ∙ ap (λ (ms : List Mark). closes d ∷ ms) (sym here)
+
+-- an event of another kind, and what is behind it, as the loops split a list
+pub other_event : (l : List ℕ) {event after : List ℕ} → event ≡ take EVENT l → after ≡ drop EVENT l → length after + EVENT ≡ length l → (get_or event 1 0 ≡ k.ERROR → ⊥)
+    → (e : Entry) → e ≡ entry_at l 0 → marks_of l ≡ keeps e ∷ marks_of after
+other_event l p q n h e is =
+    other_first l (omega arith) e is (λ z. h (ap (λ (t : List ℕ). get_or t 1 0) p ∙ get_or-take EVENT l 1 0 (omega arith) ∙ z))
+    ∙ ap (λ (t : List ℕ). keeps e ∷ marks_of t) (behind_is l ∙ sym q)
+
+pub none_left : (l : List ℕ) → length l < EVENT → marks_of l ≡ []
+none_left l h = ap marks (entries_end l 0 (omega arith))
+
+-- the first event is an end, and e the event after it
+module _ (l : List ℕ) (more : EVENT ≤ length l) (end : error_of Sort.END (entry_at l 0) ≡ true) where
   abbrev d : ℕ
-  d = (entry_at l at).4
+  d = (entry_at l 0).4
 
-  ended_at : rest l at ≡ ended d (rest l (at + EVENT))
-  ended_at = here l at more (entry_at l at) refl ∙ shut (entry_at l at) (entries (drop (at + EVENT) l)) end
+  abbrev next : List ℕ
+  next = behind l
 
-  pub closes_last : length l - (at + EVENT) < EVENT → rest l at ≡ closes d ∷ rest l (at + EVENT)
-  closes_last h = ended_at ∙ ap (ended d) (rest_end l (at + EVENT) h) ∙ ap (λ (ms : List Mark). closes d ∷ ms) (sym (rest_end l (at + EVENT) h))
+  ended_first : marks_of l ≡ ended d (marks_of next)
+  ended_first = here l more (entry_at l 0) refl ∙ shut (entry_at l 0) (entries next) end
 
-  module _ (next : (at + EVENT) + EVENT ≤ length l) (e : Entry) (is : e ≡ entry_at l (at + EVENT)) where
-    pub joins_at : error_of Sort.BEGIN e ≡ true → rest l at ≡ joins (e.2, e.3) ∷ rest l ((at + EVENT) + EVENT)
-    joins_at h = ended_at ∙ ap (ended d) (opens_at l (at + EVENT) next e is h)
+  pub closes_last : length next < EVENT → marks_of l ≡ closes d ∷ marks_of next
+  closes_last h = ended_first ∙ ap (ended d) (none_left next h) ∙ ap (λ (ms : List Mark). closes d ∷ ms) (sym (none_left next h))
 
-    pub closes_at : error_of Sort.BEGIN e ≡ false → rest l at ≡ closes d ∷ rest l (at + EVENT)
-    closes_at h = ended_at ∙ no_begin l (at + EVENT) next e is d h
+  module _ (many : EVENT ≤ length next) (e : Entry) (is : e ≡ entry_at next 0) where
+    pub joins_first : error_of Sort.BEGIN e ≡ true → marks_of l ≡ joins (e.2, e.3) ∷ marks_of (behind next)
+    joins_first h = ended_first ∙ ap (ended d) (opens_first next many e is h)
+
+    pub closes_first : error_of Sort.BEGIN e ≡ false → marks_of l ≡ closes d ∷ marks_of next
+    closes_first h = ended_first ∙ no_begin next many e is d h

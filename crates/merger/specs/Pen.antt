@@ -4,7 +4,7 @@ use Rattle.shapes.specs.Sort as Sort
 use Rattle.shapes.specs.Shapes.{EVENT, Entry}
 use Rattle.definition.specs.Merge.{Mark, opens, joins, closes, keeps, Span, widened, error_event, paired, finished}
 use Rattle.events.specs.Events.{entry_at}
-use Rattle.merger.specs.Events.{put_at, rest}
+use Rattle.merger.specs.Events.{put_at, marks_of}
 use Rattle.merger.specs.declared.pen.Pen.{Pen}
 
 pub record Page : Type 0 where
@@ -58,5 +58,5 @@ Able (keeps e) g = Roomy g
 
 -- no refusal stands in the way
 pub record Writable (events room : List ℕ) : Type 0 where
-  pub nested : paired (rest events 0) 0 ≡ true
+  pub nested : paired (marks_of events) 0 ≡ true
   pub fits : EVENT * length (finished events) ≤ length room

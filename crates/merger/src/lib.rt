@@ -9,39 +9,25 @@ ghost use Rattle.std.specs.Prelude.{◌≡◌};
 ghost use Rattle.definition.specs.Merge.{merging};
 ghost use Rattle.merger.specs.Answer.{returning};
 
-use crate::judge::{Size, count};
+use crate::judge::count;
 use crate::pen::write;
-use cells::clear;
+use cells::fill;
 use events::well_formed;
 use shapes::event::EVENT;
+use shapes::refusal::Refusal;
 
-#[derive(Drop)]
-pub enum Merged {
-    // Refusal 9.
-    Malformed,
-    // Refusal 10.
-    Unpaired,
-    // Refusal 7.
-    Full,
-    // How many events the finished list has.
-    Events(usize),
-}
-
-// Either the refusal, with the room as lent, or the finished list in the room, with zeros past it.
-pub fn merge(events: &[u32], room: &mut [u32]) -> Merged
+// Either the refusal, with the room as lent, or how many events the finished list has, which then stands in the room with zeros past it.
+pub fn merge(events: &[u32], room: &mut [u32]) -> Result<usize, Refusal>
     ensures { returning result room.new ≡ merging events.now room.old }
 {
     if !well_formed(events) {
-        return Merged::Malformed;
+        return Err(Refusal::Malformed);
     }
-    let c = count(events);
-    let Size::Events(n) = c else {
-        return Merged::Unpaired;
-    };
+    let n = count(events).ok_or(Refusal::Unpaired)?;
     if room.len() / EVENT < n {
-        return Merged::Full;
+        return Err(Refusal::Events);
     }
     write(events, room);
-    clear(&mut room[n * EVENT..]);
-    Merged::Events(n)
+    fill(&mut room[n * EVENT..], 0);
+    Ok(n)
 }

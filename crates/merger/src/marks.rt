@@ -1,30 +1,23 @@
 // What an event list is to the merger, one mark after the other.
 ghost use Rattle.std.specs.Prelude.{◌≡◌, true, ◌+◌, ◌≤◌, length};
-ghost use Rattle.shapes.specs.Sort as Sort;
+ghost use Rattle.shapes.specs.Sort as S;
 ghost use Rattle.shapes.specs.Shapes.{EVENT};
 ghost use Rattle.definition.specs.Merge.{error_of};
 ghost use Rattle.events.specs.Events.{entry_of, entry_at};
 ghost use Rattle.merger.specs.Events.{put_at, Reads};
 
 use events::{Event, read};
-use kinds::kind::ERROR;
+use kinds::Kind;
 use shapes::event::{DEPTH, END, EVENT, KIND, START};
-use shapes::sort;
+use shapes::sort::Sort;
 
 // Opens bears depth and span of an ERROR begin, Joins its span, Closes the depth of an ERROR end.
-#[derive(Drop)]
+#[derive(Clone, Copy)]
 pub enum Mark {
     Opens(u32, u32, u32),
     Joins(u32, u32),
     Closes(u32),
     Keeps(Event),
-}
-
-// A mark, and the place past the numbers that it stands for.
-#[derive(Drop)]
-pub struct Step {
-    pub mark: Mark,
-    pub past: usize,
 }
 
 pub fn put(room: &mut [u32], at: usize, e: Event)
@@ -38,59 +31,40 @@ pub fn put(room: &mut [u32], at: usize, e: Event)
     room[at + DEPTH] = e.depth;
 }
 
-fn is_error(e: Event, sort: u32) -> bool
-    ensures { result ≡ error_of sort (entry_of e) }
+fn is_error(e: Event, sort: Sort) -> bool
+    ensures { result ≡ error_of (S.number sort) (entry_of e) }
 {
-    if e.sort == sort {
-        e.kind == ERROR
-    } else {
-        false
-    }
+    e.sort == u32::from(sort) && e.kind == Kind::Error as u32
 }
 
 // An ERROR end takes the ERROR begin directly after it along.
-fn ended(events: &[u32], at: usize) -> Step
-    requires { (at + EVENT ≤ length events.now) × (error_of Sort.END (entry_at events.now at) ≡ true) }
-    ensures { Reads events.now at result }
+fn ended(events: &[u32]) -> (Mark, &[u32])
+    requires { (EVENT ≤ length events.now) × (error_of S.END (entry_at events.now 0) ≡ true) }
+    ensures { Reads events.now result.0 result.1.now }
 {
-    let depth = events[at + DEPTH];
-    let past = at + EVENT;
-    if events.len() - past < EVENT {
-        return Step {
-            mark: Mark::Closes(depth),
-            past,
-        };
+    let depth = events[DEPTH];
+    let behind = &events[EVENT..];
+    if behind.len() < EVENT {
+        return (Mark::Closes(depth), behind);
     }
-    let e = read(events, past);
-    if is_error(e, sort::BEGIN) {
-        return Step {
-            mark: Mark::Joins(e.start, e.end),
-            past: past + EVENT,
-        };
+    let e = read(behind, 0);
+    if is_error(e, Sort::Begin) {
+        return (Mark::Joins(e.start, e.end), &behind[EVENT..]);
     }
-    Step {
-        mark: Mark::Closes(depth),
-        past,
-    }
+    (Mark::Closes(depth), behind)
 }
 
-// The next mark of a list that has an event more.
-pub fn mark_at(events: &[u32], at: usize) -> Step
-    requires { at + EVENT ≤ length events.now }
-    ensures { Reads events.now at result }
+// The first mark of a list that has an event, and the list behind what the mark stands for.
+pub fn first_mark(events: &[u32]) -> (Mark, &[u32])
+    requires { EVENT ≤ length events.now }
+    ensures { Reads events.now result.0 result.1.now }
 {
-    let e = read(events, at);
-    if is_error(e, sort::BEGIN) {
-        return Step {
-            mark: Mark::Opens(e.depth, e.start, e.end),
-            past: at + EVENT,
-        };
+    let e = read(events, 0);
+    if is_error(e, Sort::Begin) {
+        return (Mark::Opens(e.depth, e.start, e.end), &events[EVENT..]);
     }
-    if is_error(e, sort::END) {
-        return ended(events, at);
+    if is_error(e, Sort::End) {
+        return ended(events);
     }
-    Step {
-        mark: Mark::Keeps(e),
-        past: at + EVENT,
-    }
+    (Mark::Keeps(e), &events[EVENT..])
 }

@@ -1,40 +1,28 @@
 // Writing the finished list. While an ERROR node is open, sort and kind of its begin event are known, so their cells hold a link instead: the place past
 // the begin event of the ERROR node around it, in two halves of 32 bits, since a list may be longer than a cell can count. When the node closes, the
 // link says at once which node is the innermost again, and sort and kind are written back.
-ghost use Rattle.std.specs.Prelude.{◌≡◌, ◌*◌, min, max, length, take};
+ghost use Rattle.std.specs.Prelude.{◌≡◌, ◌*◌, length, take};
 ghost use Rattle.shapes.specs.Shapes.{EVENT, flat};
 ghost use Rattle.definition.specs.Merge as D;
 ghost use Rattle.events.specs.Events.{entry_of};
 ghost use Rattle.merger.specs.Events.{mark_of};
 ghost use Rattle.merger.specs.Pen.{page, turn, Able, Writable};
 
-use crate::marks::{Mark, mark_at, put};
+use crate::marks::{Mark, first_mark, put};
 use events::{Event, read};
-use kinds::kind::ERROR;
+use kinds::Kind;
 use shapes::event::{EVENT, KIND};
-use shapes::sort;
+use shapes::sort::Sort;
 
 // What half a link can count.
 const HALF: usize = 4294967296;
 
-#[derive(Drop)]
+#[derive(Clone, Copy)]
 pub struct Pen {
     // The place past the last event that is written.
     pub to: usize,
-    // The place past the begin event of the innermost ERROR node that is open, or 0 where none is.
+    // The place past the begin event of the innermost ERROR node that is open, or 0 where none is: a number, as in the link that cells hold.
     pub node: usize,
-}
-
-fn least(a: u32, b: u32) -> u32
-    ensures { result ≡ min a b }
-{
-    if a < b { a } else { b }
-}
-
-fn greatest(a: u32, b: u32) -> u32
-    ensures { result ≡ max a b }
-{
-    if a < b { b } else { a }
 }
 
 impl Pen {
@@ -64,8 +52,8 @@ impl Pen {
     {
         let begin = self.node - EVENT;
         let mut e = read(room, begin);
-        e.start = least(e.start, start);
-        e.end = greatest(e.end, end);
+        e.start = e.start.min(start);
+        e.end = e.end.max(end);
         put(room, begin, e);
         self
     }
@@ -78,10 +66,10 @@ impl Pen {
         let to = self.to;
         let mut e = read(room, begin);
         let node = e.sort as usize + e.kind as usize * HALF;
-        e.sort = sort::BEGIN;
-        e.kind = ERROR;
+        e.sort = u32::from(Sort::Begin);
+        e.kind = Kind::Error as u32;
         put(room, begin, e);
-        e.sort = sort::END;
+        e.sort = u32::from(Sort::End);
         e.depth = depth;
         put(room, to, e);
         Pen {
@@ -120,19 +108,17 @@ pub fn write(events: &[u32], room: &mut [u32])
     requires { Writable events.now room.old }
     ensures { take (EVENT * length (D.finished events.now)) room.new ≡ flat (D.finished events.now) }
 {
-    let mut at: usize = 0;
+    let mut rest = events;
     let mut pen = Pen { to: 0, node: 0 };
-    while events.len() - at >= EVENT {
+    while let Some((event, behind)) = rest.split_first_chunk::<EVENT>() {
         // As in `count`, only an event that may be an ERROR node's is read as a mark.
-        if events[at + KIND] == ERROR {
-            let n = mark_at(events, at);
-            at = n.past;
-            let m = n.mark;
-            pen = pen.turn(m, room);
+        if event[KIND] == Kind::Error as u32 {
+            let (mark, unread) = first_mark(rest);
+            rest = unread;
+            pen = pen.turn(mark, room);
         } else {
-            let e = read(events, at);
-            at += EVENT;
-            pen = pen.keeps(e, room);
+            pen = pen.keeps(read(rest, 0), room);
+            rest = behind;
         }
     }
 }

@@ -3,8 +3,8 @@
 #![tactic(auto)]
 
 use console::{print_decimal, write};
-use merger::Merged;
-use shapes::event::{DEPTH, END, EVENT, KIND, START};
+use shapes::event::EVENT;
+use shapes::refusal::Refusal;
 
 fn number(rt: &impl Print, n: u64) {
     write(rt, b" ");
@@ -15,25 +15,20 @@ fn line_end(rt: &impl Print) {
     write(rt, b"\n");
 }
 
-fn answer(rt: &impl Print, name: &[u8], r: Merged) {
+fn answer(rt: &impl Print, name: &[u8], r: Result<usize, Refusal>) {
     write(rt, name);
-    match r {
-        Merged::Malformed => write(rt, b" 9 0 :"),
-        Merged::Unpaired => write(rt, b" 10 0 :"),
-        Merged::Full => write(rt, b" 7 0 :"),
-        Merged::Events(n) => {
-            number(rt, 0);
-            number(rt, n as u64);
-            write(rt, b" :")
-        }
+    let (refusal, events) = match r {
+        Ok(n) => (0, n),
+        Err(refusal) => (u32::from(refusal), 0),
     };
+    number(rt, u64::from(refusal));
+    number(rt, events as u64);
+    write(rt, b" :");
 }
 
 fn numbers(rt: &impl Print, l: &[u32]) {
-    let mut i = 0;
-    while i < l.len() {
-        number(rt, l[i] as u64);
-        i += 1;
+    for n in l {
+        number(rt, u64::from(*n));
     }
     line_end(rt);
 }
@@ -50,13 +45,9 @@ fn line(rt: &impl Print, name: &[u8], events: &[u32], size: usize) {
     }
 }
 
-fn put(events: &mut [u32], n: usize, sort: u32, kind: u32, start: u32, end: u32, depth: u32) {
+fn put(events: &mut [u32], n: usize, event: [u32; EVENT]) {
     if n < events.len() / EVENT {
-        events[EVENT * n] = sort;
-        events[EVENT * n + KIND] = kind;
-        events[EVENT * n + START] = start;
-        events[EVENT * n + END] = end;
-        events[EVENT * n + DEPTH] = depth;
+        events[EVENT * n..EVENT * n + EVENT].copy_from_slice(&event);
     }
 }
 
@@ -124,41 +115,41 @@ fn unpaired(rt: &impl Print) {
 // One pass leaves the inner pair.
 fn inner(rt: &impl Print) {
     let mut events = [0u32; 50];
-    put(&mut events, 0, 1, 87, 0, 1, 0);
-    put(&mut events, 1, 1, 87, 0, 1, 1);
-    put(&mut events, 2, 2, 4, 0, 1, 2);
-    put(&mut events, 3, 3, 87, 0, 1, 1);
-    put(&mut events, 4, 3, 87, 0, 1, 0);
-    put(&mut events, 5, 1, 87, 1, 2, 0);
-    put(&mut events, 6, 1, 87, 1, 2, 1);
-    put(&mut events, 7, 2, 6, 1, 2, 2);
-    put(&mut events, 8, 3, 87, 1, 2, 1);
-    put(&mut events, 9, 3, 87, 1, 2, 0);
+    put(&mut events, 0, [1, 87, 0, 1, 0]);
+    put(&mut events, 1, [1, 87, 0, 1, 1]);
+    put(&mut events, 2, [2, 4, 0, 1, 2]);
+    put(&mut events, 3, [3, 87, 0, 1, 1]);
+    put(&mut events, 4, [3, 87, 0, 1, 0]);
+    put(&mut events, 5, [1, 87, 1, 2, 0]);
+    put(&mut events, 6, [1, 87, 1, 2, 1]);
+    put(&mut events, 7, [2, 6, 1, 2, 2]);
+    put(&mut events, 8, [3, 87, 1, 2, 1]);
+    put(&mut events, 9, [3, 87, 1, 2, 0]);
     line(rt, b"[[a]] [[b]]", &events, 40);
 }
 
 // The least start and the greatest end, whatever the ends had.
 fn spans(rt: &impl Print) {
     let mut events = [0u32; 30];
-    put(&mut events, 0, 1, 87, 5, 6, 0);
-    put(&mut events, 1, 3, 87, 0, 0, 0);
-    put(&mut events, 2, 1, 87, 1, 9, 0);
-    put(&mut events, 3, 3, 87, 0, 0, 0);
-    put(&mut events, 4, 1, 87, 4294967295, 2, 0);
-    put(&mut events, 5, 3, 87, 4294967295, 0, 0);
+    put(&mut events, 0, [1, 87, 5, 6, 0]);
+    put(&mut events, 1, [3, 87, 0, 0, 0]);
+    put(&mut events, 2, [1, 87, 1, 9, 0]);
+    put(&mut events, 3, [3, 87, 0, 0, 0]);
+    put(&mut events, 4, [1, 87, 4294967295, 2, 0]);
+    put(&mut events, 5, [3, 87, 4294967295, 0, 0]);
     line(rt, b"any spans", &events, 10);
 }
 
 // What is joined inside leaves the span around it.
 fn outer(rt: &impl Print) {
     let mut events = [0u32; 35];
-    put(&mut events, 0, 1, 87, 3, 4, 0);
-    put(&mut events, 1, 1, 87, 1, 2, 1);
-    put(&mut events, 2, 3, 87, 1, 2, 1);
-    put(&mut events, 3, 1, 87, 2, 9, 1);
-    put(&mut events, 4, 3, 87, 2, 9, 1);
-    put(&mut events, 5, 2, 4, 9, 10, 1);
-    put(&mut events, 6, 3, 87, 3, 4, 0);
+    put(&mut events, 0, [1, 87, 3, 4, 0]);
+    put(&mut events, 1, [1, 87, 1, 2, 1]);
+    put(&mut events, 2, [3, 87, 1, 2, 1]);
+    put(&mut events, 3, [1, 87, 2, 9, 1]);
+    put(&mut events, 4, [3, 87, 2, 9, 1]);
+    put(&mut events, 5, [2, 4, 9, 10, 1]);
+    put(&mut events, 6, [3, 87, 3, 4, 0]);
     line(rt, b"[[a][b] c]", &events, 25);
 }
 
@@ -167,47 +158,49 @@ fn leaves(rt: &impl Print) {
     let end = [1u32, 87, 2, 7, 0, 3, 87, 0, 0, 0];
     line(rt, b"end", &end, 10);
     let mut events = [0u32; 30];
-    put(&mut events, 0, 1, 87, 0, 1, 0);
-    put(&mut events, 1, 3, 87, 0, 1, 0);
-    put(&mut events, 2, 4, 87, 0, 1, 0);
-    put(&mut events, 3, 1, 87, 1, 2, 0);
-    put(&mut events, 4, 2, 87, 1, 2, 1);
-    put(&mut events, 5, 3, 87, 1, 2, 0);
+    put(&mut events, 0, [1, 87, 0, 1, 0]);
+    put(&mut events, 1, [3, 87, 0, 1, 0]);
+    put(&mut events, 2, [4, 87, 0, 1, 0]);
+    put(&mut events, 3, [1, 87, 1, 2, 0]);
+    put(&mut events, 4, [2, 87, 1, 2, 1]);
+    put(&mut events, 5, [3, 87, 1, 2, 0]);
     line(rt, b"leaves", &events, 30);
 }
 
 // P4, in which nothing is joined.
 fn small_file(rt: &impl Print) {
     let mut events = [0u32; 30];
-    put(&mut events, 0, 1, 88, 0, 22, 0);
-    put(&mut events, 1, 1, 87, 0, 0, 1);
-    put(&mut events, 2, 1, 87, 0, 0, 2);
-    put(&mut events, 3, 3, 87, 0, 0, 2);
-    put(&mut events, 4, 3, 87, 0, 0, 1);
-    put(&mut events, 5, 3, 88, 0, 22, 0);
+    put(&mut events, 0, [1, 88, 0, 22, 0]);
+    put(&mut events, 1, [1, 87, 0, 0, 1]);
+    put(&mut events, 2, [1, 87, 0, 0, 2]);
+    put(&mut events, 3, [3, 87, 0, 0, 2]);
+    put(&mut events, 4, [3, 87, 0, 0, 1]);
+    put(&mut events, 5, [3, 88, 0, 22, 0]);
     line(rt, b"P4", &events, 30);
 }
 
 // ERROR nodes, each in the one before, whose ends have no span yet.
 fn nest(events: &mut [u32]) {
-    let mut n: usize = 0;
-    while n < 500 {
-        put(events, n, 1, 87, n as u32, 1000 - n as u32, n as u32);
-        put(events, 999 - n, 3, 87, 0, 0, n as u32);
-        n += 1;
+    for n in 0..500 {
+        let depth = n as u32;
+        put(events, n, [1, 87, depth, 1000 - depth, depth]);
+        put(events, 999 - n, [3, 87, 0, 0, depth]);
     }
 }
 
 // ERROR nodes in a row, each wider than the one before, in an ERROR node.
 fn row(events: &mut [u32]) {
-    put(events, 0, 1, 87, 1500, 1500, 0);
-    let mut n: usize = 1;
-    while n < 999 {
-        put(events, n, 1, 87, 1000 - n as u32, 1000 + n as u32, 1);
-        put(events, n + 1, 3, 87, 0, 0, 1);
-        n += 2;
+    put(events, 0, [1, 87, 1500, 1500, 0]);
+    for n in 0..499 {
+        let begin = 2 * n + 1;
+        put(
+            events,
+            begin,
+            [1, 87, 1000 - begin as u32, 1000 + begin as u32, 1],
+        );
+        put(events, begin + 1, [3, 87, 0, 0, 1]);
     }
-    put(events, 999, 3, 87, 0, 0, 0);
+    put(events, 999, [3, 87, 0, 0, 0]);
 }
 
 // Of the deep nest's finished list the two outermost nodes and the two innermost are shown.

@@ -2,15 +2,17 @@
 use Prim.Native.Nat.{ℕ, zero, suc, ◌+◌, ◌-◌, ◌≤◌, ◌<◌}
 use mathlib.Core.Path.{◌≡◌, refl, sym, ap, ◌∙◌}
 use mathlib.Core.List.{List, [], ◌∷◌}
-use mathlib.Core.Bool.{Bool, true, false, cond, not, ◌&&◌}
+use mathlib.Core.Bool.{Bool, true, false, cond, not, ◌&&◌, ◌||◌}
 use native.Mathlib.Nat.{min-le_left}
 use native.Mathlib.Numerals.{add-one}
 use native.Mathlib.Omega.{arith}
-use borrow.Author.Tests.{leb-true, eqb-true, le-ltb, lt-ltb, eq-eqb, ne_eqb}
+use borrow.Author.Tests.{leb-true, eqb-true, le-ltb, lt-ltb}
 use lib.Dec.{eqb, leb}
-use lib.ListN.{length, get_or, take, drop, drop_of_length-le}
-use lib.Seq.{drop-cons}
-use Rattle.messages.specs.Record.{start, end, form, count, names, found, head, size, counts, has, named, empty, shows, reads}
+use lib.ListN.{length, get_or, take, drop}
+use lib.Seq.{drop-cons, take-suc}
+use Rattle.std.specs.List.{list_any}
+use Rattle.std.proofs.lemmas.List.Folds.{list_any-append}
+use Rattle.messages.specs.Record.{start, end, form, count, names, found, head, size, counts, has, named, shows, reads}
 use Rattle.messages.specs.Written.{before}
 use Rattle.messages.proofs.Cuts.{names_count}
 
@@ -58,37 +60,19 @@ module _ (s r : List ℕ) where
         shown = and_right (t₁ && leb 1 (form r) && leb (form r) 10 && t₃ && t₂ && named [] (names r)) (shows (form r) (found s r)) e;
       }
 
--- an empty text
-pub empty_yes : (t : List ℕ) → length t ≡ 0 → empty t ≡ true
-empty_yes [] h = refl
-empty_yes (b ∷ t) h = absurd (omega arith)
-
-pub empty_no : (t : List ℕ) → (length t ≡ 0 → ⊥) → empty t ≡ false
-empty_no [] h = absurd (h refl)
-empty_no (b ∷ t) h = refl
-
-pub empty_test : (t : List ℕ) → empty t ≡ eqb (length t) 0
-empty_test [] = refl
-empty_test (b ∷ t) = sym (ne_eqb (suc (length t)) 0 (omega arith))
-
--- a number among the first ones of a list, looked for from the last of them
-module _ (l : List ℕ) where
-  pub met_here : (i : ℕ) {n : ℕ} → 0 < i → get_or l (i - 1) 0 ≡ n → true ≡ has (before i l) n
-  met_here zero h e = absurd (omega arith)
-  met_here (suc i) {n} h e =
-      let z : suc i - 1 ≡ i = omega arith in
-      sym (ap (λ (b : Bool). cond b true (has (before i l) n)) (eq-eqb (get_or l i 0) n (ap (λ (k : ℕ). get_or l k 0) (sym z) ∙ e)))
-
-  pub met_on : (i : ℕ) {n : ℕ} → 0 < i → (get_or l (i - 1) 0 ≡ n → ⊥) → has (before (i - 1) l) n ≡ has (before i l) n
-  met_on zero h e = absurd (omega arith)
-  met_on (suc i) {n} h e =
-      let z : suc i - 1 ≡ i = omega arith in
-      ap (λ (k : ℕ). has (before k l) n) z
-      ∙ sym (ap (λ (b : Bool). cond b true (has (before i l) n)) (ne_eqb (get_or l i 0) n (λ f. e (ap (λ (k : ℕ). get_or l k 0) z ∙ f))))
-
-pub met_none : (i : ℕ) (l : List ℕ) (n : ℕ) → i ≤ 0 → false ≡ has (before i l) n
-met_none zero l n h = refl
-met_none (suc i) l n h = absurd (omega arith)
+-- a number among the first ones of a list
+pub met : (l : List ℕ) (i n : ℕ) → i ≤ length l → list_any (λ m. eqb m n) (take i l) ≡ has (before i l) n
+met l zero n h = refl
+met l (suc i) n h =
+    ap (list_any (λ m. eqb m n)) (take-suc l i 0 h)
+    ∙ list_any-append (λ m. eqb m n) (take i l) (get_or l i 0 ∷ [])
+    ∙ seen (eqb (get_or l i 0) n) (list_any (λ m. eqb m n) (take i l)) (met l i n (omega arith))
+  where
+    seen : (b a : Bool) {h : Bool} → a ≡ h → a || (b || false) ≡ cond b true h
+    seen true true e = refl
+    seen true false e = refl
+    seen false true e = e
+    seen false false e = e
 
 -- the numbers from i on are names, and none is among those before
 module _ (l : List ℕ) (i : ℕ) where
@@ -97,10 +81,6 @@ module _ (l : List ℕ) (i : ℕ) where
 
   here : i < length l → named (before i l) (get_or l i 0 ∷ drop (suc i) l) ≡ from_here
   here h = ap (named (before i l)) (sym (drop-cons l i 0 h))
-
-  pub no_name : i < length l → 85 ≤ get_or l i 0 → false ≡ from_here
-  no_name h e =
-      sym (ap (λ (b : Bool). b && not (has (before i l) (get_or l i 0)) && named (before (suc i) l) (drop (suc i) l)) (le-ltb (get_or l i 0) 85 e)) ∙ here h
 
   pub twice : i < length l → get_or l i 0 < 85 → has (before i l) (get_or l i 0) ≡ true → false ≡ from_here
   twice h e m =
@@ -116,9 +96,6 @@ module _ (l : List ℕ) (i : ℕ) where
       (ap (λ (b : Bool). b && not (has (before i l) (get_or l i 0)) && named (before (suc i) l) (drop (suc i) l)) (lt-ltb (get_or l i 0) 85 e)
       ∙ ap (λ (b : Bool). not b && named (before (suc i) l) (drop (suc i) l)) m)
       ∙ here h
-
-  pub all_named : length l ≤ i → true ≡ from_here
-  all_named h = sym (ap (named (before i l)) (drop_of_length-le l h))
 
 -- the names as the code lends them
 pub names_part : (r : List ℕ) → named [] (take (head + count r - head) (drop head r)) ≡ named [] (names r)

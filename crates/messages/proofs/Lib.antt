@@ -1,6 +1,4 @@
-pub mod Either
 pub mod Cuts
-pub mod Zeros
 pub mod Puts
 pub mod Listed
 pub mod Joined

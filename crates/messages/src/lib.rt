@@ -13,21 +13,23 @@ ghost use Rattle.std.specs.Prelude.{◌≤◌, ◌<◌, ◌≡◌, leb, length, 
 ghost use Rattle.messages.specs.Record.{start, names, part};
 ghost use Rattle.messages.specs.Spot.{spot_of};
 ghost use Rattle.messages.specs.Message.{messaging};
-ghost use Rattle.messages.specs.Pieces.{told, content, listed, opening, quoted, closing, pieces, piece_at, whole};
+ghost use Rattle.messages.specs.Pieces.{told, content, listed, opening, closing, pieces, piece_at, whole};
 ghost use Rattle.messages.specs.Answer.{returning};
 ghost use Rattle.messages.specs.Written.{Put};
 
-use crate::reading::{least, reads};
+use crate::reading::reads;
 use crate::record::number_at;
 use crate::writing::put;
-pub use answer::{Part, Written};
-use cells::blank;
+pub use answer::Part;
+use cells::fill;
 pub use record::size;
 use shapes::record::{COUNT, END, FORM, HEAD, START};
+use shapes::refusal::Refusal;
 pub use spot::{Spot, spot_of};
 pub use text::{TEXT, begins};
 
-// Numbers of joints in the name text; a form from 4 on has its own words, with number SENTENCES + form.
+// Numbers of joints in the name text; a form from 4 on has its own words, with number SENTENCES + form. They stay numbers, as places of one table whose
+// first 85 are the names.
 const COMMA: usize = 85;
 
 const OR: usize = 86;
@@ -52,13 +54,15 @@ fn told(n: usize) -> Part
     Part::Text(from, to)
 }
 
+// A form stays the number that the record has: `place` promises a piece for any record, with a form that is none too.
 fn opening(form: u32) -> Part
     ensures { result ≡ told (opening form) }
 {
     if form < 4 {
-        return told(EXPECTING);
+        told(EXPECTING)
+    } else {
+        told(SENTENCES + form as usize)
     }
-    told(SENTENCES + form as usize)
 }
 
 // How many names the record has.
@@ -67,89 +71,61 @@ fn count_of(numbers: &[u32]) -> usize
     ensures upper_bound { result < 4294967296 }
 {
     let count = number_at(numbers, COUNT) as usize;
-    if numbers.len() < HEAD {
-        return 0;
-    }
-    least(count, numbers.len() - HEAD)
+    count.min(numbers.len().saturating_sub(HEAD))
 }
 
 // How many pieces the names make: a description each, with a joint between two.
+#[tactic(auto, using(crate::proofs::Listed::listed_length))]
 fn spread(numbers: &[u32]) -> usize
     ensures value { result ≡ length (listed (names numbers.now)) }
     ensures upper_bound { result < 8589934592 }
 {
     let count = count_of(numbers);
-    if count == 0 {
-        return 0;
-    }
-    2 * count - 1
+    (2 * count).saturating_sub(1)
 }
 
 // One of the pieces that the names make.
+#[tactic(auto, using(crate::proofs::Listed::is_name, crate::proofs::Listed::is_comma, crate::proofs::Listed::is_or))]
 fn name_piece(numbers: &[u32], j: usize) -> Part
     requires { j < length (listed (names numbers.now)) }
     ensures { result ≡ get_or (listed (names numbers.now)) j (Part.Text 0 0) }
 {
     let i = j / 2;
     if j % 2 == 0 {
-        return told(number_at(numbers, HEAD + i) as usize);
+        told(number_at(numbers, HEAD + i) as usize)
+    } else if i + 2 < count_of(numbers) {
+        told(COMMA)
+    } else {
+        told(OR)
     }
-    if i + 2 < count_of(numbers) {
-        return told(COMMA);
-    }
-    told(OR)
-}
-
-fn quoted(start: usize, end: usize, j: usize) -> Part
-    ensures { result ≡ get_or (quoted start end) j (Part.Text 0 0) }
-{
-    if j == 0 {
-        return Part::Source(start, end);
-    }
-    if j == 1 {
-        return told(QUOTE);
-    }
-    Part::Text(0, 0)
 }
 
 fn closing(form: u32, start: usize, end: usize, j: usize) -> Part
     ensures { result ≡ get_or (closing form start end) j (Part.Text 0 0) }
 {
-    if form == 1 {
-        if j == 0 {
-            return told(FOUND);
-        }
-        return quoted(start, end, j - 1);
+    match (form, j) {
+        (1, 0) => told(FOUND),
+        (1, 1) | (4, 0) => Part::Source(start, end),
+        (1, 2) | (4, 1) => told(QUOTE),
+        (3, 0) => told(FOUND_END),
+        _ => Part::Text(0, 0),
     }
-    if form == 4 {
-        return quoted(start, end, j);
-    }
-    if form == 3 {
-        if j == 0 {
-            return told(FOUND_END);
-        }
-        return Part::Text(0, 0);
-    }
-    Part::Text(0, 0)
 }
 
 fn closing_count(form: u32) -> usize
     ensures value { result ≡ length (closing form 0 0) }
     ensures upper_bound { result < 4 }
 {
-    if form == 1 {
-        return 3;
+    match form {
+        1 => 3,
+        4 => 2,
+        3 => 1,
+        _ => 0,
     }
-    if form == 4 {
-        return 2;
-    }
-    if form == 3 {
-        return 1;
-    }
-    0
 }
 
-// Which part the piece with the given number, from 0, is; past the last it is the empty part of the name text.
+// Which part the piece with the given number, from 0, is; past the last it is the empty part of the name text (`piece_at`), so that there is always one.
+#[tactic(auto, using(crate::proofs::Listed::at_first, crate::proofs::Listed::at_name, crate::proofs::Listed::at_closed))]
 pub fn place(numbers: &[u32], k: usize) -> Part
     ensures { result ≡ piece_at numbers.now k }
 {
@@ -168,6 +144,7 @@ pub fn place(numbers: &[u32], k: usize) -> Part
 }
 
 // How many pieces the message has.
+#[tactic(auto, using(crate::proofs::Listed::pieces_length))]
 pub fn piece_count(numbers: &[u32]) -> usize
     ensures { result ≡ length (pieces numbers.now) }
 {
@@ -179,71 +156,60 @@ pub fn piece_count(numbers: &[u32]) -> usize
 fn cut(s: &[u8], from: usize, to: usize) -> &[u8]
     ensures { result.now ≡ part s.now from to }
 {
-    let end = least(to, s.len());
-    if end < from {
-        return &s[..0];
-    }
-    &s[from..end]
+    s.get(from..to.min(s.len())).unwrap_or(&[])
 }
 
-// The next piece of the message, after k of them: a part of the source or a part of the name text.
+// The next piece of the message, after k of them: a part of the source or a part of the name text, of which both are lent.
 pub fn piece<'a>(source: &'a [u8], text: &'a [u8], numbers: &[u32], k: usize) -> &'a [u8]
     ensures { result.now ≡ content source.now text.now (piece_at numbers.now k) }
 {
-    let p = place(numbers, k);
-    match p {
+    match place(numbers, k) {
         Part::Source(from, to) => cut(source, from, to),
         Part::Text(from, to) => cut(text, from, to),
     }
 }
 
 // The pieces joined fit the room.
-fn fits<'a>(source: &'a [u8], text: &'a [u8], numbers: &[u32], room: usize) -> bool
+fn fits(source: &[u8], text: &[u8], numbers: &[u32], room: usize) -> bool
     ensures { result ≡ leb (length (whole source.now text.now (pieces numbers.now))) room }
 {
-    let n = piece_count(numbers);
     let mut left = room;
-    let mut k = 0;
-    while k < n {
+    for k in 0..piece_count(numbers) {
         let size = piece(source, text, numbers, k).len();
         if left < size {
             return false;
         }
         left -= size;
-        k += 1;
     }
     true
 }
 
 // Writes the pieces one behind the other.
-fn write<'a>(source: &'a [u8], text: &'a [u8], numbers: &[u32], room: &mut [u8]) -> usize
+fn write(source: &[u8], text: &[u8], numbers: &[u32], room: &mut [u8]) -> usize
     requires { length (whole source.now text.now (pieces numbers.now)) ≤ length room.old }
     ensures { Put (whole source.now text.now (pieces numbers.now)) 0 room.old room.new result }
 {
-    let n = piece_count(numbers);
     let mut end = 0;
-    let mut k = 0;
-    while k < n {
+    for k in 0..piece_count(numbers) {
         end = put(piece(source, text, numbers, k), room, end);
-        k += 1;
     }
     end
 }
 
 // Writes the message of the record that the numbers begin with at the front of the room, and zeros behind it; or refuses, with the room as lent.
-pub fn message(source: &[u8], numbers: &[u32], room: &mut [u8]) -> Written
+#[tactic(auto, using(crate::proofs::Answers::unread, crate::proofs::Answers::full, crate::proofs::Answers::done))]
+pub fn message(source: &[u8], numbers: &[u32], room: &mut [u8]) -> Result<usize, Refusal>
     ensures { returning result room.new ≡ messaging source.now numbers.now room.old }
 {
     if !reads(source, numbers) {
-        return Written::Unread;
+        return Err(Refusal::Record);
     }
-    let text = TEXT;
-    if !fits(source, &text, numbers, room.len()) {
-        return Written::Full;
+    if !fits(source, &TEXT, numbers, room.len()) {
+        return Err(Refusal::Text);
     }
-    let end = write(source, &text, numbers, room);
-    blank(&mut room[end..]);
-    Written::Length(end)
+    let end = write(source, &TEXT, numbers, room);
+    fill(&mut room[end..], 0);
+    Ok(end)
 }
 
 // Where the record's span begins.

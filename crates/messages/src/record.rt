@@ -11,10 +11,7 @@ const PLACES: usize = 1;
 pub fn number_at(list: &[u32], at: usize) -> u32
     ensures { result ≡ get_or list.now at 0 }
 {
-    if at < list.len() {
-        return list[at];
-    }
-    0
+    list.get(at).copied().unwrap_or(0)
 }
 
 // How many numbers stand behind the names.

@@ -2,10 +2,8 @@
 ghost use Rattle.std.specs.Prelude.{◌≡◌};
 ghost use Rattle.messages.specs.Spot.{spot_of};
 
-use crate::reading::least;
-
 // A line and a column, both from 1.
-#[derive(Drop)]
+#[derive(Clone, Copy, PartialEq, Eq)]
 pub struct Spot {
     pub line: usize,
     pub column: usize,
@@ -15,19 +13,16 @@ pub struct Spot {
 pub fn spot_of(source: &[u8], at: usize) -> Spot
     ensures { result ≡ spot_of source.now at }
 {
-    let end = least(at, source.len());
+    let end = at.min(source.len());
     let mut line = 1;
     let mut column = 1;
-    let mut i = 0;
-    while i < end {
-        let b = source[i];
-        i += 1;
-        if b == b'\n' {
+    for byte in &source[..end] {
+        if *byte == b'\n' {
             line += 1;
             column = 1;
-            continue;
+        } else {
+            column += 1;
         }
-        column += 1;
     }
     Spot { line, column }
 }

@@ -29,8 +29,5 @@ const BEGINS: [usize; 99] = [
 pub fn begins(n: usize) -> usize
     ensures { result ≡ get_or (starts 0 texts) n 0 }
 {
-    if n < 99 {
-        return BEGINS[n];
-    }
-    0
+    BEGINS.get(n).copied().unwrap_or(0)
 }

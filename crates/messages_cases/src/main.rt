@@ -4,31 +4,29 @@
 #![tactic(auto)]
 
 use console::{print_decimal, write};
-use messages::Written;
+use shapes::refusal::Refusal;
 
 fn number(rt: &impl Print, n: u64) {
     print_decimal(rt, n);
     write(rt, b" ");
 }
 
-fn answer(rt: &impl Print, r: Written) {
+fn answer(rt: &impl Print, r: Result<usize, Refusal>) {
     match r {
-        Written::Unread => number(rt, 11),
-        Written::Full => number(rt, 12),
-        Written::Length(n) => {
+        Ok(n) => {
             number(rt, 0);
-            number(rt, n as u64)
+            number(rt, n as u64);
         }
-    };
+        Err(refusal) => number(rt, u64::from(u32::from(refusal))),
+    }
 }
 
 fn tell(rt: &impl Print, room: &[u8]) {
-    for i in 0..room.len() {
-        if room[i] == 0 {
+    for byte in room {
+        if *byte == 0 {
             write(rt, b"_");
         } else {
-            let end = i + 1;
-            write(rt, &room[i..end]);
+            write(rt, &[*byte]);
         }
     }
     write(rt, b"\n");

@@ -3,24 +3,18 @@
 // says on standard error. The list is not merged first, since a merged list has the same rules.
 #![tactic(auto)]
 
-ghost use Rattle.std.specs.Prelude.{◌≤◌, length};
-
-use console::{print_decimal, write};
-use cutter::Cut;
-use desk::read::Reading;
-use outline::Listed;
+use console::{read_room, write};
+use desk::read::Answered;
 use shapes::event::EVENT;
-use std::io::Read;
+use shapes::outcome::Outcome;
+use shapes::refusal::Refusal;
 
 const MOST_BYTES: usize = 65536;
 
 const FUEL: u32 = 1000000;
 
-#[derive(Drop)]
-enum Source {
-    Bytes(usize),
-    Unreadable,
-}
+// How many numbers a rule is.
+const RULE: usize = 8;
 
 // Where a byte stands, and the line and column there, from 1.
 #[derive(Clone, Copy)]
@@ -30,132 +24,69 @@ struct Place {
     column: u64,
 }
 
-fn say(err: &impl Print, text: &[u8]) {
-    write(err, text);
-}
-
-fn say_refusal(err: &impl Print, number: u32) {
-    say(err, b"names: refusal ");
-    print_decimal(err, number as u64);
-    say(err, b"\n");
-}
-
-fn write_field(rt: &impl Print, n: u64) {
-    write(rt, b"\t");
-    print_decimal(rt, n);
-}
-
-// All that the room has place for.
-fn read_source(input: &mut impl Read, room: &mut [u8]) -> Source {
-    let mut size = 0;
-    while size < room.len() {
-        let Ok(n) = input.read(&mut room[size..]) else {
-            return Source::Unreadable;
-        };
-        if n == 0 {
-            return Source::Bytes(size);
+impl Place {
+    // The place of the byte at `to`, which is not before this one. No text is so long that a number wraps.
+    fn moved(self, source: &[u8], to: usize) -> Place {
+        let end = to.min(source.len());
+        let mut line = self.line;
+        let mut column = self.column;
+        for b in source.get(self.at..end).unwrap_or(&[]) {
+            column = column.wrapping_add(1);
+            if *b == b'\n' {
+                line = line.wrapping_add(1);
+                column = 1;
+            }
         }
-        size += n;
+        Place {
+            at: self.at.max(end),
+            line,
+            column,
+        }
     }
-    Source::Bytes(size)
 }
 
-// The place of the byte at `start`, from one that is not behind it. No text is so long that a number wraps.
-fn place_of(source: &[u8], from: Place, start: u32) -> Place {
-    let to = start as usize;
-    let mut at = from.at;
-    let mut line = from.line;
-    let mut column = from.column;
-    while at < to {
-        if at >= source.len() {
-            break;
-        }
-        column = column.wrapping_add(1);
-        if source[at] == b'\n' {
-            line = line.wrapping_add(1);
-            column = 1;
-        }
-        at += 1;
-    }
-    Place { at, line, column }
+fn say_refusal(err: &impl Print, refusal: Refusal) {
+    let _ = println!(err; "names: refusal {}", u32::from(refusal));
 }
 
 // The bytes from a place up to another; a name lies in the source.
 fn text_of(source: &[u8], start: u32, end: u32) -> &[u8] {
-    let from = start as usize;
-    let to = end as usize;
-    if source.len() < to {
-        return source;
-    }
-    if to < from {
-        return source;
-    }
-    &source[from..to]
-}
-
-fn write_rule(
-    rt: &impl Print,
-    name: &[u8],
-    p: Place,
-    metas: u32,
-    patterns: u32,
-    tags: u32,
-    damaged: u32,
-) {
-    write(rt, name);
-    write_field(rt, p.line);
-    write_field(rt, p.column);
-    write_field(rt, metas as u64);
-    write_field(rt, patterns as u64);
-    write_field(rt, tags as u64);
-    write_field(rt, damaged as u64);
-    write(rt, b"\n");
+    source.get(start as usize..end as usize).unwrap_or(source)
 }
 
 // A rule is eight numbers: its name's start and end, its own, its counts, and whether it is damaged.
-fn write_rules(rt: &impl Print, source: &[u8], rules: &[u32; 32768], count: usize) {
-    let mut p = Place {
+fn write_rules(rt: &impl Print, source: &[u8], rules: &[u32], count: usize) {
+    let mut place = Place {
         at: 0,
         line: 1,
         column: 1,
     };
-    let mut i: usize = 0;
-    while i < 4096 {
-        if i == count {
-            return;
-        }
-        let at = i * 8;
-        p = place_of(source, p, rules[at]);
-        write_rule(
-            rt,
-            text_of(source, rules[at], rules[at + 1]),
-            p,
-            rules[at + 4],
-            rules[at + 5],
-            rules[at + 6],
-            rules[at + 7],
+    let (rules, _) = rules.as_chunks::<RULE>();
+    for rule in rules.iter().take(count) {
+        let [start, end, _, _, metas, patterns, tags, damaged] = *rule;
+        place = place.moved(source, start as usize);
+        write(rt, text_of(source, start, end));
+        let _ = println!(rt;
+            "\t{}\t{}\t{metas}\t{patterns}\t{tags}\t{damaged}",
+            place.line, place.column
         );
-        i += 1;
     }
 }
 
 // The first events of a list. The reader counts no more than its room has.
 fn first_events(list: &[u32], count: usize) -> &[u32] {
-    if list.len() / EVENT < count {
-        return list;
-    }
-    let n = count * EVENT;
-    &list[..n]
+    count
+        .checked_mul(EVENT)
+        .and_then(|n| list.get(..n))
+        .unwrap_or(list)
 }
 
 // A rule takes 19 bytes or more, so there is room for all of them.
 fn list_rules(rt: &impl Print, err: &impl Print, source: &[u8], events: &[u32]) {
     let mut room = [0u32; 32768];
     match outline::rules(events, &mut room) {
-        Listed::Malformed => say_refusal(err, 9),
-        Listed::Broken => say_refusal(err, 15),
-        Listed::Full => say_refusal(err, 14),
-        Listed::Entries(count) => write_rules(rt, source, &room, count),
+        Ok(count) => write_rules(rt, source, &room, count),
+        Err(refusal) => say_refusal(err, refusal),
     }
 }
 
@@ -168,7 +99,7 @@ fn read_into(
     scratch: &mut [u64; 2049],
     events: &mut [u32; 524288],
     errors: &mut [u32; 65536],
-) -> Reading {
+) -> Result<Answered, Refusal> {
     desk::read::read(
         source,
         ids,
@@ -180,16 +111,6 @@ fn read_into(
         events,
         errors,
     )
-}
-
-fn list_read(
-    rt: &impl Print,
-    err: &impl Print,
-    source: &[u8],
-    events: &[u32; 524288],
-    count: usize,
-) {
-    list_rules(rt, err, source, first_events(events, count));
 }
 
 fn read_rows(
@@ -212,20 +133,17 @@ fn read_rows(
         &mut events,
         &mut errors,
     ) {
-        Reading::Refused(number) => say_refusal(err, number),
-        Reading::Answered {
-            outcome,
-            covered: _,
-            events: count,
-            errors: _,
-            left: _,
-        } => {
-            list_read(rt, err, source, &events, count);
-            if outcome != 0 {
-                say(
-                    err,
-                    b"names: the reading was stopped, so rules may be missing\n",
-                );
+        Err(refusal) => say_refusal(err, refusal),
+        Ok(
+            Answered {
+                outcome,
+                events: count,
+                ..
+            },
+        ) => {
+            list_rules(rt, err, source, first_events(&events, count));
+            if outcome != Outcome::Done {
+                let _ = println!(err; "names: the reading was stopped, so rules may be missing");
             }
         }
     }
@@ -235,15 +153,13 @@ fn read_within(
     rt: &impl Print,
     err: &impl Print,
     source: &[u8],
-    ids: &[u32],
-    starts: &[u32],
-    ends: &[u32],
+    ids: &[u32; 65536],
+    starts: &[u32; 65536],
+    ends: &[u32; 65536],
     count: usize,
-)
-    requires { (65536 ≤ length ids.now) × (65536 ≤ length starts.now) × (65536 ≤ length ends.now) }
-{
+) {
     if MOST_BYTES < count {
-        say_refusal(err, 13);
+        say_refusal(err, Refusal::Rows);
         return;
     }
     read_rows(
@@ -262,26 +178,21 @@ fn cut_source(rt: &impl Print, err: &impl Print, source: &[u8]) {
     let mut starts = [0u32; 65536];
     let mut ends = [0u32; 65536];
     match cutter::cut(source, &mut ids, &mut starts, &mut ends) {
-        Cut::Refused(number) => say_refusal(err, number),
-        Cut::Rows(count) => read_within(rt, err, source, &ids, &starts, &ends, count as usize),
+        Ok(count) => read_within(rt, err, source, &ids, &starts, &ends, count as usize),
+        Err(refusal) => say_refusal(err, refusal),
     }
-}
-
-fn cut_within(rt: &impl Print, err: &impl Print, size: usize, source: &[u8])
-    requires { 65536 ≤ length source.now }
-{
-    if MOST_BYTES < size {
-        say(err, b"names: the file has more than 65,536 bytes\n");
-        return;
-    }
-    cut_source(rt, err, &source[..size]);
 }
 
 fn main(rt: HostRuntime) {
     let err = rt.stderr();
-    let mut source = [0u8; 65537];
-    match read_source(&mut rt.reader(), &mut source) {
-        Source::Unreadable => say(&err, b"names: the file cannot be read\n"),
-        Source::Bytes(size) => cut_within(&rt, &err, size, &source),
+    let mut room = [0u8; 65537];
+    let Ok(size) = read_room(&mut rt.reader(), &mut room) else {
+        let _ = println!(err; "names: the file cannot be read");
+        return;
+    };
+    if MOST_BYTES < size {
+        let _ = println!(err; "names: the file has more than 65,536 bytes");
+        return;
     }
+    cut_source(&rt, &err, &room[..size]);
 }

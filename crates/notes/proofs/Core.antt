@@ -10,13 +10,18 @@ use borrow.Author.Tests.{le-ltb, lt-ltb, ltb-true, ltb-false}
 use lib.Dec.{ltb}
 use lib.ListN.{length, take, drop, replicate}
 use lib.Seq.{take-take}
+use Rattle.std.specs.Prelude.{Option, None, Some, is_some}
+use Rattle.shapes.specs.declared.refusal.Refusal.{Refusal}
+use Rattle.shapes.specs.declared.refusal.Refusal.TheVariants as R
+use Rattle.shapes.specs.Refusal.{number}
 use Rattle.shapes.specs.Shapes.{EVENT, event, Rec}
 use Rattle.definition.specs.Run as P
 use Rattle.definition.specs.Run.{Event, opened, leaf, closed, bad, Limits}
 use Rattle.definition.specs.Buffer.{height, cell, next_depth, buffer}
 use Rattle.definition.proofs.Buffer.{next_is}
 use Rattle.definition.specs.Render.{Source, records, said, used, over}
-use Rattle.notes.specs.Whole.{Whole, beside}
+use Rattle.notes.specs.declared.names.Notes.{Notes}
+use Rattle.notes.specs.Whole.{Whole, beside, exceeded}
 use Rattle.notes.specs.Bits.{ifb}
 use Rattle.notes.specs.Change.{with_pos, with_ev, with_full}
 use Rattle.notes.specs.Means.{Bufs, bufs, Past, Means, Stands, over_of}
@@ -141,7 +146,7 @@ abbrev pub blank : Whole
 blank = record { pos = 0; fuel = 0; mode = 0; ev = 0; evcap = 0; er = 0; ercap = 0; item = 0; first = 0; far = 0; quote = 0; number = 0; want = 0; unwant = 0; full = 0; count = 0; mask = 0; codes = replicate 58 0 }
 
 -- what is noted beside a well formed state is well formed
-pub sound : {n : ℕ} (l : List ℕ) (s : Whole) → Ok n (beside l s) → Sound n l
+pub sound : {n : ℕ} (l : Notes) (s : Whole) → Ok n (beside l s) → Sound n l
 sound l s w = (
   record { here = le_trans w.0.since w.0.here; since = le_refl _; far_in = w.0.far_in; want_in = w.0.want_in; want_since = w.0.want_since; unwant_in = w.0.unwant_in; unwant_since = w.0.unwant_since },
   w.1,
@@ -221,3 +226,34 @@ module _ {q : List ℕ} {s r : Whole} {ev ev' : List ℕ} (u : Put q s r ev ev')
 pub moved : (i : ℕ) {p : Past} {x : Source} {s : Whole} {b : Bufs} {a : P.State} → Stands p x s b a → Stands p x (with_pos i s) b (P.put (drop i x.ids) a.out a)
 unfolding over_of
 moved i t = record { over = t.over; means = λ z. let m = t.means z in record { rest = refl; mode = m.mode; fuel = m.fuel; written = m.written; want = m.want; unwant = m.unwant; chosen = m.chosen; cache = m.cache } }
+
+-- a refusal's number is not 0
+numbered : (r : Refusal) → number r ≡ 0 → ⊥
+numbered R.Long e = omega arith
+numbered R.Unequal e = omega arith
+numbered R.Id e = omega arith
+numbered R.Tiles e = omega arith
+numbered R.Scratch e = omega arith
+numbered R.Events e = omega arith
+numbered R.Errors e = omega arith
+numbered R.Malformed e = omega arith
+numbered R.Unpaired e = omega arith
+numbered R.Record e = omega arith
+numbered R.Text e = omega arith
+numbered R.Rows e = omega arith
+numbered R.Rules e = omega arith
+numbered R.Nesting e = omega arith
+numbered R.Listing e = omega arith
+numbered R.Output e = omega arith
+numbered R.Edition e = omega arith
+numbered R.Settings e = omega arith
+numbered R.Day e = omega arith
+
+-- which room was exceeded, if one was
+pub exceeded_none : (o : Option Refusal) → false ≡ is_some o → exceeded o ≡ 0
+exceeded_none None h = refl
+exceeded_none (Some room) h = let z : ◌≡◌ {A = ℕ} 0 1 = cc in absurd (omega arith)
+
+pub exceeded_some : (o : Option Refusal) → true ≡ is_some o → exceeded o ≡ 0 → ⊥
+exceeded_some None h e = let z : ◌≡◌ {A = ℕ} 0 1 = cc in omega arith
+exceeded_some (Some room) h e = numbered room e

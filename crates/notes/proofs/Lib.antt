@@ -2,7 +2,7 @@ pub mod Lists
 pub mod Bits
 pub mod Pigeon
 pub mod Naming
-pub mod Cells
+pub mod Between
 pub mod Rooms
 pub mod Core
 pub mod Sticky

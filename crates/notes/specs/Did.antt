@@ -1,9 +1,10 @@
 -- What a step did: a well_formed state, and the definition's step where the state stood for the definition's.
-use Rattle.std.specs.Prelude.{ℕ, ◌+◌, ◌*◌, ◌≤◌, ◌<◌, ◌≡◌, List, [], ◌∷◌, ◌++◌, Bool, true, false, eqb, ltb, length, get_or, take, drop}
+use Rattle.std.specs.Prelude.{ℕ, ◌+◌, ◌*◌, ◌≤◌, ◌<◌, ◌≡◌, List, [], ◌∷◌, ◌++◌, Bool, true, false, eqb, ltb, length, take, drop}
 use Rattle.shapes.specs.Shapes.{EVENT}
 use Rattle.definition.specs.Run as P
 use Rattle.definition.specs.Open.{Open}
 use Rattle.definition.specs.Render.{Source}
+use Rattle.notes.specs.declared.names.Notes.{Notes}
 use Rattle.notes.specs.Whole.{Whole, beside, resting}
 use Rattle.notes.specs.Change.{with_ev, with_full, with_codes}
 use Rattle.notes.specs.Bits.{ifb, bit_at}
@@ -35,9 +36,9 @@ pub record Named (count mask : ℕ) (codes : List ℕ) : Type 0 where
   pub distinct : Distinct (take count codes)
   pub marked : (c : ℕ) → c < 58 → bit_at (mask ∷ []) c ≡ P.has (take count codes) c
 
--- the same of the list of notes
-abbrev pub Coded : List ℕ → Type 0
-Coded l = Named (get_or l 2 0) (get_or l 3 0) (drop 11 l)
+-- the same of what is noted
+abbrev pub Coded : Notes → Type 0
+Coded n = Named n.count n.mask n.codes
 
 pub record Counted (ev evcap item er ercap number : ℕ) : Type 0 where
   pub events : ev ≤ evcap
@@ -49,9 +50,9 @@ pub record Counted (ev evcap item er ercap number : ℕ) : Type 0 where
 abbrev pub Ok : ℕ → Whole → Type 0
 Ok n s = Placed n s.pos s.first s.far s.want s.unwant × Named s.count s.mask s.codes × Counted s.ev s.evcap s.item s.er s.ercap s.number
 
--- the same of the list of notes alone, at the item's first row
-abbrev pub Sound : ℕ → List ℕ → Type 0
-Sound n l = Ok n (beside l (resting (get_or l 7 0)))
+-- the same of what is noted alone, at the item's first row
+abbrev pub Sound : ℕ → Notes → Type 0
+Sound n l = Ok n (beside l (resting l.first))
 
 pub record Roomy (n evcap ercap lev ler lsc : ℕ) : Type 0 where
   pub events : evcap ≤ lev

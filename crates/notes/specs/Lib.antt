@@ -3,3 +3,4 @@ pub mod Whole
 pub mod Change
 pub mod Means
 pub mod Did
+pub mod Reading

@@ -1,5 +1,9 @@
--- The reader's state as a whole: the few numbers that every step hands on, and what is noted beside them in a lent list.
-use Rattle.std.specs.Prelude.{ℕ, List, [], get_or, drop}
+-- The reader's state as a whole: the few numbers that every step hands on, and what is noted beside them.
+use Rattle.std.specs.Prelude.{ℕ, List, [], replicate}
+use Rattle.std.specs.Prelude.{Option, None, Some}
+use Rattle.shapes.specs.declared.refusal.Refusal.{Refusal}
+use Rattle.shapes.specs.Refusal.{number}
+use Rattle.notes.specs.declared.names.Notes.{Notes}
 
 pub record Whole : Type 0 where
   -- how many rows are covered
@@ -31,9 +35,9 @@ pub record Whole : Type 0 where
   -- the number of the item at hand, from 1
   pub number : ℕ
 
--- the cells of the list of notes, in the order of src/names.rt
-abbrev pub beside : List ℕ → Whole → Whole
-beside l s =
+-- a state with what is noted
+abbrev pub beside : Notes → Whole → Whole
+beside n s =
     record {
       pos = s.pos;
       fuel = s.fuel;
@@ -41,44 +45,28 @@ beside l s =
       ev = s.ev;
       evcap = s.evcap;
       full = s.full;
-      want = get_or l 0 0;
-      unwant = get_or l 1 0;
-      count = get_or l 2 0;
-      mask = get_or l 3 0;
-      er = get_or l 4 0;
-      ercap = get_or l 5 0;
-      item = get_or l 6 0;
-      first = get_or l 7 0;
-      far = get_or l 8 0;
-      quote = get_or l 9 0;
-      number = get_or l 10 0;
-      codes = drop 11 l;
+      want = n.want;
+      unwant = n.unwant;
+      count = n.count;
+      mask = n.mask;
+      codes = n.codes;
+      er = n.er;
+      ercap = n.ercap;
+      item = n.item;
+      first = n.first;
+      far = n.far;
+      quote = n.quote;
+      number = n.number;
     }
 
--- cells by the names that they have there, as contracts speak of them
-abbrev pub count_of : List ℕ → ℕ
-count_of l = get_or l 2 0
+-- nothing is noted
+abbrev pub fresh : Notes
+fresh = record { want = 0; unwant = 0; count = 0; mask = 0; er = 0; ercap = 0; item = 0; first = 0; far = 0; quote = 0; number = 0; codes = replicate 58 0 }
 
-abbrev pub er_of : List ℕ → ℕ
-er_of l = get_or l 4 0
-
-abbrev pub ercap_of : List ℕ → ℕ
-ercap_of l = get_or l 5 0
-
-abbrev pub item_of : List ℕ → ℕ
-item_of l = get_or l 6 0
-
-abbrev pub first_of : List ℕ → ℕ
-first_of l = get_or l 7 0
-
-abbrev pub far_of : List ℕ → ℕ
-far_of l = get_or l 8 0
-
-abbrev pub number_of : List ℕ → ℕ
-number_of l = get_or l 10 0
-
-abbrev pub codes_of : List ℕ → List ℕ
-codes_of l = drop 11 l
+-- which room was exceeded, as a number: 0 for none
+abbrev pub exceeded : Option Refusal → ℕ
+exceeded None = 0
+exceeded (Some room) = number room
 
 -- a state that rests at a row, where only what is noted counts
 abbrev pub resting : ℕ → Whole

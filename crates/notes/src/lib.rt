@@ -1,6 +1,6 @@
-// What is noted beside the reader's state, and where rows stand.
+// What a reading is given, what it is lent, and what is noted beside the reader's state.
 #![tactic(auto)]
 
 pub mod cache;
 pub mod names;
-pub mod rows;
+pub mod reading;

@@ -1,4 +1,5 @@
 -- A list that the reader wrote, merged or not, is never refused 9 or 15: it nests, no deeper than is allowed, and each of its rules has a name.
+use Rattle.std.specs.Prelude.{Some}
 use Prim.Native.Nat.{ℕ, zero, suc, ◌≤◌, ◌<◌}
 use mathlib.Core.Path.{◌≡◌, refl, ap, ap₂, sym, ◌∙◌, subst}
 use mathlib.Core.List.{List, [], ◌∷◌}
@@ -20,7 +21,9 @@ use Rattle.definition.proofs.Shown.{render_keeps}
 use Rattle.theorems.proofs.Answered.{given_is}
 use Rattle.theorems.proofs.Joined.{read_well_formed}
 use Rattle.definition.specs.Merge.{well_formed}
-use Rattle.outline.specs.Shape.{Event, opens, row, closes, tells, shown, events}
+use Rattle.outline.specs.Shape.{shown, events}
+use Rattle.outline.specs.declared.shape.Event.{Event}
+use Rattle.outline.specs.declared.shape.Event.TheVariants.{Opens, Row, Closes, Tells}
 use Rattle.outline.specs.Rules as R
 use Rattle.outline.specs.Rules.{deepest, nests, inside, name, has_name, Rule, rule, rules, all_named, flat, refusing, Given, judged, fitting, listing, returned}
 use Rattle.outline.specs.Outline.{asked, outlined, outlining}
@@ -30,12 +33,12 @@ use Rattle.outline.proofs.Named.{met, Sound, most_open, read_whole}
 
 name_inside : (es : List Event) (h : ℕ) → name (inside es h) h ≡ name es h
 name_inside [] h = refl
-name_inside (opens k a b ∷ es) h = name_inside es (suc h)
-name_inside (row k a b ∷ es) zero = ap (λ (x : R.Name). elim (eqb k kd.IDENT) [ true ↦ R.named a b | false ↦ x ]) (name_inside es zero)
-name_inside (row k a b ∷ es) (suc h) = name_inside es (suc h)
-name_inside (closes k ∷ es) zero = refl
-name_inside (closes k ∷ es) (suc h) = name_inside es h
-name_inside (tells ∷ es) h = name_inside es h
+name_inside (Opens k a b ∷ es) h = name_inside es (suc h)
+name_inside (Row k a b ∷ es) zero = ap (λ (x : R.Name). elim (eqb k kd.IDENT) [ true ↦ Some (a, b) | false ↦ x ]) (name_inside es zero)
+name_inside (Row k a b ∷ es) (suc h) = name_inside es (suc h)
+name_inside (Closes k ∷ es) zero = refl
+name_inside (Closes k ∷ es) (suc h) = name_inside es h
+name_inside (Tells ∷ es) h = name_inside es h
 
 -- the nodes whose closing was met, the innermost first, h of them already opened: a rule whose IDENT row was met has its name in es
 abbrev Names : List Event → ℕ → List (ℕ × ℕ) → List Bool → Type 0
@@ -45,36 +48,36 @@ Names es h (t ∷ st) [] = ⊥
 Names es h (t ∷ st) (b ∷ ns) = (t.0 ≡ kd.RULE_DECL → b ≡ false → has_name (name es h) ≡ true) × Names es (suc h) st ns
 
 module _ (es : List Event) (k a b : ℕ) where
-  names_open : (h : ℕ) (st : List (ℕ × ℕ)) (ns : List Bool) → Names es (suc h) st ns → Names (opens k a b ∷ es) h st ns
+  names_open : (h : ℕ) (st : List (ℕ × ℕ)) (ns : List Bool) → Names es (suc h) st ns → Names (Opens k a b ∷ es) h st ns
   names_open h [] [] w = tt
   names_open h [] (c ∷ ns) w = absurd w
   names_open h (t ∷ st) [] w = absurd w
   names_open h (t ∷ st) (c ∷ ns) w = (w.0, names_open (suc h) st ns w.1)
 
-  names_close : (h : ℕ) (st : List (ℕ × ℕ)) (ns : List Bool) → Names es h st ns → Names (closes k ∷ es) (suc h) st ns
+  names_close : (h : ℕ) (st : List (ℕ × ℕ)) (ns : List Bool) → Names es h st ns → Names (Closes k ∷ es) (suc h) st ns
   names_close h [] [] w = tt
   names_close h [] (c ∷ ns) w = absurd w
   names_close h (t ∷ st) [] w = absurd w
   names_close h (t ∷ st) (c ∷ ns) w = (w.0, names_close (suc h) st ns w.1)
 
-  names_row_outside : (h : ℕ) (st : List (ℕ × ℕ)) (ns : List Bool) → Names es (suc h) st ns → Names (row k a b ∷ es) (suc h) st ns
+  names_row_outside : (h : ℕ) (st : List (ℕ × ℕ)) (ns : List Bool) → Names es (suc h) st ns → Names (Row k a b ∷ es) (suc h) st ns
   names_row_outside h [] [] w = tt
   names_row_outside h [] (c ∷ ns) w = absurd w
   names_row_outside h (t ∷ st) [] w = absurd w
   names_row_outside h (t ∷ st) (c ∷ ns) w = (w.0, names_row_outside (suc h) st ns w.1)
 
-  names_row : (st : List (ℕ × ℕ)) (ns : List Bool) → Names es 0 st ns → Names (row k a b ∷ es) 0 st (met k ns)
+  names_row : (st : List (ℕ × ℕ)) (ns : List Bool) → Names es 0 st ns → Names (Row k a b ∷ es) 0 st (met k ns)
   names_row [] [] w = tt
   names_row [] (c ∷ ns) w = absurd w
   names_row (t ∷ st) [] w = absurd w
   names_row (t ∷ st) (c ∷ ns) w = (go (eqb k kd.IDENT) c w.0, names_row_outside 0 st ns w.1)
     where
-      go : (x c : Bool) → (t.0 ≡ kd.RULE_DECL → c ≡ false → has_name (name es 0) ≡ true) → t.0 ≡ kd.RULE_DECL → c && not x ≡ false → has_name (elim x as (λ _. R.Name) [ true ↦ R.named a b | false ↦ name es 0 ]) ≡ true
+      go : (x c : Bool) → (t.0 ≡ kd.RULE_DECL → c ≡ false → has_name (name es 0) ≡ true) → t.0 ≡ kd.RULE_DECL → c && not x ≡ false → has_name (elim x as (λ _. R.Name) [ true ↦ Some (a, b) | false ↦ name es 0 ]) ≡ true
       go true c f p q = refl
       go false true f p q = never cc
       go false false f p q = f p refl
 
-names_tell : (es : List Event) (h : ℕ) (st : List (ℕ × ℕ)) (ns : List Bool) → Names es h st ns → Names (tells ∷ es) h st ns
+names_tell : (es : List Event) (h : ℕ) (st : List (ℕ × ℕ)) (ns : List Bool) → Names es h st ns → Names (Tells ∷ es) h st ns
 names_tell es h [] [] w = tt
 names_tell es h [] (c ∷ ns) w = absurd w
 names_tell es h (t ∷ st) [] w = absurd w
@@ -98,7 +101,7 @@ module _ (x : Source) (most : ℕ) (low : most < deepest) where
     pub names : Names (shown l) 0 st ns
     pub named : all_named (rules (shown l)) ≡ true
 
-  open_named : (t : ℕ × ℕ) (a : ℕ) (es : List Event) → (t.0 ≡ kd.RULE_DECL → has_name (name es 0) ≡ true) → all_named (rules es) ≡ true → all_named (rules (opens t.0 a t.1 ∷ es)) ≡ true
+  open_named : (t : ℕ × ℕ) (a : ℕ) (es : List Event) → (t.0 ≡ kd.RULE_DECL → has_name (name es 0) ≡ true) → all_named (rules es) ≡ true → all_named (rules (Opens t.0 a t.1 ∷ es)) ≡ true
   open_named t a es f h = go (eqb t.0 kd.RULE_DECL) refl
     where
       go : (b : Bool) → eqb t.0 kd.RULE_DECL ≡ b → all_named (elim b as (λ _. List Rule) [ true ↦ rule a t.1 es ∷ rules es | false ↦ rules es ]) ≡ true

@@ -18,7 +18,7 @@ use Rattle.definition.specs.Render.{Source}
 use Rattle.definition.proofs.Buffer.{exec_adds, none_added}
 use Rattle.notes.specs.Whole.{Whole}
 use Rattle.notes.specs.Bits.{ifb}
-use Rattle.notes.specs.Means.{Bufs, bufs, Rows, mode_of}
+use Rattle.notes.specs.Means.{Bufs, bufs, mode_of}
 use Rattle.notes.specs.Did.{Ok, Wf, Did, Began, Shuts}
 use Rattle.notes.proofs.Core.{does_as}
 use Rattle.notes.proofs.Core as core
@@ -99,8 +99,8 @@ module _ (A : Production) (o : Bool) (E : Bool) (d : ℕ) {f : P.Reader} {x : So
   pub begins : Did (λ a. a) x s₁ s₁ (bufs ev₁ er sc) (bufs ev₁ er sc)
   begins = core.idle ((y D.wf.0).events.did er sc D.wf).wf (λ p a t. core.like_same refl)
 
-  pub closes : Rows x → {g : P.Reader} {s₂ : Whole} {ev₂ er₂ sc₂ : List ℕ} → Did g x s₁ s₂ (bufs ev₁ er sc) (bufs ev₂ er₂ sc₂) → (Rows x × Ok (length x.ids) s₂ × (s₂.evcap ≤ length ev₂) × (s₂.ercap ≤ length er₂)) × (s₁.pos ≤ s₂.pos) × (s₂.full ≡ 0 → (EVENT ≤ s₁.ev) × (s₁.ev ≤ s₂.ev))
-  closes l C = ((l, C.wf.0, C.wf.1.events, C.wf.1.errors), C.ahead, λ j. let k = (y D.wf.0).opens (C.room j) in (omega arith, C.grows))
+  pub closes : {g : P.Reader} {s₂ : Whole} {ev₂ er₂ sc₂ : List ℕ} → Did g x s₁ s₂ (bufs ev₁ er sc) (bufs ev₂ er₂ sc₂) → (Ok (length x.ids) s₂ × (s₂.evcap ≤ length ev₂) × (s₂.ercap ≤ length er₂)) × (s₁.pos ≤ s₂.pos) × (s₂.full ≡ 0 → (EVENT ≤ s₁.ev) × (s₁.ev ≤ s₂.ev))
+  closes C = ((C.wf.0, C.wf.1.events, C.wf.1.errors), C.ahead, λ j. let k = (y D.wf.0).opens (C.room j) in (omega arith, C.grows))
 
   pub makes : (d ≡ 0 → ⊥) → {s₂ r : Whole} {ev₂ er₂ sc₂ : List ℕ} {b₃ : Bufs} → Did (reads E (d - 1) o (grammar E A)) x s₁ s₂ (bufs ev₁ er sc) (bufs ev₂ er₂ sc₂) → (Wf x (bufs ev₂ er₂ sc₂) s₂ → Shuts (P.finish o (kind A) (length x.ids - s₁.pos)) s₁.ev x s₂ r (bufs ev₂ er₂ sc₂) b₃) → Did (λ a. P.run E d o A (f a)) x s₀ r b₀ b₃
   makes n C e = core.then D (produced A o E d D.wf (y D.wf.0) n C (e C.wf))

@@ -12,11 +12,17 @@ use Rattle.definition.specs.Prog.{Prog, ifnext, opt, then, ◌⨟◌, ◌⫽◌,
 use Rattle.definition.specs.Run as P
 use Rattle.definition.specs.Run.{Mode, ok, failed, stopped, spent, deep}
 use Rattle.definition.specs.Render.{Source}
+use Rattle.shapes.specs.Mode.{number}
+use Rattle.notes.specs.declared.reading.Given.{Given}
+use Rattle.notes.specs.declared.reading.Lent.{Lent}
+use Rattle.notes.specs.Reading.{source_of, bufs_of, SameLists}
+use Rattle.steps.specs.declared.state.State.{State}
+use Rattle.steps.specs.Steps.{whole, Eats, Mends, Ends}
 use Rattle.notes.specs.Whole.{Whole}
 use Rattle.notes.specs.Bits.{ifb}
 use Rattle.notes.specs.Change.{with_mode, mark_of, gone, undone_to}
-use Rattle.notes.specs.Means.{Bufs, bufs, Past, Lines, Rows, mode_of}
-use Rattle.notes.specs.Did.{Ok, Wf, Did, Events, Plain, Both, ahead}
+use Rattle.notes.specs.Means.{Bufs, bufs, Past, mode_of}
+use Rattle.notes.specs.Did.{Ok, Wf, Did, Events, Plain, Shuts, ahead}
 use Rattle.notes.proofs.Core.{like_same, like_at, idle, does_as}
 use Rattle.notes.proofs.Core as core
 use Rattle.notes.proofs.Sticky.{Sticks, sticky, sticky_past, sticky_exec, sticky_turn}
@@ -24,7 +30,7 @@ use Rattle.steps.proofs.Next.{if_ok_yes}
 use Rattle.steps.proofs.Parts.{Turning, turning, turns_on, turns_back, turns_end, repeats, gone_wf, alt_on, alt_next, opt_on, opt_back}
 use Rattle.steps.proofs.Memo.{likened, turned_failed}
 use Rattle.steps.proofs.Branch as branch
-use Rattle.parts.specs.Reads.{reads}
+use Rattle.parts.specs.Reads.{reads, Asks}
 use Rattle.parts.proofs.Exec.{guarded, guarded_idle, undone_mode}
 
 -- where the last alternative, or an optional part, came to s
@@ -46,34 +52,32 @@ waived_back m s h = sym (ap (λ (c : Bool). ifb c (with_mode 0 (gone m s)) s) (e
 pub waived_on : (m : ℕ × ℕ) (s : Whole) → (s.mode ≡ 1 → ⊥) → s ≡ waived_to m s
 waived_on m s h = sym (ap (λ (c : Bool). ifb c (with_mode 0 (gone m s)) s) (ne_eqb s.mode 1 h))
 
--- the state as it is, for a line to begin with
-pub from : (x : Source) (s : Whole) (ev er sc : List ℕ) → Wf x (bufs ev er sc) s → Did (λ a. a) x s s (bufs ev er sc) (bufs ev er sc)
-from x s ev er sc w = idle w (λ p a t. like_same refl)
+-- the state as it is
+idles : (x : Source) (s : Whole) (ev er sc : List ℕ) → Wf x (bufs ev er sc) s → Did (λ a. a) x s s (bufs ev er sc) (bufs ev er sc)
+idles x s ev er sc w = idle w (λ p a t. like_same refl)
+
+-- for a line to begin with
+pub from : (x : Given) (s : State) (l : Lent) → Asks x s l → Did (λ a. a) (source_of x) (whole s l.notes) (whole s l.notes) (bufs_of l) (bufs_of l)
+from x s l w = idles (source_of x) (whole s l.notes) l.events.now l.errors.now l.scratch.now w
 
 module _ {f : P.Reader} {x : Source} {s r : Whole} {b : Bufs} {ev er sc : List ℕ} (y : Did f x s r b (bufs ev er sc)) where
   -- a step more
   pub plus : {g : P.Reader} {q : Whole} {b₂ : Bufs} → Did g x r q (bufs ev er sc) b₂ → Did (λ a. g (f a)) x s q b b₂
   plus z = core.then y z
 
-  pub plus_e : {g : P.Reader} {q : Whole} {ev₂ : List ℕ} → Events g x r q ev ev₂ → Did (λ a. g (f a)) x s q b (bufs ev₂ er sc)
-  plus_e z = core.then y (z.did er sc y.wf)
-
-  pub plus_b : {g : P.Reader} {q : Whole} {ev₂ er₂ : List ℕ} → Both g x r q ev ev₂ er er₂ → Did (λ a. g (f a)) x s q b (bufs ev₂ er₂ sc)
-  plus_b z = core.then y (z.did sc y.wf)
-
   pub plus_p : {g : P.Reader} {q : Whole} → Plain g x r q → Did (λ a. g (f a)) x s q b (bufs ev er sc)
   plus_p z = core.then y (z.did (bufs ev er sc) y.wf)
 
-  pub asks_e : Rows x → Lines x.ids x.ends × Ok (length x.ids) r × (r.evcap ≤ length ev)
-  asks_e l = (l.lines, y.wf.0, y.wf.1.events)
+  -- what `expect` asks, and what `recover` asks
+  pub asks_e : Ok (length x.ids) r × (r.evcap ≤ length ev)
+  asks_e = (y.wf.0, y.wf.1.events)
 
-  -- what `step` asks
-  pub asks_s : Rows x → Rows x × Ok (length x.ids) r × (r.evcap ≤ length ev) × (r.ercap ≤ length er)
-  asks_s l = (l, y.wf.0, y.wf.1.events, y.wf.1.errors)
+  pub asks_s : Ok (length x.ids) r × (r.evcap ≤ length ev) × (r.ercap ≤ length er)
+  asks_s = (y.wf.0, y.wf.1.events, y.wf.1.errors)
 
   -- where the state is now
   pub here : Did (λ a. a) x r r (bufs ev er sc) (bufs ev er sc)
-  here = from x r ev er sc y.wf
+  here = idles x r ev er sc y.wf
 
   -- what is left of the line does nothing where the state is not in good order
   pub stops : (E : Bool) (d : ℕ) (o : Bool) (q : Prog) → T (guarded q) → (r.mode ≡ 0 → ⊥) → Did (λ a. reads E d o q (f a)) x s r b (bufs ev er sc)
@@ -81,7 +85,21 @@ module _ {f : P.Reader} {x : Source} {s r : Whole} {b : Bufs} {ev er sc : List �
 
 -- a step on events more
 pub plus_t : {f g : P.Reader} {x : Source} {s r q : Whole} {b : Bufs} {ev er sc ev₂ : List ℕ} → Did f x s r b (bufs ev er sc) → (Ok (length x.ids) r → Events g x r q ev ev₂) → Did (λ a. g (f a)) x s q b (bufs ev₂ er sc)
-plus_t y z = plus_e y (z y.wf.0)
+plus_t {er = er} {sc} y z = core.then y ((z y.wf.0).did er sc y.wf)
+
+-- a step that leaves records and scratch as they were
+pub plus_e : {f g : P.Reader} {x : Given} {s r : State} {l m : Lent} {s₀ : Whole} {b : Bufs} → Did f (source_of x) s₀ (whole s l.notes) b (bufs_of l) → Eats g x s l r m → Did (λ a. g (f a)) (source_of x) s₀ (whole r m.notes) b (bufs_of m)
+plus_e {f} {g} {x} {s} {r} {l} {m} {s₀} {b} y z =
+    subst (λ (er : List ℕ). Did (λ a. g (f a)) (source_of x) s₀ (whole r m.notes) b (bufs m.events.now er m.scratch.now)) (λ i. (sym z.errors i).now)
+    (subst (λ (sc : List ℕ). Did (λ a. g (f a)) (source_of x) s₀ (whole r m.notes) b (bufs m.events.now l.errors.now sc)) (λ i. (sym z.scratch i).now) (core.then y (z.events.did l.errors.now l.scratch.now y.wf)))
+
+-- a step that leaves scratch as it was
+pub plus_b : {f g : P.Reader} {x : Given} {s r : State} {l m : Lent} {s₀ : Whole} {b : Bufs} → Did f (source_of x) s₀ (whole s l.notes) b (bufs_of l) → Mends g x s l r m → Did (λ a. g (f a)) (source_of x) s₀ (whole r m.notes) b (bufs_of m)
+plus_b {f} {g} {x} {s} {r} {l} {m} {s₀} {b} y z = subst (λ (sc : List ℕ). Did (λ a. g (f a)) (source_of x) s₀ (whole r m.notes) b (bufs m.events.now m.errors.now sc)) (λ i. (sym z.scratch i).now) (core.then y (z.both.did l.scratch.now y.wf))
+
+-- the end of a node, over all lists
+pub ended : {f : P.Reader} {at : ℕ} {x : Given} {s r : State} {l m : Lent} → Ends f at x s l r m → Wf (source_of x) (bufs_of l) (whole s l.notes) → Shuts f at (source_of x) (whole s l.notes) (whole r m.notes) (bufs_of l) (bufs_of m)
+ended {f} {at} {x} {s} {r} {l} {m} z w = subst (λ (sc : List ℕ). Shuts f at (source_of x) (whole s l.notes) (whole r m.notes) (bufs_of l) (bufs m.events.now m.errors.now sc)) (λ i. (sym z.scratch i).now) (z.shuts l.scratch.now w)
 
 -- the same step by another name, in good order
 pub in_order : (f g : P.Reader) {x : Source} {s r : Whole} {b b' : Bufs} → ((p : Past) → Sticks p x f) → ((p : Past) → Sticks p x g) → ((a : P.State) → a.mode ≡ ok → f a ≡ g a) → s.mode ≡ 0 → Did f x s r b b' → Did g x s r b b'
@@ -176,30 +194,40 @@ module _ {f : P.Reader} {x : Source} {s r : Whole} {b : Bufs} {ev er sc : List �
   pub passes : v ≡ false → {q : Whole} {b' : Bufs} → Did (P.branches S (λ a. a)) x r q (bufs ev er sc) b' → Did (λ a. reads E d o (ifnext S p) (f a)) x s q b b'
   passes h z = core.then y (branch.branch_out S (reads E d o p) (λ c. sticky_exec c x E d p o) y.wf (sym sees ∙ h) z)
 
--- a repetition
-pub record Turns (f : P.Reader) (x : Source) (s₀ s : Whole) (k₀ k : ℕ) (ev₀ er₀ sc₀ ev er sc : List ℕ) : Type 0 where
-  pub each : Turning f x s₀ s k₀ k (bufs ev₀ er₀ sc₀) (bufs ev er sc)
-  pub here : Did (λ a. a) x s s (bufs ev er sc) (bufs ev er sc)
-  pub wf : Wf x (bufs ev₀ er₀ sc₀) s₀
-  pub start : s₀.mode ≡ 0
-  pub many : k₀ ≡ length x.ids - s₀.pos + 1
-  pub sticks : (p : Past) → Sticks p x f
-  pub events : length ev ≡ length ev₀
-  pub errors : length er ≡ length er₀
-  pub scratch : length sc ≡ length sc₀
+-- a repetition, with k of its n turns taken
+pub record Turns (f : P.Reader) (x : Given) (s₀ s : State) (l₀ l : Lent) (n k : ℕ) : Type 0 where
+  pub each : Turning f (source_of x) (whole s₀ l₀.notes) (whole s l.notes) n (n - k) (bufs_of l₀) (bufs_of l)
+  pub here : Did (λ a. a) (source_of x) (whole s l.notes) (whole s l.notes) (bufs_of l) (bufs_of l)
+  pub wf : Wf (source_of x) (bufs_of l₀) (whole s₀ l₀.notes)
+  pub start : number s₀.mode ≡ 0
+  pub many : n ≡ length x.ids.now - s₀.pos + 1
+  pub sticks : (p : Past) → Sticks p (source_of x) f
+  pub lists : SameLists l₀ l
 
-pub turns : (f : P.Reader) {x : Source} {s : Whole} (k : ℕ) (ev er sc : List ℕ) → ((p : Past) → Sticks p x f) → Wf x (bufs ev er sc) s → s.mode ≡ 0 → k ≡ length x.ids - s.pos + 1 → Turns f x s s k k ev er sc ev er sc
-turns f k ev er sc F w m q = record { each = turning f k F w m; here = from _ _ ev er sc w; wf = w; start = m; many = q; sticks = F; events = refl; errors = refl; scratch = refl }
+pub turns : (f : P.Reader) (x : Given) (s : State) (l : Lent) (n : ℕ) → ((p : Past) → Sticks p (source_of x) f) → Asks x s l → number s.mode ≡ 0 → n ≡ length x.ids.now - s.pos + 1 → Turns f x s s l l n 0
+turns f x s l n F w m q = record { each = subst (λ (k : ℕ). Turning f (source_of x) (whole s l.notes) (whole s l.notes) n k (bufs_of l) (bufs_of l)) (omega arith) (turning f n F w m); here = from x s l w; wf = w; start = m; many = q; sticks = F; lists = (refl, refl, refl) }
 
-module _ {f : P.Reader} {x : Source} {s₀ s : Whole} {k₀ k : ℕ} {ev₀ er₀ sc₀ ev er sc : List ℕ} (g : Turns f x s₀ s k₀ k ev₀ er₀ sc₀ ev er sc) where
-  module _ {r : Whole} {ev' er' sc' : List ℕ} (h : 0 < k) (y : Did (λ a. f (P.trivia a)) x s r (bufs ev er sc) (bufs ev' er' sc')) where
-    pub turns_more : r.mode ≡ 0 → length ev' ≡ length ev → length er' ≡ length er → length sc' ≡ length sc → Turns f x s₀ r k₀ (k - 1) ev₀ er₀ sc₀ ev' er' sc'
-    turns_more m i j l = record { each = turns_on g.each h y m; here = from x r ev' er' sc' y.wf; wf = g.wf; start = g.start; many = g.many; sticks = g.sticks; events = i ∙ g.events; errors = j ∙ g.errors; scratch = l ∙ g.scratch }
+-- the same lists behind one step more
+pub chain : {X Y Z : Type 0} {a b c : X} {i j k : Y} {u v w : Z} → (b ≡ a) × (j ≡ i) × (v ≡ u) → (c ≡ b) × (k ≡ j) × (w ≡ v) → (c ≡ a) × (k ≡ i) × (w ≡ u)
+chain p q = (q.0 ∙ p.0, q.1 ∙ p.1, q.2 ∙ p.2)
 
-    pub turns_undone : {m : ℕ × ℕ} {q : Whole} → (r.mode ≡ 0 → ⊥) → m ≡ mark_of s → q ≡ undone_to m r → Did (P.loops f) x s₀ q (bufs ev₀ er₀ sc₀) (bufs ev' er' sc')
-    turns_undone {m} {q} n i j =
-        subst (λ (u : Whole). Did (P.loops f) x s₀ u (bufs ev₀ er₀ sc₀) (bufs ev' er' sc')) (sym (j ∙ ap (λ (c : ℕ × ℕ). undone_to c r) i))
-        (repeats f k₀ g.sticks g.wf g.many g.start (turns_back g.each h y (ifb (eqb r.mode 1) 0 r.mode) (undone_mode r.mode n)))
+module _ {f : P.Reader} {x : Given} {s₀ s : State} {l₀ l : Lent} {n k : ℕ} (g : Turns f x s₀ s l₀ l n k) where
+  pub turns_more : {r : State} {m : Lent} → k < n → Did (λ a. f (P.trivia a)) (source_of x) (whole s l.notes) (whole r m.notes) (bufs_of l) (bufs_of m) → number r.mode ≡ 0 → SameLists l m → Turns f x s₀ r l₀ m n (k + 1)
+  turns_more {r} {m} h y i j =
+      record {
+        each = subst (λ (k' : ℕ). Turning f (source_of x) (whole s₀ l₀.notes) (whole r m.notes) n k' (bufs_of l₀) (bufs_of m)) (omega arith) (turns_on g.each (omega arith) y i);
+        here = from x r m y.wf;
+        wf = g.wf;
+        start = g.start;
+        many = g.many;
+        sticks = g.sticks;
+        lists = chain g.lists j;
+      }
 
-  pub turns_over : k ≤ 0 → Did (P.loops f) x s₀ s (bufs ev₀ er₀ sc₀) (bufs ev er sc)
-  turns_over h = repeats f k₀ g.sticks g.wf g.many g.start (turns_end g.each h)
+  pub turns_undone : {r : Whole} {b' : Bufs} → k < n → Did (λ a. f (P.trivia a)) (source_of x) (whole s l.notes) r (bufs_of l) b' → {v : ℕ × ℕ} {q : Whole} → (r.mode ≡ 0 → ⊥) → v ≡ mark_of (whole s l.notes) → q ≡ undone_to v r → Did (P.loops f) (source_of x) (whole s₀ l₀.notes) q (bufs_of l₀) b'
+  turns_undone {r} {b'} h y {v} {q} e i j =
+      subst (λ (u : Whole). Did (P.loops f) (source_of x) (whole s₀ l₀.notes) u (bufs_of l₀) b') (sym (j ∙ ap (λ (c : ℕ × ℕ). undone_to c r) i))
+      (repeats f n g.sticks g.wf g.many g.start (turns_back g.each (omega arith) y (ifb (eqb r.mode 1) 0 r.mode) (undone_mode r.mode e)))
+
+  pub turns_over : n ≤ k → Did (P.loops f) (source_of x) (whole s₀ l₀.notes) (whole s l.notes) (bufs_of l₀) (bufs_of l)
+  turns_over h = repeats f n g.sticks g.wf g.many g.start (turns_end g.each (omega arith))

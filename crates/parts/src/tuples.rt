@@ -1,49 +1,38 @@
 // What `of` speaks of: all patterns, or those of a tuple.
 ghost use Rattle.std.specs.Prelude.{◌<◌};
-ghost use Rattle.definition.specs.Prog.{then, node};
+ghost use Rattle.kinds.specs.Kinds as k;
+ghost use Rattle.definition.specs.Prog.{opt, then, ◌⨟◌, node};
 ghost use Rattle.definition.specs.Prog as G;
-ghost use Rattle.definition.specs.Grammar.{them};
-ghost use Rattle.notes.specs.Means.{source, bufs};
+ghost use Rattle.definition.specs.Grammar.{one, them};
+ghost use Rattle.notes.specs.Reading.{SameLists};
 ghost use Rattle.parts.specs.Reads.{Asks, Reads};
 ghost use Rattle.parts.specs.Parts.{pattern_idents, optionally};
 
-use kinds::{kind, set};
-use shapes::mode;
+use crate::part::{self, Part};
+use kinds::{Kind, set};
+use notes::reading::{Given, Lent};
+use shapes::mode::Mode;
 use steps::state::State;
 
 // THEM_KW / PATTERN_IDENT_TUPLE
-pub fn them(
-    mut s: State,
-    d: usize,
-    may: bool,
-    ep: bool,
-    src: &[u8],
-    ids: &[u32],
-    ends: &[u32],
-    ev: &mut [u32],
-    er: &mut [u32],
-    sc: &mut [u64],
-    notes: &mut [usize; 69],
-    sets: &[[u64; 2]; 56],
-) -> State
-    requires { Asks src.now ids.now ends.now s notes.old ev.old er.old sc.old sets.now }
-    ensures { Reads ep d may them (source src.now ids.now ends.now)
-        s notes.old result notes.new
-        (bufs ev.old er.old sc.old) (bufs ev.new er.new sc.new) }
+pub fn them(mut s: State, d: usize, may: bool, x: &Given<'_>, lent: &mut Lent<'_>) -> State
+    requires { Asks x.now s lent.old }
+    ensures read { Reads d may them x.now s lent.old result lent.new }
+    ensures lists { SameLists lent.old lent.new }
 {
-    if s.mode != mode::OK {
+    if s.mode != Mode::Fine {
         return s;
     }
     let m = s.mark();
-    s = s.trivia(ids, ends, ev);
-    s = s.expect(set::THEM_KW, set::THEM_KW, ids, ends, ev, notes, sets);
-    if s.mode != mode::FAILED {
+    s = s.trivia(x, lent.events);
+    s = s.expect(set::THEM_KW, set::THEM_KW, x, lent);
+    if s.mode != Mode::Failed {
         return s;
     }
     s = s.rewind(m);
-    s.mode = mode::OK;
-    s = pattern_ident_tuple(s, d, true, ep, src, ids, ends, ev, er, sc, notes, sets);
-    if s.mode != mode::FAILED {
+    s.mode = Mode::Fine;
+    s = pattern_ident_tuple(s, d, true, x, lent);
+    if s.mode != Mode::Failed {
         return s;
     }
     s = s.rewind(m);
@@ -55,142 +44,52 @@ fn pattern_ident_tuple(
     mut s: State,
     d: usize,
     may: bool,
-    ep: bool,
-    src: &[u8],
-    ids: &[u32],
-    ends: &[u32],
-    ev: &mut [u32],
-    er: &mut [u32],
-    sc: &mut [u64],
-    notes: &mut [usize; 69],
-    sets: &[[u64; 2]; 56],
+    x: &Given<'_>,
+    lent: &mut Lent<'_>,
 ) -> State
-    requires { Asks src.now ids.now ends.now s notes.old ev.old er.old sc.old sets.now }
-    ensures { Reads ep d may (then (node G.PATTERN_IDENT_TUPLE)) (source src.now ids.now ends.now)
-        s notes.old result notes.new
-        (bufs ev.old er.old sc.old) (bufs ev.new er.new sc.new) }
+    requires { Asks x.now s lent.old }
+    ensures read { Reads d may (then (node G.PATTERN_IDENT_TUPLE)) x.now s lent.old result lent.new }
+    ensures lists { SameLists lent.old lent.new }
 {
-    if s.mode != mode::OK {
+    if s.mode != Mode::Fine {
         return s;
     }
-    s = s.trivia(ids, ends, ev);
-    s = s.begin(d, ids, ends, ev);
+    s = s.trivia(x, lent.events);
+    s = s.begin(d, x, lent.events);
     let from = s.pos;
     let at = s.ev;
     if d == 0 {
-        return s.end(
-            kind::PATTERN_IDENT_TUPLE,
-            from,
-            at,
-            may,
-            src,
-            ids,
-            ends,
-            ev,
-            er,
-            notes,
-        );
+        return s.end(Kind::PatternIdentTuple, from, at, may, x, lent);
     }
     let below = d - 1;
-    s = s.expect(set::L_PAREN, set::L_PAREN, ids, ends, ev, notes, sets);
-    s = s.expect(
-        set::PATTERN_IDENT,
-        set::PATTERN_IDENT,
-        ids,
-        ends,
-        ev,
-        notes,
-        sets,
-    );
-    s = maybe(
-        set::ASTERISK,
-        s,
-        below,
-        may,
-        ep,
-        src,
-        ids,
-        ends,
-        ev,
-        er,
-        sc,
-        notes,
-        sets,
-    );
-    s = pattern_idents(s, below, may, ep, src, ids, ends, ev, er, sc, notes, sets);
-    s = s.expect(set::R_PAREN, set::R_PAREN, ids, ends, ev, notes, sets);
-    s.end(
-        kind::PATTERN_IDENT_TUPLE,
-        from,
-        at,
-        may,
-        src,
-        ids,
-        ends,
-        ev,
-        er,
-        notes,
-    )
+    s = s.expect(set::L_PAREN, set::L_PAREN, x, lent);
+    s = s.expect(set::PATTERN_IDENT, set::PATTERN_IDENT, x, lent);
+    s = maybe(set::ASTERISK, s, below, may, x, lent);
+    s = pattern_idents(s, below, may, x, lent);
+    s = s.expect(set::R_PAREN, set::R_PAREN, x, lent);
+    s.end(Kind::PatternIdentTuple, from, at, may, x, lent)
 }
 
 // (COMMA PATTERN_IDENT ASTERISK?)*
-fn pattern_idents(
-    mut s: State,
-    d: usize,
-    may: bool,
-    ep: bool,
-    src: &[u8],
-    ids: &[u32],
-    ends: &[u32],
-    ev: &mut [u32],
-    er: &mut [u32],
-    sc: &mut [u64],
-    notes: &mut [usize; 69],
-    sets: &[[u64; 2]; 56],
-) -> State
-    requires { Asks src.now ids.now ends.now s notes.old ev.old er.old sc.old sets.now }
-    ensures { Reads ep d may pattern_idents (source src.now ids.now ends.now)
-        s notes.old result notes.new
-        (bufs ev.old er.old sc.old) (bufs ev.new er.new sc.new) }
+fn pattern_idents(s: State, d: usize, may: bool, x: &Given<'_>, lent: &mut Lent<'_>) -> State
+    requires { Asks x.now s lent.old }
+    ensures read { Reads d may pattern_idents x.now s lent.old result lent.new }
+    ensures lists { SameLists lent.old lent.new }
 {
-    if s.mode != mode::OK {
-        return s;
+    part::many::<NextIdent>(s, d, may, x, lent)
+}
+
+// COMMA PATTERN_IDENT ASTERISK?, as a part that is repeated.
+struct NextIdent;
+
+impl Part for NextIdent {
+    ghost prog = { one k.COMMA ⨟ one k.PATTERN_IDENT ⨟ opt (one k.ASTERISK) };
+
+    fn read(mut s: State, d: usize, may: bool, x: &Given<'_>, lent: &mut Lent<'_>) -> State {
+        s = s.expect(set::COMMA, set::COMMA, x, lent);
+        s = s.expect(set::PATTERN_IDENT, set::PATTERN_IDENT, x, lent);
+        maybe(set::ASTERISK, s, d, may, x, lent)
     }
-    let mut n = ids.len() - s.pos + 1;
-    while n > 0 {
-        let m = s.mark();
-        s = s.trivia(ids, ends, ev);
-        s = s.expect(set::COMMA, set::COMMA, ids, ends, ev, notes, sets);
-        s = s.expect(
-            set::PATTERN_IDENT,
-            set::PATTERN_IDENT,
-            ids,
-            ends,
-            ev,
-            notes,
-            sets,
-        );
-        s = maybe(
-            set::ASTERISK,
-            s,
-            d,
-            true,
-            ep,
-            src,
-            ids,
-            ends,
-            ev,
-            er,
-            sc,
-            notes,
-            sets,
-        );
-        if s.mode != mode::OK {
-            return s.undone(m);
-        }
-        n -= 1;
-    }
-    s
 }
 
 // A row of the set, or none.
@@ -199,31 +98,23 @@ pub fn maybe(
     mut s: State,
     d: usize,
     may: bool,
-    ep: bool,
-    src: &[u8],
-    ids: &[u32],
-    ends: &[u32],
-    ev: &mut [u32],
-    er: &mut [u32],
-    sc: &mut [u64],
-    notes: &mut [usize; 69],
-    sets: &[[u64; 2]; 56],
+    x: &Given<'_>,
+    lent: &mut Lent<'_>,
 ) -> State
-    requires { Asks src.now ids.now ends.now s notes.old ev.old er.old sc.old sets.now × (set < 58) }
-    ensures { Reads ep d may (optionally set) (source src.now ids.now ends.now)
-        s notes.old result notes.new
-        (bufs ev.old er.old sc.old) (bufs ev.new er.new sc.new) }
+    requires { Asks x.now s lent.old × (set < 58) }
+    ensures read { Reads d may (optionally set) x.now s lent.old result lent.new }
+    ensures lists { SameLists lent.old lent.new }
 {
-    if s.mode != mode::OK {
+    if s.mode != Mode::Fine {
         return s;
     }
     let m = s.mark();
-    s = s.trivia(ids, ends, ev);
-    s = s.expect(set, set, ids, ends, ev, notes, sets);
-    if s.mode != mode::FAILED {
+    s = s.trivia(x, lent.events);
+    s = s.expect(set, set, x, lent);
+    if s.mode != Mode::Failed {
         return s;
     }
     s = s.rewind(m);
-    s.mode = mode::OK;
+    s.mode = Mode::Fine;
     s
 }

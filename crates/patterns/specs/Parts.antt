@@ -4,9 +4,6 @@ use Rattle.definition.specs.Prog.{Prog, PATTERN_DEF, PATTERN_MODS, PATTERN_MOD, 
 use Rattle.definition.specs.Grammar.{one, some, cond, hex_unit}
 
 -- of PATTERNS_BLK, PATTERN_DEF, PATTERN_MODS and PATTERN_MOD
-abbrev pub more_defs : Prog
-more_defs = many (node PATTERN_DEF)
-
 abbrev pub pattern_defs : Prog
 pattern_defs = some (node PATTERN_DEF)
 
@@ -15,9 +12,6 @@ pattern_value = one k.STRING_LIT ⫽ one k.REGEXP ⫽ last (node HEX_PATTERN)
 
 abbrev pub any_mods : Prog
 any_mods = opt (node PATTERN_MODS)
-
-abbrev pub more_mods : Prog
-more_mods = many (node PATTERN_MOD)
 
 abbrev pub some_mods : Prog
 some_mods = some (node PATTERN_MOD)

@@ -1,14 +1,15 @@
 -- A reading that names its settings edition (document 02, requests (xi) and (xiv)): "A reading names its edition; a later one starts with its own fuel.
 -- Limit 15 in document 01's forms 1 and 2, and 1,024 at too deep, now read as the named edition's".
-use Rattle.std.specs.Prelude.{ℕ, zero, suc, List, [], ◌∷◌, ◌++◌, true, false, eqb}
+use Rattle.std.specs.Prelude.{ℕ, zero, suc, List, [], ◌∷◌, ◌++◌, Result, Ok, Err, true, false, eqb}
 use Rattle.shapes.specs.Refusal as Refusal
 use Rattle.definition.specs.Run.{Limits}
 use Rattle.definition.specs.Answer.{Desk, grounds, first_of, After, refusing, after}
 use Rattle.desk.specs.Framing.{after_of}
 use Rattle.settings.specs.Settings.{Reply, choice}
 use Rattle.settings.specs.declared.lines.Values.{Values}
-use Rattle.reading.specs.declared.Named.{Named}
-use Rattle.reading.specs.declared.Named.TheVariants.{BadLine, Read}
+use Rattle.desk.specs.declared.read.Answered.{Answered}
+use Rattle.reading.specs.declared.Unread.{Unread}
+use Rattle.reading.specs.declared.Unread.TheVariants.{BadLine, Refused}
 
 -- an edition's limits: "the depth limit", "the length above which found text is left out", and "1 for allowed"
 abbrev pub limits_in : Values → Limits
@@ -56,6 +57,7 @@ abbrev pub reading : List ℕ → ℕ → Desk → Outcome
 reading text edition d = under (choice text edition d.fuel) d
 
 -- what the code's answer stands for
-abbrev pub outcome_of : Named → List ℕ → List ℕ → List ℕ → Outcome
-outcome_of (BadLine n) ev er sc = record { line = n; after = refusing Refusal.SETTINGS ev er sc }
-outcome_of (Read r) ev er sc = record { line = 0; after = after_of r ev er sc }
+abbrev pub outcome_of : Result Answered Unread → List ℕ → List ℕ → List ℕ → Outcome
+outcome_of (Ok a) ev er sc = record { line = 0; after = after_of (Ok a) ev er sc }
+outcome_of (Err (Refused r)) ev er sc = record { line = 0; after = after_of (Err r) ev er sc }
+outcome_of (Err (BadLine n)) ev er sc = record { line = n; after = refusing Refusal.SETTINGS ev er sc }

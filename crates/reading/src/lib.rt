@@ -2,20 +2,32 @@
 #![tactic(auto)]
 
 ghost use Rattle.std.specs.Prelude.{◌≡◌, List, ℕ, ◌≤◌, length};
+ghost use Rattle.shapes.specs.Refusal.{number};
+ghost use Rattle.definition.specs.Answer.{refusing};
 ghost use Rattle.refusals.specs.Judge.{desk};
-ghost use Rattle.desk.specs.Framing.{limits_of, after_of};
+ghost use Rattle.desk.specs.Framing.{limits_of};
+ghost use Rattle.reading.specs.declared.Unread.TheVariants as unread;
 ghost use Rattle.reading.specs.Reading.{limits_in, unknown_to, reading, outcome_of};
 
-use desk::read::{Limits, Reading};
+use desk::read::{Answered, Limits};
 use refusals::judged;
-use settings::{Chosen, Values};
-use shapes::refusal;
+use settings::{ChooseError, Values};
+use shapes::refusal::Refusal;
 
-#[derive(Drop)]
-pub enum Named {
+// Why nothing was read.
+#[derive(Clone, Copy, PartialEq, Eq)]
+pub enum Unread {
     // Refusal 19, with the number of the settings line, from 1; nothing was judged.
     BadLine(u32),
-    Read(Reading),
+    Refused(Refusal),
+}
+
+impl From<Refusal> for Unread {
+    ghost from_gives = { λ refusal error. error ≡ unread.Refused refusal };
+
+    fn from(refusal: Refusal) -> Unread {
+        Unread::Refused(refusal)
+    }
 }
 
 fn limits(values: Values) -> Limits
@@ -30,15 +42,14 @@ fn limits(values: Values) -> Limits
 }
 
 // An edition that is not there: 18, behind the refusals before it.
-fn unknown(src: &[u8], ids: &[u32], starts: &[u32], ends: &[u32], scratch: usize) -> Reading
+fn unknown(src: &[u8], ids: &[u32], starts: &[u32], ends: &[u32], scratch: usize) -> Refusal
     ensures { (fuel : ℕ) (sc ev er : List ℕ) → length sc ≡ scratch
-        → after_of result ev er sc ≡ unknown_to (desk src.now ids.now starts.now ends.now fuel sc ev er) }
+        → refusing (number result) ev er sc ≡ unknown_to (desk src.now ids.now starts.now ends.now fuel sc ev er) }
 {
-    let n = judged(src, ids, starts, ends, scratch);
-    if n != 0 {
-        return Reading::Refused(n);
+    match judged(src, ids, starts, ends, scratch) {
+        Err(refusal) => refusal,
+        Ok(()) => Refusal::Edition,
     }
-    Reading::Refused(refusal::EDITION)
 }
 
 // Reads rows by the named edition of the settings text. Edition 1 has the fuel that the call is given, a later one its own.
@@ -53,18 +64,18 @@ pub fn read(
     scratch: &mut [u64],
     events: &mut [u32],
     errors: &mut [u32],
-) -> Named
+) -> Result<Answered, Unread>
     ensures { outcome_of result events.new errors.new scratch.new
         ≡ reading text.now edition
         (desk src.now ids.now starts.now ends.now fuel
         scratch.old events.old errors.old) }
 {
     match settings::choose(text, edition, fuel) {
-        Chosen::BadLine(line) => Named::BadLine(line),
-        Chosen::Unknown => Named::Read(unknown(src, ids, starts, ends, scratch.len())),
-        Chosen::Named(values) => {
+        Err(ChooseError::BadLine(line)) => Err(Unread::BadLine(line)),
+        Err(ChooseError::Unknown) => Err(unknown(src, ids, starts, ends, scratch.len()).into()),
+        Ok(values) => {
             let limits = limits(values);
-            let reading = desk::read::read(
+            let answered = desk::read::read(
                 src,
                 ids,
                 starts,
@@ -74,8 +85,8 @@ pub fn read(
                 scratch,
                 events,
                 errors,
-            );
-            Named::Read(reading)
+            )?;
+            Ok(answered)
         }
     }
 }

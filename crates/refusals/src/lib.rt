@@ -2,25 +2,22 @@
 #![tactic(auto)]
 
 ghost use Rattle.std.specs.Prelude.{◌≡◌, List, ℕ, length};
-ghost use Rattle.definition.specs.Answer.{any, no_id, tile, refusal};
-ghost use Rattle.refusals.specs.Judge.{desk};
+ghost use Rattle.std.specs.List.{list_any};
+ghost use Rattle.definition.specs.Answer.{no_id, tile, refusal};
+ghost use Rattle.refusals.specs.Judge.{desk, number_of};
 
 use kinds::is_id;
-use shapes::refusal;
+use shapes::refusal::Refusal;
+
+const MOST_BYTES: usize = 1048576;
+
+const MOST_ROWS: usize = 65536;
 
 // Whether a row has an id that is none.
 fn unknown(ids: &[u32]) -> bool
-    ensures { result ≡ any no_id ids.now }
+    ensures { result ≡ list_any no_id ids.now }
 {
-    let mut at = 0;
-    while at < ids.len() {
-        let row = ids[at];
-        if !is_id(row) {
-            return true;
-        }
-        at += 1;
-    }
-    false
+    ids.iter().any(|id| !is_id(*id))
 }
 
 // Whether the rows tile a source of that many bytes.
@@ -28,53 +25,46 @@ fn tiles(size: usize, starts: &[u32], ends: &[u32]) -> bool
     requires { length starts.now ≡ length ends.now }
     ensures { result ≡ tile 0 size starts.now ends.now }
 {
-    let mut reached = 0u32;
-    let mut at = 0;
-    while at < ends.len() {
-        if starts[at] != reached {
+    let mut reached = 0;
+    for (&start, &end) in starts.iter().zip(ends) {
+        if start != reached || end <= reached {
             return false;
         }
-        if ends[at] <= reached {
-            return false;
-        }
-        reached = ends[at];
-        at += 1;
+        reached = end;
     }
     reached as usize == size
 }
 
-// The number of the first refusal of 1 to 6 that applies, or 0, where so many words of scratch are lent.
-pub fn judged(src: &[u8], ids: &[u32], starts: &[u32], ends: &[u32], scratch: usize) -> u32
+// The first refusal of 1 to 6 that applies, if any does, where so many words of scratch are lent.
+#[tactic(auto, using(crate::proofs::Judging::any_of))]
+pub fn judged(
+    src: &[u8],
+    ids: &[u32],
+    starts: &[u32],
+    ends: &[u32],
+    scratch: usize,
+) -> Result<(), Refusal>
     ensures { (fuel : ℕ) (sc ev er : List ℕ) → length sc ≡ scratch
-        → result ≡ refusal (desk src.now ids.now starts.now ends.now fuel sc ev er) }
+        → number_of result ≡ refusal (desk src.now ids.now starts.now ends.now fuel sc ev er) }
 {
     let rows = ids.len();
-    if src.len() > 1048576 {
-        return refusal::LONG;
+    if src.len() > MOST_BYTES {
+        return Err(Refusal::Long);
     }
-    if rows > 65536 {
-        return refusal::LONG;
+    if rows > MOST_ROWS || starts.len() > MOST_ROWS || ends.len() > MOST_ROWS {
+        return Err(Refusal::Long);
     }
-    if starts.len() > 65536 {
-        return refusal::LONG;
-    }
-    if ends.len() > 65536 {
-        return refusal::LONG;
-    }
-    if rows != starts.len() {
-        return refusal::UNEQUAL;
-    }
-    if rows != ends.len() {
-        return refusal::UNEQUAL;
+    if rows != starts.len() || rows != ends.len() {
+        return Err(Refusal::Unequal);
     }
     if unknown(ids) {
-        return refusal::ID;
+        return Err(Refusal::Id);
     }
     if !tiles(src.len(), starts, ends) {
-        return refusal::TILES;
+        return Err(Refusal::Tiles);
     }
     if scratch < (2 * (rows + 1) + 63) / 64 {
-        return refusal::SCRATCH;
+        return Err(Refusal::Scratch);
     }
-    0
+    Ok(())
 }

@@ -2,41 +2,24 @@
 use Prim.Native.Nat.{ℕ, suc, ◌+◌, ◌^◌, ◌≤◌, ◌<◌}
 use mathlib.Core.Path.{◌≡◌, refl, sym, ap, ◌∙◌}
 use mathlib.Core.List.{List, [], ◌∷◌, ◌++◌, append_assoc, append-nil}
-use mathlib.Core.Bool.{Bool, true, false, cond}
-use mathlib.Core.Option.{Option, none, some}
+use mathlib.Core.Bool.{true}
+use Rattle.std.specs.Prelude.{Option, None, Some}
 use native.Mathlib.Omega.{arith}
 use borrow.Author.Tests.{ne_eqb}
-use lib.Dec.{eqb}
 use lib.ListN.{length}
 use Rattle.shapes.specs.Refusal.{DAY}
-use Rattle.listing.specs.Lines.{onto, parted}
+use Rattle.listing.specs.Lines.{parted}
 use Rattle.listing.specs.Listing.{led}
 use Rattle.listing.proofs.Digits.{reads_back}
 use Rattle.listing.proofs.Lent.{in_parts}
 use Rattle.listing.proofs.Marks.{Free, free_one, free_append, both, free_decimal, AllFree, free_led, fields_of}
-use Rattle.listing.proofs.Pieces.{one_piece}
 use Rattle.replay.specs.Tally.{amount_of, replayed}
 use Rattle.replay.specs.Day.{Entry, entry, shown_of, entry_fields, written, single, writable, answer_of, with_answer, entry_of, Day, following, lines_of, day_of, files_of, totals_of}
 use Rattle.replay.specs.declared.tally.Answer.{Answer}
 use Rattle.replay.specs.declared.tally.Answer.TheVariants as answer
 use Rattle.replay.specs.declared.tally.Fate.{Fate}
+use Rattle.replay.proofs.Entries.{single_free}
 use Rattle.replay.proofs.Replaying.{before, lines_more}
-
--- a name with one piece is that piece
-single_free : (m : ℕ) (s : List ℕ) → single (parted m s) ≡ true → Free m s
-single_free m [] h = refl
-single_free m (b ∷ bs) h = go (eqb b m) (single_free m bs) h
-  where
-    two : single ([] ∷ parted m bs) ≡ true → ⊥
-    two = one_piece (λ (ps : List (List ℕ)). single ([] ∷ ps) ≡ true → ⊥) (λ p ps i. let z : ◌≡◌ {A = ℕ} 0 1 = cc in omega arith) m bs
-
-    same : (p : List ℕ) (ps : List (List ℕ)) → single ((b ∷ p) ∷ ps) ≡ true → single (p ∷ ps) ≡ true
-    same p [] i = refl
-    same p (q ∷ ps) i = i
-
-    go : (t : Bool) → (single (parted m bs) ≡ true → Free m bs) → single (cond t ([] ∷ parted m bs) (onto (b ∷ []) (parted m bs))) ≡ true → cond t ([] ∷ parted m bs) (onto (b ∷ []) (parted m bs)) ≡ (b ∷ bs) ∷ []
-    go true f h = absurd (two h)
-    go false f h = ap (onto (b ∷ [])) (f (one_piece (λ (ps : List (List ℕ)). single (onto (b ∷ []) ps) ≡ true → single ps ≡ true) same m bs h))
 
 -- what can be recorded: a name without tab and line feed, and numbers of 32 bits
 pub record Good (e : Entry) : Type 0 where
@@ -60,7 +43,7 @@ fits (answer.Spent e) h = (omega arith, h)
 fits (answer.Deep e) h = (omega arith, h)
 fits (answer.Refused n) h = (h, omega arith)
 
-answer_back : (name : List ℕ) (s d : ℕ) (a : Answer) → with_answer name s d (answer_of ((shown_of a).letter ∷ []) (shown_of a).number (shown_of a).errors) ≡ some (entry name s d a)
+answer_back : (name : List ℕ) (s d : ℕ) (a : Answer) → with_answer name s d (answer_of ((shown_of a).letter ∷ []) (shown_of a).number (shown_of a).errors) ≡ Some (entry name s d a)
 answer_back name s d (answer.Done e) = refl
 answer_back name s d (answer.Spent e) = refl
 answer_back name s d (answer.Deep e) = refl
@@ -84,7 +67,7 @@ module _ (e : Entry) (g : Good e) where
   )
 
   -- writing, then reading
-  pub reads_back_entry : entry_of (parted 9 (body e)) ≡ some e
+  pub reads_back_entry : entry_of (parted 9 (body e)) ≡ Some e
   reads_back_entry =
       let b = fits e.answer g.amount in
       ap entry_of (fields_of 9 e.name (entry_fields e) (single_free 9 e.name (both (single (parted 9 e.name)) (single (parted 10 e.name)) g.plain).0) (fields_free 9 (omega arith)))
@@ -124,7 +107,7 @@ lines_read (e ∷ es) g n rest =
     ∙ ap (lines_of n) (line_first e g.0 (day_text es ++ rest))
     ∙ lines_more n (body e) 10 (day_text es ++ rest)
     ∙ ap (λ (o : Option Entry). following n o (lines_of (suc n) (parted 10 (day_text es ++ rest)))) (reads_back_entry e g.0)
-    ∙ ap (following n (some e)) (lines_read es g.1 (suc n) rest)
+    ∙ ap (following n (Some e)) (lines_read es g.1 (suc n) rest)
     ∙ ap (λ (m : ℕ). before (e ∷ es) (lines_of m (parted 10 rest))) (omega arith)
 
 -- a day that was recorded reads back, every line of it
@@ -136,7 +119,7 @@ day_back es g =
     ∙ (λ i. record { entries = append-nil es i; bad = 0 })
 
 -- a line that does not read, behind lines that do: its number, and the entries before it
-pub day_bad : (es : List Entry) → AllGood es → (l rest : List ℕ) → Free 10 l → entry_of (parted 9 l) ≡ none → day_of (day_text es ++ (l ++ (10 ∷ rest))) ≡ record { entries = es; bad = suc (length es) }
+pub day_bad : (es : List Entry) → AllGood es → (l rest : List ℕ) → Free 10 l → entry_of (parted 9 l) ≡ None → day_of (day_text es ++ (l ++ (10 ∷ rest))) ≡ record { entries = es; bad = suc (length es) }
 unfolding day_of
 day_bad es g l rest f h =
     lines_read es g 1 (l ++ (10 ∷ rest))
@@ -148,6 +131,6 @@ day_bad es g l rest f h =
     one_more = omega arith
 
 -- "Refusals: 20, a day line that does not read, with its number; totals of the lines before it are returned."
-pub totals_before : (es : List Entry) → AllGood es → (l rest : List ℕ) → Free 10 l → entry_of (parted 9 l) ≡ none → (fs : List Fate)
+pub totals_before : (es : List Entry) → AllGood es → (l rest : List ℕ) → Free 10 l → entry_of (parted 9 l) ≡ None → (fs : List Fate)
     → totals_of (day_of (day_text es ++ (l ++ (10 ∷ rest)))) fs ≡ record { number = DAY; line = suc (length es); tally = replayed (files_of es fs) }
 totals_before es g l rest f h fs = ap (λ (d : Day). totals_of d fs) (day_bad es g l rest f h)

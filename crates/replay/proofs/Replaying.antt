@@ -2,33 +2,31 @@
 use Prim.Native.Nat.{ℕ, suc, ◌+◌, ◌-◌, ◌^◌, ◌≤◌, ◌<◌}
 use mathlib.Core.Path.{◌≡◌, refl, sym, ap, subst, ◌∙◌}
 use mathlib.Core.List.{List, [], ◌∷◌, ◌++◌, append_assoc, append-nil}
-use mathlib.Core.Bool.{Bool, true, false, not, cond}
-use mathlib.Core.Option.{Option, none, some}
+use mathlib.Core.Bool.{Bool, true, false, not}
 use native.Mathlib.Omega.{arith}
-use lib.Dec.{eqb}
-use lib.ListN.{length, drop, length-append, drop_of_length-le}
+use denote.Ref.{Bor}
+use lib.ListN.{length, length-append}
+use Rattle.std.specs.Prelude.{Option, None, Some, Ok, Err}
+use Rattle.std.proofs.lemmas.List.{nil_from_length}
 use Rattle.shapes.specs.Outcome.{DONE, SPENT, DEEP}
-use Rattle.listing.specs.Numbers.{number}
-use Rattle.listing.specs.Lines.{onto, parted, Piece}
-use Rattle.listing.proofs.Pieces.{part, marked, unmarked, one_piece, part_length}
+use Rattle.listing.specs.Lines.{parted}
+use Rattle.listing.proofs.Pieces.{one_piece}
 use Rattle.replay.specs.Tally.{REFUSED, was_read, gives, one, count_of, replayed, adding, Room}
 use Rattle.replay.specs.Tally as tallies
-use Rattle.replay.specs.Day.{Entry, answer_of, with_answer, entry_from, entry_of, Day, following, behind_last, lines_of, day_of, files_of, refusal_at, totals_of}
-use Rattle.replay.specs.Answer.{line_from, Again}
-use Rattle.replay.specs.declared.lines.Line.{Line}
-use Rattle.replay.specs.declared.lines.Line.TheVariants as line
-use Rattle.replay.specs.declared.lines.Replayed.TheVariants as result
-use Rattle.replay.specs.declared.tally.Answer.{Answer}
+use Rattle.replay.specs.Day.{Entry, single, entry_of, Day, following, behind_last, lines_of, day_of, files_of, refusal_at, totals_of}
+use Rattle.replay.specs.Answer.{meant, before_pieces, first_of, first_as, Again}
+use Rattle.replay.specs.declared.lines.Entry as code
 use Rattle.replay.specs.declared.tally.Fate.{Fate}
 use Rattle.replay.specs.declared.tally.File.{File}
 use Rattle.replay.specs.declared.tally.Tally.{Tally}
+use Rattle.replay.proofs.Entries.{single_free}
 use Rattle.replay.proofs.Tallying.{one_more}
 
 -- entries before others
 abbrev pub before : List Entry → Day → Day
 before es d = record { entries = es ++ d.entries; bad = d.bad }
 
-before_one : (es : List Entry) (n : ℕ) (e : Entry) (d : Day) → before es (following n (some e) d) ≡ before (es ++ (e ∷ [])) d
+before_one : (es : List Entry) (n : ℕ) (e : Entry) (d : Day) → before es (following n (Some e) d) ≡ before (es ++ (e ∷ [])) d
 before_one es n e d = λ i. record { entries = sym (append_assoc es (e ∷ []) d.entries) i; bad = d.bad }
 
 pub lines_more : (n : ℕ) (l : List ℕ) (m : ℕ) (s : List ℕ)
@@ -36,78 +34,38 @@ pub lines_more : (n : ℕ) (l : List ℕ) (m : ℕ) (s : List ℕ)
 lines_more n l m s =
     one_piece (λ (ls : List (List ℕ)). lines_of n (l ∷ ls) ≡ following n (entry_of (parted 9 l)) (lines_of (suc n) ls)) (λ k ls. refl) m s
 
-unended : (n : ℕ) (l : List ℕ) → 0 < length l → behind_last n l ≡ record { entries = []; bad = n }
-unended n [] h = absurd (omega arith)
-unended n (b ∷ bs) h = refl
-
--- WHAT THE CODE'S ANSWER TO A LINE STANDS FOR
-
-unread : (o : Option Entry) {r : Line} → r ≡ line_from o → r ≡ line.Unread → o ≡ none
-unread none e f = refl
-unread (some x) e f = absurd (let z : ◌≡◌ {A = ℕ} 0 1 = cc in omega arith)
-
-record Reads (o : Option Entry) (to : ℕ) (a : Answer) : Type 0 where
-  read : Entry
-  is : o ≡ some read
-  size : length read.name ≡ to
-  answered : read.answer ≡ a
-
-reads : (o : Option Entry) {r : Line} {to s d : ℕ} {a : Answer} → r ≡ line_from o → r ≡ line.Entry to s d a → Reads o to a
-reads none e f = absurd (let z : ◌≡◌ {A = ℕ} 0 1 = cc in omega arith)
-reads (some x) e f = record { read = x; is = refl; size = cc; answered = cc }
-
--- the name is the line's first piece, so it lies in the line
-abbrev Named : List (List ℕ) → Option Entry → Type 0
-Named [] o = o ≡ none
-Named (p ∷ ps) none = Unit
-Named (p ∷ ps) (some e) = e.name ≡ p
-
-from_named : (p : List ℕ) (ps : List (List ℕ)) (s d : Option ℕ) (l : List ℕ) (n e : Option ℕ) → Named (p ∷ ps) (entry_from p s d l n e)
-from_named p ps none d l n e = tt
-from_named p ps (some s) none l n e = tt
-from_named p ps (some s) (some d) l none e = tt
-from_named p ps (some s) (some d) l (some n) none = tt
-from_named p ps (some s) (some d) l (some n) (some e) = go (answer_of l n e)
+-- the first of some lines reads, or it is the first that does not
+good_first : (n : ℕ) (ls : List (List ℕ)) {e : Entry} {ps : List (List ℕ)} → first_of ls ≡ Some (e, ps) → lines_of n ls ≡ following n (Some e) (lines_of (suc n) ps)
+good_first n [] h = absurd (let z : ◌≡◌ {A = ℕ} 0 1 = cc in omega arith)
+good_first n (l ∷ []) h = absurd (let z : ◌≡◌ {A = ℕ} 0 1 = cc in omega arith)
+good_first n (l ∷ k ∷ ls) {e} {ps} h = go (entry_of (parted 9 l)) h
   where
-    go : (o : Option Answer) → Named (p ∷ ps) (with_answer p s d o)
-    go none = tt
-    go (some a) = refl
+    go : (o : Option Entry) → before_pieces (k ∷ ls) o ≡ Some (e, ps) → following n o (lines_of (suc n) (k ∷ ls)) ≡ following n (Some e) (lines_of (suc n) ps)
+    go None h = absurd (let z : ◌≡◌ {A = ℕ} 0 1 = cc in omega arith)
+    go (Some x) h = ap (λ (r : Option (Entry × List (List ℕ))). from_first r) h
+      where
+        from_first : Option (Entry × List (List ℕ)) → Day
+        from_first None = record { entries = []; bad = 0 }
+        from_first (Some p) = following n (Some p.0) (lines_of (suc n) p.1)
 
-first_named : (ps : List (List ℕ)) → Named ps (entry_of ps)
-first_named [] = refl
-first_named (p ∷ []) = tt
-first_named (p ∷ a ∷ []) = tt
-first_named (p ∷ a ∷ b ∷ []) = tt
-first_named (p ∷ a ∷ b ∷ c ∷ []) = tt
-first_named (p ∷ a ∷ b ∷ c ∷ d ∷ []) = tt
-first_named (p ∷ a ∷ b ∷ c ∷ d ∷ e ∷ []) = from_named p (a ∷ b ∷ c ∷ d ∷ e ∷ []) (number a) (number b) c (number d) (number e)
-first_named (p ∷ a ∷ b ∷ c ∷ d ∷ e ∷ f ∷ fs) = tt
-
-first_short : (m : ℕ) (s : List ℕ) (p : List ℕ) (ps : List (List ℕ)) → parted m s ≡ p ∷ ps → length p ≤ length s
-first_short m [] p ps e = let f : p ≡ [] = cc in omega (arith, ap length f)
-first_short m (b ∷ bs) p ps e = go (eqb b m) (λ q qs f. first_short m bs q qs f) e
+bad_first : (n : ℕ) (s : List ℕ) → 0 < length s → first_of (parted 10 s) ≡ None → lines_of n (parted 10 s) ≡ record { entries = []; bad = n }
+bad_first n s h k = go (parted 10 s) refl k
   where
-    led : (qs : List (List ℕ)) → parted m bs ≡ qs → ((q : List ℕ) (qs : List (List ℕ)) → parted m bs ≡ q ∷ qs → length q ≤ length bs) → onto (b ∷ []) qs ≡ p ∷ ps
-        → length p ≤ suc (length bs)
-    led [] f h e = let g : p ≡ b ∷ [] = cc in omega (arith, ap length g)
-    led (q ∷ qs) f h e = let g : p ≡ b ∷ q = cc in omega (arith, ap length g, h q qs f)
+    alone : (l : List ℕ) → 0 < length l → behind_last n l ≡ record { entries = []; bad = n }
+    alone [] h = absurd (omega arith)
+    alone (b ∷ bs) h = refl
 
-    go : (t : Bool) → ((q : List ℕ) (qs : List (List ℕ)) → parted m bs ≡ q ∷ qs → length q ≤ length bs) → cond t ([] ∷ parted m bs) (onto (b ∷ []) (parted m bs)) ≡ p ∷ ps
-        → length p ≤ suc (length bs)
-    go true h e = let f : p ≡ [] = cc in omega (arith, ap length f)
-    go false h e = led (parted m bs) refl h e
+    on : (o : Option Entry) (ps : List (List ℕ)) (d : Day) → before_pieces ps o ≡ None → following n o d ≡ record { entries = []; bad = n }
+    on None ps d h = refl
+    on (Some x) ps d h = absurd (let z : ◌≡◌ {A = ℕ} 0 1 = cc in omega arith)
 
-pub name_within : (l : List ℕ) {r : Line} {to s d : ℕ} {a : Answer} → r ≡ line_from (entry_of (parted 9 l)) → r ≡ line.Entry to s d a → to ≤ length l
-name_within l {r} {to} {s} {d} {a} e f = go (parted 9 l) refl
-  where
-    g : Reads (entry_of (parted 9 l)) to a
-    g = reads (entry_of (parted 9 l)) e f
-
-    go : (ps : List (List ℕ)) → parted 9 l ≡ ps → to ≤ length l
-    go [] h = absurd (one_piece (λ (ps : List (List ℕ)). ps ≡ [] → ⊥) (λ p ps i. let z : ◌≡◌ {A = ℕ} 0 1 = cc in omega arith) 9 l h)
-    go (p ∷ ps) h =
-        let n : Named (p ∷ ps) (some g.read) = subst (Named (p ∷ ps)) (ap entry_of (sym h) ∙ g.is) (first_named (p ∷ ps)) in
-        omega (arith, g.size, ap length n, first_short 9 l p ps h)
+    go : (ls : List (List ℕ)) → parted 10 s ≡ ls → first_of ls ≡ None → lines_of n ls ≡ record { entries = []; bad = n }
+    go [] e k = absurd (one_piece (λ (ps : List (List ℕ)). ps ≡ [] → ⊥) (λ p ps i. let z : ◌≡◌ {A = ℕ} 0 1 = cc in omega arith) 10 s e)
+    go (l ∷ []) e k =
+        let f : l ∷ [] ≡ s ∷ [] = sym e ∙ single_free 10 s (ap single e) in
+        let g : l ≡ s = cc in
+        alone l (omega (arith, ap length g))
+    go (l ∷ m ∷ ls) e k = on (entry_of (parted 9 l)) (m ∷ ls) (lines_of (suc n) (m ∷ ls)) k
 
 -- THE LOOP
 
@@ -127,24 +85,32 @@ files_more [] (g ∷ fs) e f h = absurd (omega arith)
 files_more (d ∷ es) [] e f h = absurd (omega arith)
 files_more (d ∷ es) (g ∷ fs) e f h = ap (λ (l : List File). record { recorded = d.answer; fate = g } ∷ l) (files_more es fs e f (omega arith))
 
--- the lines before a place are replayed: the tally is theirs, and the next line has this number
-pub record Replaying (text : List ℕ) (tally : Tally) (line at : ℕ) : Type 0 where
+-- the lines before the rest of the text are replayed: the tally is theirs, and the next line has this number
+pub record Replaying (text : List ℕ) (tally : Tally) (line : ℕ) (rest : List ℕ) : Type 0 where
   pub entries : List Entry
   pub fates : List Fate
-  pub within : at ≤ length text
-  pub few : length entries ≤ at
+  pub few : length entries + length rest ≤ length text
   pub count : line ≡ suc (length entries)
   pub paired : length fates ≡ length entries
   pub held : tally ≡ replayed (files_of entries fates)
-  pub is : day_of text ≡ before entries (lines_of line (parted 10 (drop at text)))
+  pub is : day_of text ≡ before entries (lines_of line (parted 10 rest))
 
-pub replaying : (text : List ℕ) {t : Tally} → t ≡ replayed [] → Replaying text t 1 0
+pub replaying : (text : List ℕ) {t : Tally} → t ≡ replayed [] → {rest : List ℕ} → rest ≡ text → Replaying text t 1 rest
 unfolding day_of
-replaying text h = record { entries = []; fates = []; within = omega arith; few = omega arith; count = refl; paired = refl; held = h; is = refl }
+replaying text h e =
+    record {
+      entries = [];
+      fates = [];
+      few = omega (arith, ap length e);
+      count = refl;
+      paired = refl;
+      held = h;
+      is = ap (λ (t : List ℕ). before [] (lines_of 1 (parted 10 t))) (sym e);
+    }
 
-module _ {text : List ℕ} {tally : Tally} {n at : ℕ} (g : Replaying text tally n at) where
-  -- no count is greater than the place, which is before the text's end
-  pub room : at < length text → length text < 2 ^ 64 → Room tally
+module _ {text : List ℕ} {tally : Tally} {n : ℕ} {rest : List ℕ} (g : Replaying text tally n rest) where
+  -- no count is greater than what was passed of the text
+  pub room : 0 < length rest → length text < 2 ^ 64 → Room tally
   room h k = subst Room (sym g.held) all
     where
       below : (p : File → Bool) → count_of p (files_of g.entries g.fates) < 2 ^ 64 - 1
@@ -162,10 +128,10 @@ module _ {text : List ℕ} {tally : Tally} {n at : ℕ} (g : Replaying text tall
             apart = below (λ (f : File). not (was_read f.fate));
           }
 
-  ends : (bad : ℕ) → lines_of n (parted 10 (drop at text)) ≡ record { entries = []; bad = bad } → day_of text ≡ record { entries = g.entries; bad = bad }
+  ends : (bad : ℕ) → lines_of n (parted 10 rest) ≡ record { entries = []; bad = bad } → day_of text ≡ record { entries = g.entries; bad = bad }
   ends bad e = g.is ∙ ap (before g.entries) e ∙ (λ i. record { entries = append-nil g.entries i; bad = bad })
 
-  stops : lines_of n (parted 10 (drop at text)) ≡ record { entries = []; bad = n } → Again text (result.BadLine n tally)
+  stops : lines_of n (parted 10 rest) ≡ record { entries = []; bad = n } → Again text (Err (record { number = n; tally = tally }))
   stops e =
       record {
         fates = g.fates;
@@ -175,50 +141,34 @@ module _ {text : List ℕ} {tally : Tally} {n at : ℕ} (g : Replaying text tall
             ∙ sym (ap (λ (d : Day). totals_of d g.fates) (ends n e));
       }
 
-  module _ {to : ℕ} (p : Piece 10 text at to) where
-    -- the text ends before its line does
-    pub cut_short : at < length text → length text ≤ to → Again text (result.BadLine n tally)
-    cut_short h k =
-        stops
-        (ap (lines_of n) (unmarked p k)
-        ∙ unended n (part at to text) (omega (arith, part_length at to text p.forward p.within)))
+  -- by what `next_entry` says of the rest
+  module _ {r : Option (code.Entry × Bor (List ℕ))} (e : first_as r ≡ first_of (parted 10 rest)) where
+    pub not_read : 0 < length rest → r ≡ None → Again text (Err (record { number = n; tally = tally }))
+    not_read h f = stops (bad_first n rest h (sym e ∙ ap first_as f))
 
-    module _ (h : to < length text) {r : Line} (e : r ≡ line_from (entry_of (parted 9 (part at to text)))) where
-      next_as : (o : Option Entry) → entry_of (parted 9 (part at to text)) ≡ o
-          → lines_of n (parted 10 (drop at text)) ≡ following n o (lines_of (suc n) (parted 10 (drop (to + 1) text)))
-      next_as o f =
-          ap (lines_of n) (marked p h)
-          ∙ lines_more n (part at to text) 10 (drop (to + 1) text)
-          ∙ ap (λ (o : Option Entry). following n o (lines_of (suc n) (parted 10 (drop (to + 1) text)))) f
+    pub reads_on : {y : code.Entry} {t : Bor (List ℕ)} → r ≡ Some (y, t) → length t.now < length rest → (f : Fate)
+        → {u : Tally} → u ≡ adding tally (record { recorded = y.answer; fate = f }) → Replaying text u (n + 1) t.now
+    reads_on {y} {t} i l f {u} k =
+        let got = meant y in
+        record {
+          entries = g.entries ++ (got ∷ []);
+          fates = g.fates ++ (f ∷ []);
+          few = omega (arith, length-append g.entries (got ∷ []), g.few, l);
+          count = omega (arith, g.count, length-append g.entries (got ∷ []));
+          paired = omega (arith, g.paired, length-append g.entries (got ∷ []), length-append g.fates (f ∷ []));
+          held =
+              k
+              ∙ ap (λ (t : Tally). adding t (record { recorded = y.answer; fate = f })) g.held
+              ∙ sym (one_more (files_of g.entries g.fates) (record { recorded = y.answer; fate = f }))
+              ∙ ap replayed (sym (files_more g.entries g.fates got f g.paired));
+          is =
+              g.is
+              ∙ ap (before g.entries) (good_first n (parted 10 rest) (sym e ∙ ap first_as i))
+              ∙ before_one g.entries n got (lines_of (suc n) (parted 10 t.now))
+              ∙ ap (λ (m : ℕ). before (g.entries ++ (got ∷ [])) (lines_of m (parted 10 t.now))) (omega arith);
+        }
 
-      pub not_read : r ≡ line.Unread → Again text (result.BadLine n tally)
-      not_read f = stops (next_as none (unread (entry_of (parted 9 (part at to text))) e f))
-
-      pub reads_on : {end s d : ℕ} {a : Answer} → r ≡ line.Entry end s d a → (f : Fate) → {t : Tally} → t ≡ adding tally (record { recorded = a; fate = f })
-          → Replaying text t (n + 1) (to + 1)
-      reads_on {end} {s} {d} {a} i f {t} k =
-          let got = reads (entry_of (parted 9 (part at to text))) e i in
-          record {
-            entries = g.entries ++ (got.read ∷ []);
-            fates = g.fates ++ (f ∷ []);
-            within = omega arith;
-            few = omega (arith, length-append g.entries (got.read ∷ []), g.few, p.forward);
-            count = omega (arith, g.count, length-append g.entries (got.read ∷ []));
-            paired = omega (arith, g.paired, length-append g.entries (got.read ∷ []), length-append g.fates (f ∷ []));
-            held =
-                k
-                ∙ ap (λ (t : Tally). adding t (record { recorded = a; fate = f })) g.held
-                ∙ sym (one_more (files_of g.entries g.fates) (record { recorded = a; fate = f }))
-                ∙ ap replayed (ap (λ (b : Answer). files_of g.entries g.fates ++ (record { recorded = b; fate = f } ∷ [])) (sym got.answered))
-                ∙ ap replayed (sym (files_more g.entries g.fates got.read f g.paired));
-            is =
-                g.is
-                ∙ ap (before g.entries) (next_as (some got.read) got.is)
-                ∙ before_one g.entries n got.read (lines_of (suc n) (parted 10 (drop (to + 1) text)))
-                ∙ ap (λ (m : ℕ). before (g.entries ++ (got.read ∷ [])) (lines_of m (parted 10 (drop (to + 1) text)))) (omega arith);
-          }
-
-  pub all_read : length text ≤ at → Again text (result.All tally)
+  pub all_read : length rest ≡ 0 → Again text (Ok tally)
   all_read h =
       record {
         fates = g.fates;
@@ -227,4 +177,4 @@ module _ {text : List ℕ} {tally : Tally} {n at : ℕ} (g : Replaying text tall
       }
     where
       whole : day_of text ≡ record { entries = g.entries; bad = 0 }
-      whole = ends 0 (ap (λ (s : List ℕ). lines_of n (parted 10 s)) (drop_of_length-le text h))
+      whole = ends 0 (ap (λ (s : List ℕ). lines_of n (parted 10 s)) (nil_from_length rest h))

@@ -5,6 +5,7 @@ use mathlib.Core.List.{List, [], ◌∷◌, ◌++◌, map, append_assoc}
 use mathlib.Core.Bool.{Bool, true, false, cond}
 use borrow.Author.Tests.{le-leb, lt-leb}
 use lib.ListN.{length, drop}
+use Rattle.std.specs.Prelude.{Ok, Err}
 use Rattle.kinds.specs.Spelling.{Spelled}
 use Rattle.listing.specs.Numbers.{decimal}
 use Rattle.listing.specs.Listing.{led}
@@ -13,7 +14,7 @@ use Rattle.replay.specs.Tally.{marked, one}
 use Rattle.replay.specs.Day.{Entry, shown_of, fate_shown, fields_of, written, writable, file_line}
 use Rattle.replay.specs.Answer.{Put, putting, placed, recording}
 use Rattle.replay.specs.declared.lines.Shown.{Shown}
-use Rattle.replay.specs.declared.lines.Written.TheVariants as wrote
+use Rattle.replay.specs.declared.lines.Unwritten.TheVariants as unwritten
 use Rattle.replay.specs.declared.tally.File.{File}
 
 pub entry_text : (e : Entry) {s : Shown} → s ≡ shown_of e.answer
@@ -45,19 +46,19 @@ file_text name f {s} {t} {m} i j k =
 -- ROOM
 
 module _ (more : ℕ) (name text room : List ℕ) where
-  pub no_place : length room < length name + more → putting wrote.Full room ≡ placed more name text room
+  pub no_place : length room < length name + more → putting (Err unwritten.Full) room ≡ placed more name text room
   no_place h =
-      sym (ap (λ (t : Bool). cond t (putting (wrote.Length (length text)) (text ++ drop (length text) room)) (putting wrote.Full room)) (lt-leb (length name + more) (length room) h))
+      sym (ap (λ (t : Bool). cond t (putting (Ok (length text)) (text ++ drop (length text) room)) (putting (Err unwritten.Full) room)) (lt-leb (length name + more) (length room) h))
 
-  pub in_place : length name + more ≤ length room → {last : List ℕ} {n : ℕ} → Spelled text room last n → putting (wrote.Length n) last ≡ placed more name text room
+  pub in_place : length name + more ≤ length room → {last : List ℕ} {n : ℕ} → Spelled text room last n → putting (Ok n) last ≡ placed more name text room
   in_place h {last} {n} s =
-      ap (λ (k : ℕ). putting (wrote.Length k) last) s.count
-      ∙ ap (putting (wrote.Length (length text))) s.written
-      ∙ sym (ap (λ (t : Bool). cond t (putting (wrote.Length (length text)) (text ++ drop (length text) room)) (putting wrote.Full room)) (le-leb (length name + more) (length room) h))
+      ap (λ (k : ℕ). putting (Ok k) last) s.count
+      ∙ ap (putting (Ok (length text))) s.written
+      ∙ sym (ap (λ (t : Bool). cond t (putting (Ok (length text)) (text ++ drop (length text) room)) (putting (Err unwritten.Full) room)) (le-leb (length name + more) (length room) h))
 
 module _ (e : Entry) (room : List ℕ) where
-  pub unwritable : writable e.name ≡ false → putting wrote.Unwritable room ≡ recording e room
-  unwritable h = sym (ap (λ (t : Bool). cond t (placed 87 e.name (written e) room) (putting wrote.Unwritable room)) h)
+  pub unwritable : writable e.name ≡ false → putting (Err unwritten.Name) room ≡ recording e room
+  unwritable h = sym (ap (λ (t : Bool). cond t (placed 87 e.name (written e) room) (putting (Err unwritten.Name) room)) h)
 
   pub recorded : writable e.name ≡ true → {p : Put} → p ≡ placed 87 e.name (written e) room → p ≡ recording e room
-  recorded h k = k ∙ sym (ap (λ (t : Bool). cond t (placed 87 e.name (written e) room) (putting wrote.Unwritable room)) h)
+  recorded h k = k ∙ sym (ap (λ (t : Bool). cond t (placed 87 e.name (written e) room) (putting (Err unwritten.Name) room)) h)

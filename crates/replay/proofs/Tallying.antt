@@ -8,6 +8,7 @@ use native.Mathlib.Omega.{arith}
 use borrow.Author.Tests.{eq-eqb, eqb-true}
 use lib.Dec.{eqb}
 use lib.ListN.{length}
+use Rattle.std.specs.Int.{from_bool}
 use Rattle.shapes.specs.Outcome.{DONE, SPENT, DEEP}
 use Rattle.replay.specs.Tally.{REFUSED, sort_of, amount_of, differ, was_read, gives, marked, one, count_of, replayed, adding}
 use Rattle.replay.specs.Day.{Entry, entry, files_of}
@@ -86,6 +87,87 @@ pub refused_alone : (t : Tally) (a : Answer) (n : ℕ) → let r = adding t (rec
     (r.done ≡ t.done) × (r.spent ≡ t.spent) × (r.deep ≡ t.deep) × (r.refused ≡ t.refused + 1)
 unfolding adding
 refused_alone t a n = (add-zero t.done, add-zero t.spent, add-zero t.deep, refl)
+
+-- WHAT THE CODE ADDS
+
+pub as_one : {b c : Bool} {n : ℕ} → n ≡ from_bool b → b ≡ c → n ≡ one c
+as_one {b} {c} h k = h ∙ of b ∙ ap one k
+  where
+    of : (b : Bool) → from_bool b ≡ one b
+    of true = refl
+    of false = refl
+
+pub unread : (x : Fate) → ((a : Answer) → x ≡ fate.Read a → ⊥) → was_read x ≡ false
+unread (fate.Read a) h = absurd (h a refl)
+unread fate.Missing h = refl
+unread fate.Changed h = refl
+
+module _ (t : Tally) (f : File) where
+  up : (p : Fate → Bool) {y : Fate} → f.fate ≡ y → p y ≡ true → (n : ℕ) → n + 1 ≡ n + one (p f.fate)
+  up p x h n = ap (λ (b : Bool). n + one b) (sym h ∙ ap p (sym x))
+
+  keep : (p : Fate → Bool) {y : Fate} → f.fate ≡ y → p y ≡ false → (n : ℕ) → n ≡ n + one (p f.fate)
+  keep p x h n = sym (add-zero n) ∙ ap (λ (b : Bool). n + one b) (sym h ∙ ap p (sym x))
+
+  pub adds_done : {n : ℕ} → f.fate ≡ fate.Read (answer.Done n) → {d : ℕ} → d ≡ t.differ + one (marked f)
+      → record { files = t.files + 1; done = t.done + 1; spent = t.spent; deep = t.deep; refused = t.refused; differ = d; apart = t.apart } ≡ adding t f
+  unfolding adding
+  adds_done x {d} e =
+      λ i.
+      record {
+        files = up was_read x refl t.files i;
+        done = up (gives DONE) x refl t.done i;
+        spent = keep (gives SPENT) x refl t.spent i;
+        deep = keep (gives DEEP) x refl t.deep i;
+        refused = keep (gives REFUSED) x refl t.refused i;
+        differ = e i;
+        apart = keep (λ (y : Fate). not (was_read y)) x refl t.apart i;
+      }
+
+  pub adds_spent : {n : ℕ} → f.fate ≡ fate.Read (answer.Spent n) → {d : ℕ} → d ≡ t.differ + one (marked f)
+      → record { files = t.files + 1; done = t.done; spent = t.spent + 1; deep = t.deep; refused = t.refused; differ = d; apart = t.apart } ≡ adding t f
+  unfolding adding
+  adds_spent x {d} e =
+      λ i.
+      record {
+        files = up was_read x refl t.files i;
+        done = keep (gives DONE) x refl t.done i;
+        spent = up (gives SPENT) x refl t.spent i;
+        deep = keep (gives DEEP) x refl t.deep i;
+        refused = keep (gives REFUSED) x refl t.refused i;
+        differ = e i;
+        apart = keep (λ (y : Fate). not (was_read y)) x refl t.apart i;
+      }
+
+  pub adds_deep : {n : ℕ} → f.fate ≡ fate.Read (answer.Deep n) → {d : ℕ} → d ≡ t.differ + one (marked f)
+      → record { files = t.files + 1; done = t.done; spent = t.spent; deep = t.deep + 1; refused = t.refused; differ = d; apart = t.apart } ≡ adding t f
+  unfolding adding
+  adds_deep x {d} e =
+      λ i.
+      record {
+        files = up was_read x refl t.files i;
+        done = keep (gives DONE) x refl t.done i;
+        spent = keep (gives SPENT) x refl t.spent i;
+        deep = up (gives DEEP) x refl t.deep i;
+        refused = keep (gives REFUSED) x refl t.refused i;
+        differ = e i;
+        apart = keep (λ (y : Fate). not (was_read y)) x refl t.apart i;
+      }
+
+  pub adds_refused : {n : ℕ} → f.fate ≡ fate.Read (answer.Refused n) → {d : ℕ} → d ≡ t.differ + one (marked f)
+      → record { files = t.files + 1; done = t.done; spent = t.spent; deep = t.deep; refused = t.refused + 1; differ = d; apart = t.apart } ≡ adding t f
+  unfolding adding
+  adds_refused x {d} e =
+      λ i.
+      record {
+        files = up was_read x refl t.files i;
+        done = keep (gives DONE) x refl t.done i;
+        spent = keep (gives SPENT) x refl t.spent i;
+        deep = keep (gives DEEP) x refl t.deep i;
+        refused = up (gives REFUSED) x refl t.refused i;
+        differ = e i;
+        apart = keep (λ (y : Fate). not (was_read y)) x refl t.apart i;
+      }
 
 -- MARKS
 

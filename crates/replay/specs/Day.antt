@@ -1,7 +1,7 @@
 -- A day as lines (document 02, request (xii)): "Record a day as lines: file name, length, settings edition, outcome or refusal, count of errors." Fields are
 -- parted by tabs, and every line has its line feed. The outcome stands behind `R`, the refusal behind `F`.
 use Rattle.std.specs.Prelude.{ℕ, zero, suc, List, [], ◌∷◌, ◌++◌, map, Bool, true, false, cond, ◌&&◌, eqb}
-use Rattle.std.proofs.Math.Option.{Option, none, some}
+use Rattle.std.specs.Prelude.{Option, None, Some}
 use Rattle.shapes.specs.Outcome.{DONE, SPENT, DEEP}
 use Rattle.shapes.specs.Refusal.{DAY}
 use Rattle.listing.specs.Numbers.{number, decimal}
@@ -59,35 +59,35 @@ writable name = single (parted 9 name) && single (parted 10 name)
 -- "Outcome 0 is done, 1 out of fuel, 2 too deep."
 abbrev pub ended_of : ℕ → ℕ → Option Answer
 ended_of n e =
-    cond (eqb n DONE) (some (answer.Done e)) (cond (eqb n SPENT) (some (answer.Spent e)) (cond (eqb n DEEP) (some (answer.Deep e)) none))
+    cond (eqb n DONE) (Some (answer.Done e)) (cond (eqb n SPENT) (Some (answer.Spent e)) (cond (eqb n DEEP) (Some (answer.Deep e)) None))
 
 abbrev pub refused_of : ℕ → ℕ → Option Answer
-refused_of n e = cond (eqb e 0) (some (answer.Refused n)) none
+refused_of n e = cond (eqb e 0) (Some (answer.Refused n)) None
 
 abbrev pub answer_of : List ℕ → ℕ → ℕ → Option Answer
-answer_of l n e = cond (is_letter 82 l) (ended_of n e) (cond (is_letter 70 l) (refused_of n e) none)
+answer_of l n e = cond (is_letter 82 l) (ended_of n e) (cond (is_letter 70 l) (refused_of n e) None)
 
 abbrev pub with_answer : List ℕ → ℕ → ℕ → Option Answer → Option Entry
-with_answer name s d none = none
-with_answer name s d (some a) = some (entry name s d a)
+with_answer name s d None = None
+with_answer name s d (Some a) = Some (entry name s d a)
 
 abbrev pub entry_from : List ℕ → Option ℕ → Option ℕ → List ℕ → Option ℕ → Option ℕ → Option Entry
-entry_from name none d l n e = none
-entry_from name (some s) none l n e = none
-entry_from name (some s) (some d) l none e = none
-entry_from name (some s) (some d) l (some n) none = none
-entry_from name (some s) (some d) l (some n) (some e) = with_answer name s d (answer_of l n e)
+entry_from name None d l n e = None
+entry_from name (Some s) None l n e = None
+entry_from name (Some s) (Some d) l None e = None
+entry_from name (Some s) (Some d) l (Some n) None = None
+entry_from name (Some s) (Some d) l (Some n) (Some e) = with_answer name s d (answer_of l n e)
 
 -- a field too few or too many does not read
 abbrev pub entry_of : List (List ℕ) → Option Entry
-entry_of [] = none
-entry_of (name ∷ []) = none
-entry_of (name ∷ s ∷ []) = none
-entry_of (name ∷ s ∷ d ∷ []) = none
-entry_of (name ∷ s ∷ d ∷ l ∷ []) = none
-entry_of (name ∷ s ∷ d ∷ l ∷ n ∷ []) = none
+entry_of [] = None
+entry_of (name ∷ []) = None
+entry_of (name ∷ s ∷ []) = None
+entry_of (name ∷ s ∷ d ∷ []) = None
+entry_of (name ∷ s ∷ d ∷ l ∷ []) = None
+entry_of (name ∷ s ∷ d ∷ l ∷ n ∷ []) = None
 entry_of (name ∷ s ∷ d ∷ l ∷ n ∷ e ∷ []) = entry_from name (number s) (number d) l (number n) (number e)
-entry_of (name ∷ s ∷ d ∷ l ∷ n ∷ e ∷ f ∷ fs) = none
+entry_of (name ∷ s ∷ d ∷ l ∷ n ∷ e ∷ f ∷ fs) = None
 
 -- the entries of the lines before the first that does not read, and that line's number, from 1; 0 where every line reads
 pub record Day : Type 0 where
@@ -96,8 +96,8 @@ pub record Day : Type 0 where
 
 -- line n, and the lines behind it
 abbrev pub following : ℕ → Option Entry → Day → Day
-following n none d = record { entries = []; bad = n }
-following n (some e) d = record { entries = e ∷ d.entries; bad = d.bad }
+following n None d = record { entries = []; bad = n }
+following n (Some e) d = record { entries = e ∷ d.entries; bad = d.bad }
 
 -- what stands behind the last line feed, as line n
 abbrev pub behind_last : ℕ → List ℕ → Day

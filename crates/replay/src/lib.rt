@@ -4,5 +4,7 @@
 mod lines;
 mod tally;
 
-pub use lines::{Line, Replayed, Written, bad_line, entry_line, file_line, read_line, totals_line};
+pub use lines::{
+    BadLine, Entry, Unwritten, bad_line, entry_line, file_line, next_entry, read_line, totals_line,
+};
 pub use tally::{Answer, Fate, File, Tally, differs, none, with_file};

@@ -1,20 +1,19 @@
 // What became of a day's files, counted: "The running tally is one record that each file's result changes in place."
-ghost use Rattle.std.specs.Prelude.{◌≡◌, ◌+◌, ◌-◌, ◌^◌, ◌<◌, []};
-ghost use Rattle.replay.specs.Tally.{sort_of, amount_of, differ, was_read, gives, marked, one, adding, replayed, Room};
-
-use shapes::outcome;
+ghost use Rattle.std.specs.Prelude.{◌≡◌, ◌-◌, []};
+ghost use Rattle.replay.specs.Tally.{differ, marked, adding, replayed, Room};
 
 // The answer to a file: the count of its error records by the outcome, or the refusal's number.
-#[derive(Clone, Copy)]
+#[derive(Clone, Copy, PartialEq, Eq)]
 pub enum Answer {
     Done(u32),
     Spent(u32),
     Deep(u32),
+    // A line of a day may have any number here.
     Refused(u32),
 }
 
 // What became of a file: its new answer, or it is missing, or of another length than was recorded.
-#[derive(Clone, Copy)]
+#[derive(Clone, Copy, PartialEq, Eq)]
 pub enum Fate {
     Read(Answer),
     Missing,
@@ -22,14 +21,14 @@ pub enum Fate {
 }
 
 // A file's result.
-#[derive(Clone, Copy)]
+#[derive(Clone, Copy, PartialEq, Eq)]
 pub struct File {
     pub recorded: Answer,
     pub fate: Fate,
 }
 
 // How many files were read; how many of them had each new outcome, how many were refused, how many differ; and how many were not read.
-#[derive(Clone, Copy)]
+#[derive(Clone, Copy, PartialEq, Eq, Default)]
 pub struct Tally {
     pub files: u64,
     pub done: u64,
@@ -40,99 +39,28 @@ pub struct Tally {
     pub apart: u64,
 }
 
-// Behind the outcomes.
-pub const REFUSED: u32 = 3;
-
-// The outcome, or `REFUSED`.
-pub fn sort(a: Answer) -> u32
-    ensures { result ≡ sort_of a }
-{
-    match a {
-        Answer::Done(_) => outcome::DONE,
-        Answer::Spent(_) => outcome::SPENT,
-        Answer::Deep(_) => outcome::DEEP,
-        Answer::Refused(_) => REFUSED,
-    }
-}
-
-pub fn amount(a: Answer) -> u32
-    ensures { result ≡ amount_of a }
-{
-    match a {
-        Answer::Done(errors) => errors,
-        Answer::Spent(errors) => errors,
-        Answer::Deep(errors) => errors,
-        Answer::Refused(number) => number,
-    }
-}
-
 // Whether the recorded and the new answer differ.
 pub fn differs(recorded: Answer, new: Answer) -> bool
     ensures { result ≡ differ recorded new }
 {
-    if sort(recorded) != sort(new) {
-        return true;
-    }
-    amount(recorded) != amount(new)
-}
-
-fn was_read(fate: Fate) -> bool
-    ensures { result ≡ was_read fate }
-{
-    match fate {
-        Fate::Read(_) => true,
-        Fate::Missing => false,
-        Fate::Changed => false,
-    }
-}
-
-fn has_sort(fate: Fate, n: u32) -> bool
-    ensures { result ≡ gives n fate }
-{
-    match fate {
-        Fate::Read(new) => sort(new) == n,
-        Fate::Missing => false,
-        Fate::Changed => false,
-    }
+    recorded != new
 }
 
 // Whether a file has a mark: one that was not read is not compared.
 pub fn is_marked(file: File) -> bool
     ensures { result ≡ marked file }
 {
-    let recorded = file.recorded;
-    let fate = file.fate;
-    match fate {
-        Fate::Read(new) => differs(recorded, new),
-        Fate::Missing => false,
-        Fate::Changed => false,
+    match file.fate {
+        Fate::Read(new) => differs(file.recorded, new),
+        Fate::Missing | Fate::Changed => false,
     }
-}
-
-// One more, where the file is one of those that are counted.
-fn raised(count: u64, more: bool) -> u64
-    requires { count < 2 ^ 64 - 1 }
-    ensures { result ≡ count + one more }
-{
-    if more {
-        return count + 1;
-    }
-    count
 }
 
 // Before the first file.
 pub fn none() -> Tally
     ensures { result ≡ replayed [] }
 {
-    Tally {
-        files: 0,
-        done: 0,
-        spent: 0,
-        deep: 0,
-        refused: 0,
-        differ: 0,
-        apart: 0,
-    }
+    Tally::default()
 }
 
 // A file's result added to the tally, by value.
@@ -140,15 +68,39 @@ pub fn counted(t: Tally, file: File) -> Tally
     requires { Room t }
     ensures { result ≡ adding t file }
 {
-    let fate = file.fate;
-    Tally {
-        files: raised(t.files, was_read(fate)),
-        done: raised(t.done, has_sort(fate, outcome::DONE)),
-        spent: raised(t.spent, has_sort(fate, outcome::SPENT)),
-        deep: raised(t.deep, has_sort(fate, outcome::DEEP)),
-        refused: raised(t.refused, has_sort(fate, REFUSED)),
-        differ: raised(t.differ, is_marked(file)),
-        apart: raised(t.apart, !was_read(fate)),
+    let Fate::Read(new) = file.fate else {
+        return Tally {
+            apart: t.apart + 1,
+            ..t
+        };
+    };
+    let files = t.files + 1;
+    let differ = t.differ + u64::from(is_marked(file));
+    match new {
+        Answer::Done(_) => Tally {
+            files,
+            done: t.done + 1,
+            differ,
+            ..t
+        },
+        Answer::Spent(_) => Tally {
+            files,
+            spent: t.spent + 1,
+            differ,
+            ..t
+        },
+        Answer::Deep(_) => Tally {
+            files,
+            deep: t.deep + 1,
+            differ,
+            ..t
+        },
+        Answer::Refused(_) => Tally {
+            files,
+            refused: t.refused + 1,
+            differ,
+            ..t
+        },
     }
 }
 

@@ -1,12 +1,11 @@
-// Runs the lines of a day and its replay on texts, with what becomes of each file given by its line's number; `stdout` has what document 02 and
+// Runs the lines of a day and its replay on texts, with what becomes of each file given by a closure; `stdout` has what document 02 and
 // docs/DECISIONS.md ask for, written by hand.
 #![tactic(auto)]
 
 ghost use Rattle.replay.specs.Answer.{Again};
 
 use console::{print_decimal, write};
-use listing::piece_end;
-use replay::{Answer, Fate, File, Line, Replayed, Tally, Written};
+use replay::{Answer, BadLine, Entry, Fate, File, Tally, Unwritten};
 
 fn field(rt: &impl Print, n: u64) {
     write(rt, b" ");
@@ -15,64 +14,52 @@ fn field(rt: &impl Print, n: u64) {
 
 // The first bytes, as many as there are.
 fn first(bytes: &[u8], n: usize) -> &[u8] {
-    if bytes.len() < n {
-        return bytes;
-    }
-    &bytes[..n]
+    &bytes[..n.min(bytes.len())]
 }
 
 fn show_answer(rt: &impl Print, a: Answer) {
-    match a {
-        Answer::Done(errors) => {
-            write(rt, b" done");
-            field(rt, errors as u64);
-        }
-        Answer::Spent(errors) => {
-            write(rt, b" spent");
-            field(rt, errors as u64);
-        }
-        Answer::Deep(errors) => {
-            write(rt, b" deep");
-            field(rt, errors as u64);
-        }
-        Answer::Refused(number) => {
-            write(rt, b" refused");
-            field(rt, number as u64);
-        }
-    }
+    let (word, n): (&[u8], u32) = match a {
+        Answer::Done(errors) => (b" done", errors),
+        Answer::Spent(errors) => (b" spent", errors),
+        Answer::Deep(errors) => (b" deep", errors),
+        Answer::Refused(number) => (b" refused", number),
+    };
+    write(rt, word);
+    field(rt, n as u64);
 }
 
 // What a line reads to: the length of its name, the file's size, the edition, and the answer.
 fn read(rt: &impl Print, line: &[u8]) {
     match replay::read_line(line) {
-        Line::Unread => write(rt, b"unread"),
-        Line::Entry {
-            to,
-            size,
-            edition,
-            answer,
-        } => {
+        None => write(rt, b"unread"),
+        Some(entry) => {
             write(rt, b"entry");
-            field(rt, to as u64);
-            field(rt, size as u64);
-            field(rt, edition as u64);
-            show_answer(rt, answer);
+            field(rt, entry.name.len() as u64);
+            field(rt, entry.size as u64);
+            field(rt, entry.edition as u64);
+            show_answer(rt, entry.answer);
         }
     }
     write(rt, b"\n");
 }
 
-fn show_written(rt: &impl Print, w: Written, room: &[u8]) {
-    match w {
-        Written::Unwritable => write(rt, b"unwritable\n"),
-        Written::Full => write(rt, b"full\n"),
-        Written::Length(n) => write(rt, first(room, n)),
+fn show_written(rt: &impl Print, written: Result<usize, Unwritten>, room: &[u8]) {
+    match written {
+        Err(Unwritten::Name) => write(rt, b"unwritable\n"),
+        Err(Unwritten::Full) => write(rt, b"full\n"),
+        Ok(n) => write(rt, first(room, n)),
     }
 }
 
 fn enter(rt: &impl Print, name: &[u8], size: u32, edition: u32, answer: Answer, room: &mut [u8]) {
-    let w = replay::entry_line(name, size, edition, answer, room);
-    show_written(rt, w, room);
+    let entry = Entry {
+        name,
+        size,
+        edition,
+        answer,
+    };
+    let written = replay::entry_line(entry, room);
+    show_written(rt, written, room);
 }
 
 fn compare(rt: &impl Print, recorded: Answer, new: Answer) {
@@ -83,72 +70,60 @@ fn compare(rt: &impl Print, recorded: Answer, new: Answer) {
     write(rt, b"same\n");
 }
 
-// By rule 0 every file is read as it was recorded; by rule 1 the answer has as many errors as its line's number, by rule 2 the reading runs out of fuel from
-// the fourth line on, by rule 3 every file is refused 18, and by rule 4 what becomes of it goes by sevens.
-fn fate_at(rule: u32, line: u64, recorded: Answer) -> Fate {
-    match rule {
-        0 => Fate::Read(recorded),
-        1 => Fate::Read(Answer::Done((line % 1000) as u32)),
-        2 => {
-            if line < 4 {
-                return Fate::Read(recorded);
-            }
-            Fate::Read(Answer::Spent(0))
-        }
-        3 => Fate::Read(Answer::Refused(18)),
-        _ => match line % 7 {
-            0 => Fate::Missing,
-            1 => Fate::Changed,
-            2 => Fate::Read(Answer::Done(0)),
-            3 => Fate::Read(Answer::Spent(0)),
-            4 => Fate::Read(Answer::Deep(0)),
-            5 => Fate::Read(Answer::Refused(7)),
-            _ => Fate::Read(Answer::Done(1)),
-        },
+// What becomes of a file, by sevens of its line's number.
+fn by_sevens(number: u64, _recorded: Answer) -> Fate {
+    match number % 7 {
+        0 => Fate::Missing,
+        1 => Fate::Changed,
+        2 => Fate::Read(Answer::Done(0)),
+        3 => Fate::Read(Answer::Spent(0)),
+        4 => Fate::Read(Answer::Deep(0)),
+        5 => Fate::Read(Answer::Refused(7)),
+        _ => Fate::Read(Answer::Done(1)),
     }
+}
+
+// The file is read as it was recorded.
+fn as_recorded(_number: u64, recorded: Answer) -> Fate {
+    Fate::Read(recorded)
 }
 
 fn show_file(rt: &impl Print, loud: bool, name: &[u8], file: File) {
     if loud {
         let mut room = [0u8; 256];
-        let w = replay::file_line(name, file, &mut room);
-        show_written(rt, w, &room);
+        let written = replay::file_line(name, file, &mut room);
+        show_written(rt, written, &room);
     }
 }
 
-fn replay_by(rt: &impl Print, rule: u32, loud: bool, text: &[u8]) -> Replayed
+// The day again, where `fate` gives what becomes of a file by its line's number and the recorded answer.
+fn replay_by<F: Fn(u64, Answer) -> Fate>(
+    rt: &impl Print,
+    fate: F,
+    loud: bool,
+    text: &[u8],
+) -> Result<Tally, BadLine>
+    requires { F.IsAlwaysCallable fate }
     ensures { Again text.now result }
 {
     let mut tally = replay::none();
-    let mut line: u64 = 1;
-    let mut at = 0;
-    while at < text.len() {
-        let to = piece_end(text, at, b'\n');
-        if to == text.len() {
-            return Replayed::BadLine(line, tally);
-        }
-        let part = &text[at..to];
-        let Line::Entry {
-            to: end,
-            size: _,
-            edition: _,
-            answer,
-        } = replay::read_line(part)
-        else {
-            return Replayed::BadLine(line, tally);
+    let mut number: u64 = 1;
+    let mut rest = text;
+    // No `for`: over `split_inclusive`, in a function with a type parameter, the check refuses its own statement.
+    while !rest.is_empty() {
+        let Some((entry, behind)) = replay::next_entry(rest) else {
+            return Err(BadLine { number, tally });
         };
-        let name = &part[..end];
-        let fate = fate_at(rule, line, answer);
         let file = File {
-            recorded: answer,
-            fate,
+            recorded: entry.answer,
+            fate: fate(number, entry.answer),
         };
-        show_file(rt, loud, name, file);
+        show_file(rt, loud, entry.name, file);
         tally = replay::with_file(tally, file);
-        line += 1;
-        at = to + 1;
+        number += 1;
+        rest = behind;
     }
-    Replayed::All(tally)
+    Ok(tally)
 }
 
 fn write_tally(rt: &impl Print, t: Tally) {
@@ -163,12 +138,14 @@ fn write_refusal(rt: &impl Print, line: u64) {
     write(rt, &room[..n]);
 }
 
-fn show(rt: &impl Print, rule: u32, loud: bool, text: &[u8]) {
-    match replay_by(rt, rule, loud, text) {
-        Replayed::All(tally) => write_tally(rt, tally),
-        Replayed::BadLine(line, tally) => {
-            write_tally(rt, tally);
-            write_refusal(rt, line);
+fn show<F: Fn(u64, Answer) -> Fate>(rt: &impl Print, fate: F, loud: bool, text: &[u8])
+    requires { F.IsAlwaysCallable fate }
+{
+    match replay_by(rt, fate, loud, text) {
+        Ok(tally) => write_tally(rt, tally),
+        Err(bad) => {
+            write_tally(rt, bad.tally);
+            write_refusal(rt, bad.number);
         }
     }
 }
@@ -231,37 +208,53 @@ fn compare_answers(rt: &impl Print) {
 fn replay_days(rt: &impl Print) {
     let day =
         b"a\t22\t1\tR\t0\t0\nb\t22\t1\tR\t0\t2\nc\t22\t1\tF\t1\t0\nd\t22\t1\tR\t1\t0\ne\t22\t1\tR\t2\t0\nf\t22\t1\tR\t0\t0\ng\t22\t1\tR\t0\t1\n";
-    show(rt, 0, true, b"");
-    show(rt, 0, true, day);
-    show(rt, 1, true, day);
-    show(rt, 2, true, day);
-    show(rt, 3, true, day);
-    show(rt, 4, true, day);
+    show(rt, as_recorded, true, b"");
+    show(rt, as_recorded, true, day);
+    // As many errors as the line's number.
+    let counted = |number: u64, _: Answer| Fate::Read(Answer::Done((number % 1000) as u32));
+    show(rt, counted, true, day);
+    // Out of fuel from the fourth line on.
+    let tired = |number: u64, recorded: Answer| {
+        Fate::Read(if number < 4 {
+            recorded
+        } else {
+            Answer::Spent(0)
+        })
+    };
+    show(rt, tired, true, day);
+    show(rt, |_, _| Fate::Read(Answer::Refused(18)), true, day);
+    show(rt, by_sevens, true, day);
     // The third line has a tab in its name; the last line is not ended; the first line is empty.
     show(
         rt,
-        0,
+        as_recorded,
         true,
         b"a\t22\t1\tR\t0\t0\nb\t22\t1\tF\t4\t0\nc\tc\t22\t1\tR\t0\t0\nd\t22\t1\tR\t0\t0\n",
     );
-    show(rt, 0, true, b"a\t22\t1\tR\t0\t0\nb\t22\t1\tR\t0\t0");
-    show(rt, 0, true, b"\na\t22\t1\tR\t0\t0\n");
+    show(
+        rt,
+        as_recorded,
+        true,
+        b"a\t22\t1\tR\t0\t0\nb\t22\t1\tR\t0\t0",
+    );
+    show(rt, as_recorded, true, b"\na\t22\t1\tR\t0\t0\n");
 }
 
 // The lines of a thousand files.
 fn fill(room: &mut [u8]) -> usize {
     let mut at = 0;
-    let mut i: u32 = 0;
-    while i < 1000 {
+    for size in 0..1000 {
+        let entry = Entry {
+            name: b"f",
+            size,
+            edition: 1,
+            answer: Answer::Done(0),
+        };
         let rest = &mut room[at..];
-        let Written::Length(n) = replay::entry_line(b"f", i, 1, Answer::Done(0), rest) else {
+        let Ok(n) = replay::entry_line(entry, rest) else {
             return at;
         };
-        if rest.len() < n {
-            return at;
-        }
-        at += n;
-        i += 1;
+        at += n.min(rest.len());
     }
     at
 }
@@ -270,7 +263,7 @@ fn fill(room: &mut [u8]) -> usize {
 fn replay_thousand(rt: &impl Print) {
     let mut text = [0u8; 32768];
     let n = fill(&mut text);
-    show(rt, 4, false, first(&text, n));
+    show(rt, by_sevens, false, first(&text, n));
 }
 
 fn main(rt: HostRuntime) {

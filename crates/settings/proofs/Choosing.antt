@@ -2,16 +2,17 @@
 use Prim.Native.Nat.{ℕ, zero, suc, ◌-◌, ◌≤◌, ◌<◌}
 use mathlib.Core.Path.{◌≡◌, refl, sym, ap, ◌∙◌}
 use mathlib.Core.List.{List, [], ◌∷◌}
+use mathlib.Core.Logic.{⊎_elim, ◌⊎◌}
 use native.Mathlib.Omega.{arith}
 use lib.ListN.{length, get_or}
+use Rattle.std.specs.Prelude.{Result, Ok, Err}
 use Rattle.settings.specs.Settings.{Settings, bad, editions, settings_of, today, bad_line, unknown, named, numbered, choice_in, choice}
 use Rattle.settings.specs.Answer.{scan_of}
 use Rattle.settings.specs.declared.lines.Values.{Values}
-use Rattle.settings.specs.declared.lines.Scan.{Scan}
-use Rattle.settings.specs.declared.lines.Scan.TheVariants as scan
+use Rattle.settings.specs.declared.lines.BadLine.{BadLine}
 
 -- what the code's answer to a text stands for
-pub told_bad : (edition : ℕ) (first : Values) (s : Settings) {r : Scan} {n : ℕ} → r ≡ scan_of edition first s → r ≡ scan.BadLine n → s ≡ bad n
+pub told_bad : (edition : ℕ) (first : Values) (s : Settings) {r : Result (ℕ × Values) BadLine} {b : BadLine} → r ≡ scan_of edition first s → r ≡ Err b → s ≡ bad b.0
 told_bad edition first (bad m) e f = cc
 told_bad edition first (editions vs) e f = absurd (let z : ◌≡◌ {A = ℕ} 0 1 = cc in omega arith)
 
@@ -21,10 +22,16 @@ pub record Told (edition : ℕ) (first : Values) (s : Settings) (last : ℕ) (va
   pub count : last ≡ suc (length all)
   pub held : values ≡ get_or (first ∷ all) (edition - 1) first
 
-pub told : (edition : ℕ) (first : Values) (s : Settings) {r : Scan} {last : ℕ} {values : Values} → r ≡ scan_of edition first s → r ≡ scan.Last last values
+abbrev in_ok : ℕ × Values → Result (ℕ × Values) BadLine → ℕ × Values
+in_ok p (Ok q) = q
+in_ok p (Err b) = p
+
+pub told : (edition : ℕ) (first : Values) (s : Settings) {r : Result (ℕ × Values) BadLine} {last : ℕ} {values : Values} → r ≡ scan_of edition first s → r ≡ Ok (last, values)
     → Told edition first s last values
 told edition first (bad m) e f = absurd (let z : ◌≡◌ {A = ℕ} 0 1 = cc in omega arith)
-told edition first (editions vs) e f = record { all = vs; is = refl; count = cc; held = cc }
+told edition first (editions vs) {r} {last} {values} e f =
+    let g : Ok (last, values) ≡ Ok (suc (length vs), get_or (first ∷ vs) (edition - 1) first) = sym f ∙ e in
+    record { all = vs; is = refl; count = ap (λ r. (in_ok (last, values) r).0) g; held = ap (λ r. (in_ok (last, values) r).1) g }
 
 pub past : (e : ℕ) (l : List Values) → length l < e → numbered e l ≡ unknown
 past zero l h = absurd (omega arith)
@@ -46,18 +53,21 @@ module _ (text : List ℕ) (edition fuel : ℕ) where
   unfolding choice
   by s e = sym (ap (λ (s : Settings). choice_in s edition fuel) e)
 
-  pub chosen_bad : {r : Scan} {n : ℕ} → r ≡ scan_of edition (today fuel) (settings_of text) → r ≡ scan.BadLine n → bad_line n ≡ choice text edition fuel
-  chosen_bad {r} {n} e f = by (bad n) (told_bad edition (today fuel) (settings_of text) e f)
+  pub chosen_bad : {r : Result (ℕ × Values) BadLine} {b : BadLine} → r ≡ scan_of edition (today fuel) (settings_of text) → r ≡ Err b → bad_line b.0 ≡ choice text edition fuel
+  chosen_bad {r} {b} e f = by (bad b.0) (told_bad edition (today fuel) (settings_of text) e f)
 
-  module _ {r : Scan} {last : ℕ} {values : Values} (e : r ≡ scan_of edition (today fuel) (settings_of text)) (f : r ≡ scan.Last last values) where
+  module _ {r : Result (ℕ × Values) BadLine} {last : ℕ} {values : Values} (e : r ≡ scan_of edition (today fuel) (settings_of text)) (f : r ≡ Ok (last, values)) where
     it : Told edition (today fuel) (settings_of text) last values
     it = told edition (today fuel) (settings_of text) e f
 
-    pub chosen_zero : edition ≡ 0 → unknown ≡ choice text edition fuel
+    chosen_zero : edition ≡ 0 → unknown ≡ choice text edition fuel
     chosen_zero h = sym (ap (λ (n : ℕ). numbered n (today fuel ∷ it.all)) h) ∙ by (editions it.all) it.is
 
-    pub chosen_past : last < edition → unknown ≡ choice text edition fuel
+    chosen_past : last < edition → unknown ≡ choice text edition fuel
     chosen_past h = sym (past edition (today fuel ∷ it.all) (omega (arith, it.count))) ∙ by (editions it.all) it.is
+
+    pub chosen_none : (edition ≡ 0) ⊎ ((edition ≡ 0 → ⊥) × (last < edition)) → unknown ≡ choice text edition fuel
+    chosen_none h = ⊎_elim chosen_zero (λ k. chosen_past k.1) h
 
     pub chosen_named : (edition ≡ 0 → ⊥) → edition ≤ last → named values ≡ choice text edition fuel
     chosen_named h k =

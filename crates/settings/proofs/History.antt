@@ -4,7 +4,7 @@ use Prim.Native.Nat.{ℕ, zero, suc, ◌+◌, ◌^◌, ◌≤◌, ◌<◌}
 use mathlib.Core.Path.{◌≡◌, refl, sym, ap, subst, ◌∙◌}
 use mathlib.Core.List.{List, [], ◌∷◌, ◌++◌}
 use mathlib.Core.Bool.{Bool, true, false, cond, ◌&&◌}
-use mathlib.Core.Option.{Option, none, some}
+use Rattle.std.specs.Prelude.{Option, Some, None}
 use native.Mathlib.Omega.{arith}
 use borrow.Author.Tests.{eq-eqb, eqb-true, lt-ltb, leb-true}
 use lib.Dec.{eqb, leb, ltb}
@@ -21,20 +21,20 @@ use Rattle.settings.proofs.Written.{glue, onto_none, parted_append, one_line, bo
 record Taken (o : Option Values) (s : Settings) (vs : List Values) : Type 0 where
   first : Values
   others : List Values
-  read : o ≡ some first
+  read : o ≡ Some first
   rest : s ≡ editions others
   all : vs ≡ first ∷ others
 
 taken : (n : ℕ) (o : Option Values) (s : Settings) (vs : List Values) → from n o s ≡ editions vs → Taken o s vs
-taken n none s vs e = absurd (let z : ◌≡◌ {A = ℕ} 0 1 = cc in omega arith)
-taken n (some v) (bad m) vs e = absurd (let z : ◌≡◌ {A = ℕ} 0 1 = cc in omega arith)
-taken n (some v) (editions ws) vs e = record { first = v; others = ws; read = refl; rest = refl; all = cc }
+taken n None s vs e = absurd (let z : ◌≡◌ {A = ℕ} 0 1 = cc in omega arith)
+taken n (Some v) (bad m) vs e = absurd (let z : ◌≡◌ {A = ℕ} 0 1 = cc in omega arith)
+taken n (Some v) (editions ws) vs e = record { first = v; others = ws; read = refl; rest = refl; all = cc }
 
-in_turn_lem : (e : ℕ) (o : Option (ℕ × Values)) (v : Values) → in_turn e o ≡ some v → o ≡ some (e, v)
-in_turn_lem e none v h = absurd (let z : ◌≡◌ {A = ℕ} 0 1 = cc in omega arith)
-in_turn_lem e (some (n, w)) v h = go (eqb n e) refl h
+in_turn_lem : (e : ℕ) (o : Option (ℕ × Values)) (v : Values) → in_turn e o ≡ Some v → o ≡ Some (e, v)
+in_turn_lem e None v h = absurd (let z : ◌≡◌ {A = ℕ} 0 1 = cc in omega arith)
+in_turn_lem e (Some (n, w)) v h = go (eqb n e) refl h
   where
-    go : (t : Bool) → eqb n e ≡ t → cond t (some w) none ≡ some v → ◌≡◌ {A = Option (ℕ × Values)} (some (n, w)) (some (e, v))
+    go : (t : Bool) → eqb n e ≡ t → cond t (Some w) None ≡ Some v → ◌≡◌ {A = Option (ℕ × Values)} (Some (n, w)) (Some (e, v))
     go true i h = let j : n ≡ e = eqb-true n e i in cc
     go false i h = absurd (let z : ◌≡◌ {A = ℕ} 0 1 = cc in omega arith)
 
@@ -45,7 +45,7 @@ abbrev pub Rising : ℕ → List (List ℕ) → List Values → Type 0
 Rising n [] [] = Unit
 Rising n [] (v ∷ vs) = ⊥
 Rising n (l ∷ ls) [] = l ∷ ls ≡ [] ∷ []
-Rising n (l ∷ ls) (v ∷ vs) = (line_of (parted 9 l) ≡ some (suc n, v)) × Rising (suc n) ls vs
+Rising n (l ∷ ls) (v ∷ vs) = (line_of (parted 9 l) ≡ Some (suc n, v)) × Rising (suc n) ls vs
 
 rising : (n : ℕ) (ls : List (List ℕ)) (vs : List Values) → lines_of n ls ≡ editions vs → Rising n ls vs
 rising n [] [] e = tt
@@ -70,30 +70,30 @@ Every [] = Unit
 Every (v ∷ vs) = (in_range v ≡ true) × Every vs
 
 abbrev values_of : Values → Option (ℕ × Values) → Values
-values_of w none = w
-values_of w (some l) = l.1
+values_of w None = w
+values_of w (Some l) = l.1
 
-ranged_in : (n : ℕ) (w : Values) (e : ℕ) (v : Values) → ranged n w ≡ some (e, v) → in_range v ≡ true
+ranged_in : (n : ℕ) (w : Values) (e : ℕ) (v : Values) → ranged n w ≡ Some (e, v) → in_range v ≡ true
 ranged_in n w e v h = go (in_range w) refl h
   where
-    go : (t : Bool) → in_range w ≡ t → cond {A = Option (ℕ × Values)} t (some (n, w)) none ≡ some (e, v) → in_range v ≡ true
+    go : (t : Bool) → in_range w ≡ t → cond {A = Option (ℕ × Values)} t (Some (n, w)) None ≡ Some (e, v) → in_range v ≡ true
     go true i h = ap in_range (sym (ap (values_of w) h)) ∙ i
     go false i h = absurd (let z : ◌≡◌ {A = ℕ} 0 1 = cc in omega arith)
 
-edition_in : (a b c d p : Option ℕ) (e : ℕ) (v : Values) → edition_of a b c d p ≡ some (e, v) → in_range v ≡ true
-edition_in none b c d p e v h = absurd (let z : ◌≡◌ {A = ℕ} 0 1 = cc in omega arith)
-edition_in (some w) none c d p e v h = absurd (let z : ◌≡◌ {A = ℕ} 0 1 = cc in omega arith)
-edition_in (some w) (some x) none d p e v h = absurd (let z : ◌≡◌ {A = ℕ} 0 1 = cc in omega arith)
-edition_in (some w) (some x) (some y) none p e v h = absurd (let z : ◌≡◌ {A = ℕ} 0 1 = cc in omega arith)
-edition_in (some w) (some x) (some y) (some z) none e v h = absurd (let z : ◌≡◌ {A = ℕ} 0 1 = cc in omega arith)
-edition_in (some w) (some x) (some y) (some z) (some p) e v h = ranged_in w (record { fuel = x; depth = y; quote = z; entrypoint = p }) e v h
+edition_in : (a b c d p : Option ℕ) (e : ℕ) (v : Values) → edition_of a b c d p ≡ Some (e, v) → in_range v ≡ true
+edition_in None b c d p e v h = absurd (let z : ◌≡◌ {A = ℕ} 0 1 = cc in omega arith)
+edition_in (Some w) None c d p e v h = absurd (let z : ◌≡◌ {A = ℕ} 0 1 = cc in omega arith)
+edition_in (Some w) (Some x) None d p e v h = absurd (let z : ◌≡◌ {A = ℕ} 0 1 = cc in omega arith)
+edition_in (Some w) (Some x) (Some y) None p e v h = absurd (let z : ◌≡◌ {A = ℕ} 0 1 = cc in omega arith)
+edition_in (Some w) (Some x) (Some y) (Some z) None e v h = absurd (let z : ◌≡◌ {A = ℕ} 0 1 = cc in omega arith)
+edition_in (Some w) (Some x) (Some y) (Some z) (Some p) e v h = ranged_in w (record { fuel = x; depth = y; quote = z; entrypoint = p }) e v h
 
-line_in : (fs : List (List ℕ)) (e : ℕ) (v : Values) → line_of fs ≡ some (e, v) → in_range v ≡ true
+line_in : (fs : List (List ℕ)) (e : ℕ) (v : Values) → line_of fs ≡ Some (e, v) → in_range v ≡ true
 line_in [] e v h = absurd (let z : ◌≡◌ {A = ℕ} 0 1 = cc in omega arith)
 line_in (a ∷ []) e v h = absurd (let z : ◌≡◌ {A = ℕ} 0 1 = cc in omega arith)
 line_in (a ∷ b ∷ []) e v h = absurd (let z : ◌≡◌ {A = ℕ} 0 1 = cc in omega arith)
 line_in (a ∷ b ∷ c ∷ []) e v h = absurd (let z : ◌≡◌ {A = ℕ} 0 1 = cc in omega arith)
-line_in (a ∷ b ∷ c ∷ d ∷ []) e v h = edition_in (number a) (number b) (number c) (number d) (some 1) e v h
+line_in (a ∷ b ∷ c ∷ d ∷ []) e v h = edition_in (number a) (number b) (number c) (number d) (Some 1) e v h
 line_in (a ∷ b ∷ c ∷ d ∷ p ∷ []) e v h = edition_in (number a) (number b) (number c) (number d) (number p) e v h
 line_in (a ∷ b ∷ c ∷ d ∷ p ∷ f ∷ fs) e v h = absurd (let z : ◌≡◌ {A = ℕ} 0 1 = cc in omega arith)
 
@@ -112,7 +112,7 @@ glued P h r [] [] = h r []
 glued P h r [] (q ∷ qs) = h (r ++ q) qs
 glued P h r (p ∷ ps) qs = h r (glue (p ∷ ps) qs)
 
-from_before : (n : ℕ) (v : Values) (ws : List Values) (s : Settings) → from n (some v) (before ws s) ≡ before (v ∷ ws) s
+from_before : (n : ℕ) (v : Values) (ws : List Values) (s : Settings) → from n (Some v) (before ws s) ≡ before (v ∷ ws) s
 from_before n v ws (bad m) = refl
 from_before n v ws (editions us) = refl
 
@@ -132,7 +132,7 @@ lines_glue n (l ∷ k ∷ ls) vs qs o e =
     let t = taken n (in_turn (suc n) (line_of (parted 9 l))) (lines_of (suc n) (k ∷ ls)) vs e in
     glued (λ (ps : List (List ℕ)). lines_of n (l ∷ ps) ≡ from n (in_turn (suc n) (line_of (parted 9 l))) (lines_of (suc n) ps)) (λ p ps. refl) k ls qs
     ∙ ap (λ (i : Option Values). from n i (lines_of (suc n) (glue (k ∷ ls) qs))) t.read
-    ∙ ap (from n (some t.first)) (lines_glue (suc n) (k ∷ ls) t.others qs o t.rest)
+    ∙ ap (from n (Some t.first)) (lines_glue (suc n) (k ∷ ls) t.others qs o t.rest)
     ∙ from_before n t.first t.others (lines_of (suc n + length t.others) qs)
     ∙ ap (λ (i : ℕ). before (t.first ∷ t.others) (lines_of i qs)) (omega arith)
     ∙ ap (λ (us : List Values). before us (lines_of (n + length us) qs)) (sym t.all)
@@ -148,7 +148,7 @@ module _ (text : List ℕ) (vs : List Values) (reads : settings_of text ≡ edit
       ∙ ap (λ (i : ℕ). before vs (lines_of i (parted 10 (written (suc n) v)))) (omega arith)
       ∙ ap (λ (ls : List (List ℕ)). before vs (lines_of n ls)) (one_line (suc n) v)
       ∙ ap (λ (o : Option (ℕ × Values)). before vs (from n (in_turn (suc n) o) (editions []))) (body_reads (suc n) v small r)
-      ∙ ap (λ (t : Bool). before vs (from n (cond t (some v) none) (editions []))) (eq-eqb (suc n) (suc n) refl)
+      ∙ ap (λ (t : Bool). before vs (from n (cond t (Some v) None) (editions []))) (eq-eqb (suc n) (suc n) refl)
 
   numbered_same : (e : ℕ) (l : List Values) → e ≤ length l → numbered e (l ++ (v ∷ [])) ≡ numbered e l
   numbered_same zero l h = refl

@@ -1,3 +1,4 @@
+pub mod EndedLines
 pub mod Fields
 pub mod Scanning
 pub mod Choosing

@@ -1,23 +1,21 @@
 -- Reading line after line gives what settings text is. Assumes nothing.
-use Prim.Native.Nat.{ℕ, zero, suc, ◌+◌, ◌-◌, ◌^◌, ◌≤◌, ◌<◌}
+use Prim.Native.Nat.{ℕ, zero, suc, ◌+◌, ◌-◌, ◌^◌, ◌<◌}
 use mathlib.Core.Path.{◌≡◌, refl, sym, ap, subst, ◌∙◌}
 use mathlib.Core.List.{List, [], ◌∷◌, ◌++◌, append_assoc, append-nil}
 use mathlib.Core.Bool.{Bool, true, false, cond}
-use mathlib.Core.Option.{Option, none, some}
 use native.Mathlib.Omega.{arith}
 use borrow.Author.Tests.{eq-eqb, ne_eqb, eqb-true, eqb-false}
 use lib.Dec.{eqb}
-use lib.ListN.{length, get_or, drop, length-append, drop_of_length-le}
+use lib.ListN.{length, get_or, length-append}
 use lib.Seq.{get_or-append_seam}
-use Rattle.listing.specs.Lines.{parted, Piece}
-use Rattle.listing.proofs.Pieces.{part, marked, unmarked, one_piece, part_length}
+use Rattle.std.specs.Prelude.{Option, Some, None, Ok, Err, ◌≢◌}
+use Rattle.std.proofs.lemmas.List.{nil_from_length}
+use Rattle.listing.specs.Lines.{parted}
+use Rattle.listing.proofs.Pieces.{one_piece}
 use Rattle.settings.specs.Settings.{line_of, in_turn, Settings, bad, editions, from, behind_last, lines_of, settings_of}
-use Rattle.settings.specs.Answer.{line_from, scan_of}
+use Rattle.settings.specs.Answer.{scan_of}
 use Rattle.settings.specs.declared.lines.Values.{Values}
-use Rattle.settings.specs.declared.lines.Line.{Line}
-use Rattle.settings.specs.declared.lines.Line.TheVariants as line
-use Rattle.settings.specs.declared.lines.Scan.TheVariants as scan
-use Rattle.settings.proofs.Fields.{unread, reads}
+use Rattle.settings.proofs.EndedLines.{NextLine, a_line, no_line}
 
 -- lines that read, before others
 abbrev pub before : List Values → Settings → Settings
@@ -28,7 +26,7 @@ before_none : (s : Settings) → before [] s ≡ s
 before_none (bad n) = refl
 before_none (editions ws) = refl
 
-pub before_one : (vs : List Values) (n : ℕ) (v : Values) (s : Settings) → before vs (from n (some v) s) ≡ before (vs ++ (v ∷ [])) s
+pub before_one : (vs : List Values) (n : ℕ) (v : Values) (s : Settings) → before vs (from n (Some v) s) ≡ before (vs ++ (v ∷ [])) s
 before_one vs n v (bad m) = refl
 before_one vs n v (editions ws) = ap editions (sym (append_assoc vs (v ∷ []) ws))
 
@@ -47,97 +45,90 @@ unended : (n : ℕ) (l : List ℕ) → 0 < length l → behind_last n l ≡ bad 
 unended n [] h = absurd (omega arith)
 unended n (b ∷ bs) h = refl
 
--- the lines before a place read; the last edition before it, and the values that the one asked for has by then
-pub record Scanned (text : List ℕ) (edition : ℕ) (first values : Values) (last at : ℕ) : Type 0 where
+-- the lines before the rest of the text read; the last edition among them, and the values that the one asked for has by then
+pub record Scanned (text : List ℕ) (edition : ℕ) (first values : Values) (last : ℕ) (rest : List ℕ) : Type 0 where
   pub passed : List Values
-  pub within : at ≤ length text
   pub small : last < 2 ^ 32
   pub count : last ≡ suc (length passed)
   pub held : values ≡ get_or (first ∷ passed) (edition - 1) first
-  pub is : settings_of text ≡ before passed (lines_of last (parted 10 (drop at text)))
+  pub is : settings_of text ≡ before passed (lines_of last (parted 10 rest))
 
-pub scanned : (text : List ℕ) (edition : ℕ) (first : Values) → Scanned text edition first first 1 0
+pub scanned : (text : List ℕ) (edition : ℕ) (first : Values) {rest : List ℕ} → rest ≡ text → Scanned text edition first first 1 rest
 unfolding settings_of
-scanned text edition first =
-    record { passed = []; within = omega arith; small = omega arith; count = refl; held = sym (alone (edition - 1)); is = sym (before_none (lines_of 1 (parted 10 text))) }
+scanned text edition first e =
+    record { passed = []; small = omega arith; count = refl; held = sym (alone (edition - 1)); is = sym (before_none (lines_of 1 (parted 10 text))) ∙ ap (λ (t : List ℕ). before [] (lines_of 1 (parted 10 t))) (sym e) }
   where
     alone : (i : ℕ) → get_or (first ∷ []) i first ≡ first
     alone zero = refl
     alone (suc i) = refl
 
-module _ {text : List ℕ} {edition : ℕ} {first values : Values} {last at : ℕ} (g : Scanned text edition first values last at) where
-  stops : lines_of last (parted 10 (drop at text)) ≡ bad last → scan.BadLine last ≡ scan_of edition first (settings_of text)
+module _ {text : List ℕ} {edition : ℕ} {first values : Values} {last : ℕ} {rest : List ℕ} (g : Scanned text edition first values last rest) where
+  stops : lines_of last (parted 10 rest) ≡ bad last → Err (record { 0 = last }) ≡ scan_of edition first (settings_of text)
   stops e = sym (ap (scan_of edition first) (g.is ∙ ap (before g.passed) e))
 
-  -- the text ends before its line does
-  module _ {to : ℕ} (p : Piece 10 text at to) where
-    pub cut_short : at < length text → length text ≤ to → scan.BadLine last ≡ scan_of edition first (settings_of text)
-    cut_short h k =
-        stops
-        (ap (lines_of last) (unmarked p k)
-        ∙ unended last (part at to text) (omega (arith, part_length at to text p.forward p.within)))
+  -- by the next line
+  module _ {x next : List ℕ} (l : NextLine 10 rest x next) where
+    -- the text ends before its line does
+    pub cut_short : ((line : List ℕ) → x ≢ line ++ (10 ∷ [])) → Err (record { 0 = last }) ≡ scan_of edition first (settings_of text)
+    cut_short n = stops (ap (lines_of last) (no_line l n) ∙ unended last rest l.some)
 
-    module _ (h : to < length text) {r : Line} (e : r ≡ line_from (line_of (parted 9 (part at to text)))) where
-      next : lines_of last (parted 10 (drop at text)) ≡ from last (in_turn (suc last) (line_of (parted 9 (part at to text)))) (lines_of (suc last) (parted 10 (drop (to + 1) text)))
-      next = ap (lines_of last) (marked p h) ∙ lines_more last (part at to text) 10 (drop (to + 1) text)
+    module _ (line : List ℕ) (whole : x ≡ line ++ (10 ∷ [])) where
+      next_as : (o : Option Values) → in_turn (suc last) (line_of (parted 9 line)) ≡ o
+          → lines_of last (parted 10 rest) ≡ from last o (lines_of (suc last) (parted 10 next))
+      next_as o f =
+          ap (lines_of last) (a_line l line whole)
+          ∙ lines_more last line 10 next
+          ∙ ap (λ (i : Option Values). from last i (lines_of (suc last) (parted 10 next))) f
 
-      next_as : (o : Option Values) → in_turn (suc last) (line_of (parted 9 (part at to text))) ≡ o
-          → lines_of last (parted 10 (drop at text)) ≡ from last o (lines_of (suc last) (parted 10 (drop (to + 1) text)))
-      next_as o f = next ∙ ap (λ (i : Option Values). from last i (lines_of (suc last) (parted 10 (drop (to + 1) text)))) f
+      pub not_read : None ≡ line_of (parted 9 line) → Err (record { 0 = last }) ≡ scan_of edition first (settings_of text)
+      not_read f = stops (next_as None (ap (in_turn (suc last)) (sym f)))
 
-      pub not_read : r ≡ line.Unread → scan.BadLine last ≡ scan_of edition first (settings_of text)
-      not_read f = stops (next_as none (ap (in_turn (suc last)) (unread (line_of (parted 9 (part at to text))) e f)))
+      module _ {number : ℕ} {read : Values} (f : Some (number, read) ≡ line_of (parted 9 line)) where
+        turn_as : (t : Bool) → eqb number (suc last) ≡ t → in_turn (suc last) (line_of (parted 9 line)) ≡ cond t (Some read) None
+        turn_as t i = ap (in_turn (suc last)) (sym f) ∙ ap (λ (t : Bool). cond t (Some read) None) i
 
-      module _ {number : ℕ} {read : Values} (f : r ≡ line.Edition number read) where
-        turn : in_turn (suc last) (line_of (parted 9 (part at to text))) ≡ cond (eqb number (suc last)) (some read) none
-        turn = ap (in_turn (suc last)) (reads (line_of (parted 9 (part at to text))) e f)
+        pub out_of_turn : (number ≡ last + 1 → ⊥) → Err (record { 0 = last }) ≡ scan_of edition first (settings_of text)
+        out_of_turn ne = stops (next_as None (turn_as false (ne_eqb number (suc last) (λ i. ne (omega arith)))))
 
-        turn_as : (t : Bool) → eqb number (suc last) ≡ t → in_turn (suc last) (line_of (parted 9 (part at to text))) ≡ cond t (some read) none
-        turn_as t i = turn ∙ ap (λ (t : Bool). cond t (some read) none) i
-
-        pub out_of_turn : (number ≡ last + 1 → ⊥) → scan.BadLine last ≡ scan_of edition first (settings_of text)
-        out_of_turn ne = stops (next_as none (turn_as false (ne_eqb number (suc last) (λ i. ne (omega arith)))))
-
-        module _ (m : number < 2 ^ 32) (i : number ≡ last + 1) where
-          moved : (v : Values) → v ≡ get_or ((first ∷ g.passed) ++ (read ∷ [])) (edition - 1) first → Scanned text edition first v number (to + 1)
+        module _ (m : number < 2 ^ 32) (j : number ≡ last + 1) where
+          moved : (v : Values) → v ≡ get_or ((first ∷ g.passed) ++ (read ∷ [])) (edition - 1) first → Scanned text edition first v number next
           moved v k =
               record {
                 passed = g.passed ++ (read ∷ []);
-                within = omega arith;
                 small = m;
-                count = omega (arith, i, g.count, length-append g.passed (read ∷ []));
+                count = omega (arith, j, g.count, length-append g.passed (read ∷ []));
                 held = k;
                 is =
                     g.is
-                    ∙ ap (before g.passed) (next_as (some read) (turn_as true (eq-eqb number (suc last) (omega arith))))
-                    ∙ before_one g.passed last read (lines_of (suc last) (parted 10 (drop (to + 1) text)))
-                    ∙ ap (λ (n : ℕ). before (g.passed ++ (read ∷ [])) (lines_of n (parted 10 (drop (to + 1) text)))) (omega arith);
+                    ∙ ap (before g.passed) (next_as (Some read) (turn_as true (eq-eqb number (suc last) (omega arith))))
+                    ∙ before_one g.passed last read (lines_of (suc last) (parted 10 next))
+                    ∙ ap (λ (n : ℕ). before (g.passed ++ (read ∷ [])) (lines_of n (parted 10 next))) (omega arith);
               }
 
-          found : number ≡ edition → Scanned text edition first read number (to + 1)
+          found : number ≡ edition → Scanned text edition first read number next
           found k =
-              let here : edition - 1 ≡ length (first ∷ g.passed) = omega (arith, g.count) in
+              let here : edition - 1 ≡ length (first ∷ g.passed) = omega (arith, j, g.count) in
               moved read
               (sym (ap (λ (n : ℕ). get_or ((first ∷ g.passed) ++ (read ∷ [])) n first) here
               ∙ get_or-append_seam (first ∷ g.passed) read [] first))
 
-          elsewhere : (number ≡ edition → ⊥) → Scanned text edition first values number (to + 1)
+          elsewhere : (number ≡ edition → ⊥) → Scanned text edition first values number next
           elsewhere k =
               moved values
-              (g.held ∙ sym (get_d_other (first ∷ g.passed) read first (edition - 1) (λ j. k (omega (arith, g.count)))))
+              (g.held ∙ sym (get_d_other (first ∷ g.passed) read first (edition - 1) (λ e. k (omega (arith, j, g.count)))))
 
-          pub read_on : {v : Values} → v ≡ cond (eqb number edition) read values → Scanned text edition first v number (to + 1)
+          pub read_on : {v : Values} → v ≡ cond (eqb number edition) read values → Scanned text edition first v number next
           read_on {v} k = go (eqb number edition) refl k
             where
-              go : (t : Bool) → eqb number edition ≡ t → v ≡ cond t read values → Scanned text edition first v number (to + 1)
-              go true j k = subst (λ (w : Values). Scanned text edition first w number (to + 1)) (sym k) (found (eqb-true number edition j))
-              go false j k = subst (λ (w : Values). Scanned text edition first w number (to + 1)) (sym k) (elsewhere (eqb-false number edition j))
+              go : (t : Bool) → eqb number edition ≡ t → v ≡ cond t read values → Scanned text edition first v number next
+              go true e k = subst (λ (w : Values). Scanned text edition first w number next) (sym k) (found (eqb-true number edition e))
+              go false e k = subst (λ (w : Values). Scanned text edition first w number next) (sym k) (elsewhere (eqb-false number edition e))
 
-  pub all_read : length text ≤ at → scan.Last last values ≡ scan_of edition first (settings_of text)
+  pub all_read : length rest ≡ 0 → Ok (last, values) ≡ scan_of edition first (settings_of text)
   all_read h =
-      ap (λ (n : ℕ). scan.Last n values) g.count
-      ∙ ap (scan.Last (suc (length g.passed))) g.held
+      ap (λ (n : ℕ). Ok (n, values)) g.count
+      ∙ ap (λ (v : Values). Ok (suc (length g.passed), v)) g.held
       ∙ sym (ap (scan_of edition first)
       (g.is
-      ∙ ap (λ (s : List ℕ). before g.passed (lines_of last (parted 10 s))) (drop_of_length-le text h)
+      ∙ ap (λ (s : List ℕ). before g.passed (lines_of last (parted 10 s))) (nil_from_length rest h)
       ∙ ap editions (append-nil g.passed)))

@@ -3,7 +3,7 @@ use Prim.Native.Nat.{ℕ, ◌^◌, ◌<◌}
 use mathlib.Core.Path.{◌≡◌, refl, sym, ap, ◌∙◌}
 use mathlib.Core.List.{List, [], ◌∷◌, ◌++◌, map, append_assoc}
 use mathlib.Core.Bool.{Bool, true, false, cond, ◌&&◌}
-use mathlib.Core.Option.{none, some}
+use Rattle.std.specs.Prelude.{Some, None}
 use native.Mathlib.Omega.{arith}
 use borrow.Author.Tests.{ltb-true, leb-true}
 use lib.Dec.{eqb, leb, ltb}
@@ -63,16 +63,16 @@ module _ (e : ℕ) (v : Values) where
       (free_led 10 9 refl (map decimal values) (decimals_free 10 (omega arith) values)))
 
   module _ (h : e < 2 ^ 32) (r : in_range v ≡ true) where
-    pub body_reads : line_of (parted 9 body) ≡ some (e, v)
+    pub body_reads : line_of (parted 9 body) ≡ Some (e, v)
     unfolding values body
     body_reads =
         let o = both (ltb v.fuel (2 ^ 32) && leb 1 v.depth && leb v.depth 1024 && leb v.quote 255) (leb v.entrypoint 1) r in
         let a = both (ltb v.fuel (2 ^ 32) && leb 1 v.depth && leb v.depth 1024) (leb v.quote 255) o.0 in
         let b = both (ltb v.fuel (2 ^ 32) && leb 1 v.depth) (leb v.depth 1024) a.0 in
         let c = both (ltb v.fuel (2 ^ 32)) (leb 1 v.depth) b.0 in
-        let f : number (decimal v.fuel) ≡ some v.fuel = reads_back v.fuel (ltb-true v.fuel (2 ^ 32) c.0) in
-        let d : number (decimal v.depth) ≡ some v.depth = reads_back v.depth (omega (arith, leb-true v.depth 1024 b.1)) in
-        let q : number (decimal v.quote) ≡ some v.quote = reads_back v.quote (omega (arith, leb-true v.quote 255 a.1)) in
-        let p : number (decimal v.entrypoint) ≡ some v.entrypoint = reads_back v.entrypoint (omega (arith, leb-true v.entrypoint 1 o.1)) in
+        let f : number (decimal v.fuel) ≡ Some v.fuel = reads_back v.fuel (ltb-true v.fuel (2 ^ 32) c.0) in
+        let d : number (decimal v.depth) ≡ Some v.depth = reads_back v.depth (omega (arith, leb-true v.depth 1024 b.1)) in
+        let q : number (decimal v.quote) ≡ Some v.quote = reads_back v.quote (omega (arith, leb-true v.quote 255 a.1)) in
+        let p : number (decimal v.entrypoint) ≡ Some v.entrypoint = reads_back v.entrypoint (omega (arith, leb-true v.entrypoint 1 o.1)) in
         ap line_of (fields_of 9 (decimal e) (map decimal values) (free_decimal 9 (omega arith) e) (decimals_free 9 (omega arith) values))
-        ∙ rw (reads_back e h, f, d, q, p) (ap (λ (t : Bool). cond t (some (e, v)) none) r)
+        ∙ rw (reads_back e h, f, d, q, p) (ap (λ (t : Bool). cond t (Some (e, v)) None) r)

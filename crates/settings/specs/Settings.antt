@@ -2,7 +2,7 @@
 -- has no line: it is today's values with the fuel given to the call. Lines rise from 2 without gaps; a new one is added at the end and none is changed."
 -- "(a fourth value, 1 for allowed; editions written before have 1)"
 use Rattle.std.specs.Prelude.{ℕ, zero, suc, ◌-◌, ◌^◌, List, [], ◌∷◌, ◌++◌, map, Bool, cond, ◌&&◌, eqb, leb, ltb, length, replicate}
-use Rattle.std.proofs.Math.Option.{Option, none, some}
+use Rattle.std.specs.Prelude.{Option, Some, None}
 use Rattle.listing.specs.Numbers.{number, decimal}
 use Rattle.listing.specs.Lines.{parted}
 use Rattle.listing.specs.Listing.{led}
@@ -15,30 +15,30 @@ in_range v = ltb v.fuel (2 ^ 32) && leb 1 v.depth && leb v.depth 1024 && leb v.q
 
 -- an edition's number and its values, where they are in their ranges
 abbrev pub ranged : ℕ → Values → Option (ℕ × Values)
-ranged e v = cond (in_range v) (some (e, v)) none
+ranged e v = cond (in_range v) (Some (e, v)) None
 
 abbrev pub edition_of : Option ℕ → Option ℕ → Option ℕ → Option ℕ → Option ℕ → Option (ℕ × Values)
-edition_of none f d q p = none
-edition_of (some e) none d q p = none
-edition_of (some e) (some f) none q p = none
-edition_of (some e) (some f) (some d) none p = none
-edition_of (some e) (some f) (some d) (some q) none = none
-edition_of (some e) (some f) (some d) (some q) (some p) = ranged e (record { fuel = f; depth = d; quote = q; entrypoint = p })
+edition_of None f d q p = None
+edition_of (Some e) None d q p = None
+edition_of (Some e) (Some f) None q p = None
+edition_of (Some e) (Some f) (Some d) None p = None
+edition_of (Some e) (Some f) (Some d) (Some q) None = None
+edition_of (Some e) (Some f) (Some d) (Some q) (Some p) = ranged e (record { fuel = f; depth = d; quote = q; entrypoint = p })
 
 -- "edition number, the three values", and the fourth; a line of three values has 1 there, wherever it stands; a field too few or too many does not read
 abbrev pub line_of : List (List ℕ) → Option (ℕ × Values)
-line_of [] = none
-line_of (e ∷ []) = none
-line_of (e ∷ f ∷ []) = none
-line_of (e ∷ f ∷ d ∷ []) = none
-line_of (e ∷ f ∷ d ∷ q ∷ []) = edition_of (number e) (number f) (number d) (number q) (some 1)
+line_of [] = None
+line_of (e ∷ []) = None
+line_of (e ∷ f ∷ []) = None
+line_of (e ∷ f ∷ d ∷ []) = None
+line_of (e ∷ f ∷ d ∷ q ∷ []) = edition_of (number e) (number f) (number d) (number q) (Some 1)
 line_of (e ∷ f ∷ d ∷ q ∷ p ∷ []) = edition_of (number e) (number f) (number d) (number q) (number p)
-line_of (e ∷ f ∷ d ∷ q ∷ p ∷ g ∷ fs) = none
+line_of (e ∷ f ∷ d ∷ q ∷ p ∷ g ∷ fs) = None
 
 -- the values of a line that has this edition's number
 abbrev pub in_turn : ℕ → Option (ℕ × Values) → Option Values
-in_turn e none = none
-in_turn e (some l) = cond (eqb l.0 e) (some l.1) none
+in_turn e None = None
+in_turn e (Some l) = cond (eqb l.0 e) (Some l.1) None
 
 -- what settings text is: the number of its first line that does not read, has a value outside its range or a number out of turn; or else the values
 -- of editions 2, 3 and so on
@@ -48,9 +48,9 @@ pub data Settings : Type 0 where
 
 -- line n, and what the lines behind it are
 abbrev pub from : ℕ → Option Values → Settings → Settings
-from n none s = bad n
-from n (some v) (bad m) = bad m
-from n (some v) (editions vs) = editions (v ∷ vs)
+from n None s = bad n
+from n (Some v) (bad m) = bad m
+from n (Some v) (editions vs) = editions (v ∷ vs)
 
 -- what stands behind the last line feed, as line n
 abbrev pub behind_last : ℕ → List ℕ → Settings

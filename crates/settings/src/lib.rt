@@ -4,5 +4,5 @@
 mod adding;
 mod lines;
 
-pub use adding::{Added, add};
-pub use lines::{Chosen, Values, choose};
+pub use adding::{AddError, add};
+pub use lines::{BadLine, ChooseError, Values, choose};

@@ -1,46 +1,44 @@
 // Reading settings text: one pass over its lines.
-ghost use Rattle.std.specs.Prelude.{◌≡◌, cond, eqb};
-ghost use Rattle.std.proofs.Math.Option.{some};
+ghost use Rattle.std.specs.Prelude.{◌≡◌, Some, cond, eqb};
 ghost use Rattle.listing.specs.Numbers.{number};
 ghost use Rattle.listing.specs.Lines.{parted};
 ghost use Rattle.settings.specs.Settings.{in_range, edition_of, line_of, settings_of, choice};
-ghost use Rattle.settings.specs.Answer.{reply_of, line_from, scan_of};
+ghost use Rattle.settings.specs.Answer.{reply_of, scan_of};
+ghost use Rattle.settings.specs.declared.lines.ChooseError.TheVariants as choose_error;
 
-use listing::{Number, piece_end, read_number};
+use listing::read_number;
 
 // What an edition sets.
-#[derive(Clone, Copy)]
+#[derive(Clone, Copy, PartialEq, Eq)]
 pub struct Values {
     pub fuel: u32,
     // How many nodes may be open besides SOURCE_FILE.
     pub depth: u32,
     // The length above which found text is left out.
     pub quote: u32,
-    // 1 where entrypoint is a term, 0 where it is not.
+    // 1 where entrypoint is a term, 0 where it is not. No `bool`: `add` is asked with other numbers too, and refuses them.
     pub entrypoint: u32,
 }
 
-#[derive(Drop)]
-pub enum Chosen {
+// Refusal 19, with the number of the line, from 1.
+#[derive(Clone, Copy, PartialEq, Eq)]
+pub struct BadLine(pub u32);
+
+// Why no edition is chosen.
+#[derive(Clone, Copy, PartialEq, Eq)]
+pub enum ChooseError {
     // Refusal 19, with the number of the line, from 1.
     BadLine(u32),
     // Refusal 18.
     Unknown,
-    Named(Values),
 }
 
-// What one line reads to.
-#[derive(Drop)]
-enum Line {
-    Edition(u32, Values),
-    Unread,
-}
+impl From<BadLine> for ChooseError {
+    ghost from_gives = { λ bad error. error ≡ choose_error.BadLine bad.0 };
 
-// What all lines read to: the last edition, and the values of the edition that was asked for.
-#[derive(Drop)]
-pub enum Scan {
-    BadLine(u32),
-    Last(u32, Values),
+    fn from(bad: BadLine) -> ChooseError {
+        ChooseError::BadLine(bad.0)
+    }
 }
 
 // The depth and the length of edition 1.
@@ -54,129 +52,80 @@ const ENTRYPOINT: u32 = 1;
 pub fn allowed(values: Values) -> bool
     ensures { result ≡ in_range values }
 {
-    if values.depth < 1 {
-        return false;
-    }
-    if 1024 < values.depth {
-        return false;
-    }
-    if 255 < values.quote {
-        return false;
-    }
-    values.entrypoint <= 1
+    1 <= values.depth && values.depth <= 1024 && values.quote <= 255 && values.entrypoint <= 1
 }
 
 // The line of four fields and its last value.
-fn fields(edition: &[u8], fuel: &[u8], depth: &[u8], quote: &[u8], entrypoint: u32) -> Line
-    ensures { result ≡ line_from (edition_of (number edition.now) (number fuel.now) (number depth.now) (number quote.now)
-        (some entrypoint)) }
+fn fields(
+    edition: &[u8],
+    fuel: &[u8],
+    depth: &[u8],
+    quote: &[u8],
+    entrypoint: u32,
+) -> Option<(u32, Values)>
+    ensures { result ≡ edition_of (number edition.now) (number fuel.now) (number depth.now) (number quote.now)
+        (Some entrypoint) }
 {
-    let Number::Is(edition) = read_number(edition) else {
-        return Line::Unread;
-    };
-    let Number::Is(fuel) = read_number(fuel) else {
-        return Line::Unread;
-    };
-    let Number::Is(depth) = read_number(depth) else {
-        return Line::Unread;
-    };
-    let Number::Is(quote) = read_number(quote) else {
-        return Line::Unread;
-    };
+    let edition = read_number(edition)?;
     let values = Values {
-        fuel,
-        depth,
-        quote,
+        fuel: read_number(fuel)?,
+        depth: read_number(depth)?,
+        quote: read_number(quote)?,
         entrypoint,
     };
-    if !allowed(values) {
-        return Line::Unread;
-    }
-    Line::Edition(edition, values)
+    allowed(values).then_some((edition, values))
 }
 
-fn read_line(line: &[u8]) -> Line
-    ensures { result ≡ line_from (line_of (parted 9 line.now)) }
+// The edition of a line and its values, if it reads; its line feed is no part of it.
+fn read_line(line: &[u8]) -> Option<(u32, Values)>
+    ensures { result ≡ line_of (parted 9 line.now) }
 {
-    let edition = piece_end(line, 0, b'\t');
-    if edition == line.len() {
-        return Line::Unread;
-    }
-    let second = edition + 1;
-    let fuel = piece_end(line, second, b'\t');
-    if fuel == line.len() {
-        return Line::Unread;
-    }
-    let third = fuel + 1;
-    let depth = piece_end(line, third, b'\t');
-    if depth == line.len() {
-        return Line::Unread;
-    }
-    let fourth = depth + 1;
-    let quote = piece_end(line, fourth, b'\t');
-    if quote == line.len() {
-        return fields(
-            &line[0..edition],
-            &line[second..fuel],
-            &line[third..depth],
-            &line[fourth..quote],
-            ENTRYPOINT,
-        );
-    }
-    let fifth = quote + 1;
-    let end = piece_end(line, fifth, b'\t');
-    if end < line.len() {
-        return Line::Unread;
-    }
-    let Number::Is(entrypoint) = read_number(&line[fifth..end]) else {
-        return Line::Unread;
+    let mut parts = line.split(|b| *b == b'\t');
+    let edition = parts.next()?;
+    let fuel = parts.next()?;
+    let depth = parts.next()?;
+    let quote = parts.next()?;
+    let Some(fourth) = parts.next() else {
+        return fields(edition, fuel, depth, quote, ENTRYPOINT);
     };
-    fields(
-        &line[0..edition],
-        &line[second..fuel],
-        &line[third..depth],
-        &line[fourth..quote],
-        entrypoint,
-    )
+    let None = parts.next() else {
+        return None;
+    };
+    fields(edition, fuel, depth, quote, read_number(fourth)?)
 }
 
 // The values of a line, where it is the edition's that is asked for.
 fn later(number: u32, edition: u32, read: Values, values: Values) -> Values
     ensures { result ≡ cond (eqb number edition) read values }
 {
-    if number == edition {
-        return read;
-    }
-    values
+    if number == edition { read } else { values }
 }
 
-// The line behind edition `last` has that number too, as lines count from 1 and editions from 2.
-pub fn read_all(text: &[u8], edition: u32, first: Values) -> Scan
+// What all lines read to: the last edition, and the values of the edition that is asked for. The line behind edition `last` has that number too, as lines
+// count from 1 and editions from 2.
+pub fn read_all(text: &[u8], edition: u32, first: Values) -> Result<(u32, Values), BadLine>
     ensures { result ≡ scan_of edition first (settings_of text.now) }
 {
     let mut values = first;
     let mut last: u32 = 1;
-    let mut at = 0;
-    while at < text.len() {
-        let to = piece_end(text, at, b'\n');
-        if to == text.len() {
-            return Scan::BadLine(last);
-        }
-        let Line::Edition(number, read) = read_line(&text[at..to]) else {
-            return Scan::BadLine(last);
+    for part in text.split_inclusive(|b| *b == b'\n') {
+        let Some(line) = part.strip_suffix(b"\n") else {
+            return Err(BadLine(last));
+        };
+        let Some((number, read)) = read_line(line) else {
+            return Err(BadLine(last));
         };
         if number as u64 != last as u64 + 1 {
-            return Scan::BadLine(last);
+            return Err(BadLine(last));
         }
         values = later(number, edition, read, values);
         last = number;
-        at = to + 1;
     }
-    Scan::Last(last, values)
+    Ok((last, values))
 }
 
 // The values of the named edition; those of edition 1 have the fuel that the call is given.
-pub fn choose(text: &[u8], edition: u32, fuel: u32) -> Chosen
+pub fn choose(text: &[u8], edition: u32, fuel: u32) -> Result<Values, ChooseError>
     ensures { reply_of result ≡ choice text.now edition fuel }
 {
     let first = Values {
@@ -185,16 +134,9 @@ pub fn choose(text: &[u8], edition: u32, fuel: u32) -> Chosen
         quote: QUOTE,
         entrypoint: ENTRYPOINT,
     };
-    match read_all(text, edition, first) {
-        Scan::BadLine(line) => Chosen::BadLine(line),
-        Scan::Last(last, values) => {
-            if edition == 0 {
-                return Chosen::Unknown;
-            }
-            if last < edition {
-                return Chosen::Unknown;
-            }
-            Chosen::Named(values)
-        }
+    let (last, values) = read_all(text, edition, first)?;
+    if edition == 0 || last < edition {
+        return Err(ChooseError::Unknown);
     }
+    Ok(values)
 }

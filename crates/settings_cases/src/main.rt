@@ -2,7 +2,7 @@
 #![tactic(auto)]
 
 use console::{print_decimal, write};
-use settings::{Added, Chosen, Values};
+use settings::{AddError, ChooseError, Values};
 
 fn field(rt: &impl Print, n: u64) {
     write(rt, b" ");
@@ -21,17 +21,16 @@ fn values(fuel: u32, depth: u32, quote: u32, entrypoint: u32) -> Values {
 // The fuel given to the call is always 7.
 fn ask(rt: &impl Print, text: &[u8], edition: u32) {
     match settings::choose(text, edition, 7) {
-        Chosen::BadLine(line) => {
+        Err(ChooseError::BadLine(line)) => {
             write(rt, b"19 line");
             field(rt, line as u64);
         }
-        Chosen::Unknown => write(rt, b"18"),
-        Chosen::Named(v) => {
+        Err(ChooseError::Unknown) => write(rt, b"18"),
+        Ok(v) => {
             write(rt, b"fuel, depth, quote, entrypoint");
-            field(rt, v.fuel as u64);
-            field(rt, v.depth as u64);
-            field(rt, v.quote as u64);
-            field(rt, v.entrypoint as u64);
+            for n in [v.fuel, v.depth, v.quote, v.entrypoint] {
+                field(rt, n as u64);
+            }
         }
     }
     write(rt, b"\n");
@@ -39,27 +38,20 @@ fn ask(rt: &impl Print, text: &[u8], edition: u32) {
 
 // The room's bytes, zeros as dots.
 fn show(rt: &impl Print, room: &[u8]) {
-    let mut i = 0;
-    while i < room.len() {
-        if room[i] == 0 {
-            write(rt, b".");
-        } else {
-            let next = i + 1;
-            write(rt, &room[i..next]);
-        }
-        i += 1;
+    for b in room {
+        write(rt, &[if *b == 0 { b'.' } else { *b }]);
     }
     write(rt, b"|\n");
 }
 
 fn grow(rt: &impl Print, text: &[u8], v: Values, room: &mut [u8]) {
     match settings::add(text, v, room) {
-        Added::BadLine(line) => {
+        Err(AddError::BadLine(line)) => {
             write(rt, b"19 line");
             field(rt, line as u64);
         }
-        Added::Full => write(rt, b"12"),
-        Added::Text(count) => {
+        Err(AddError::Full) => write(rt, b"12"),
+        Ok(count) => {
             write(rt, b"text");
             field(rt, count as u64);
         }

@@ -1,5 +1,7 @@
 -- The refusals of documents 01 and 02 by their numbers. 5 is not used again once import and include rows are read.
 use Rattle.std.specs.Prelude.{ℕ}
+use Rattle.shapes.specs.declared.refusal.Refusal.{Refusal}
+use Rattle.shapes.specs.declared.refusal.Refusal.TheVariants as R
 
 -- The reader's: a source or a list too long, lists of different lengths, an id that is none, rows that do not tile, an import or include row, too little
 -- scratch; then no room for events and for error records.
@@ -68,3 +70,25 @@ SETTINGS = 19
 
 abbrev pub DAY : ℕ
 DAY = 20
+
+-- the number of each
+abbrev pub number : Refusal → ℕ
+number R.Long = LONG
+number R.Unequal = UNEQUAL
+number R.Id = ID
+number R.Tiles = TILES
+number R.Scratch = SCRATCH
+number R.Events = EVENTS
+number R.Errors = ERRORS
+number R.Malformed = MALFORMED
+number R.Unpaired = UNPAIRED
+number R.Record = RECORD
+number R.Text = TEXT
+number R.Rows = ROWS
+number R.Rules = RULES
+number R.Nesting = NESTING
+number R.Listing = LISTING
+number R.Output = OUTPUT
+number R.Edition = EDITION
+number R.Settings = SETTINGS
+number R.Day = DAY

@@ -3,7 +3,7 @@
 // How many numbers it has.
 pub const EVENT: usize = 5;
 
-// Where each of them stands in it.
+// Where each of them stands in it. Events are lists of numbers that C lends, so these are places and no fields.
 pub const SORT: usize = 0;
 
 pub const KIND: usize = 1;

@@ -2,7 +2,6 @@
 #![tactic(auto)]
 
 pub mod event;
-pub mod full;
 pub mod mode;
 pub mod outcome;
 pub mod record;

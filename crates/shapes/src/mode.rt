@@ -1,8 +1,11 @@
-// How a state stands: in good order, failed, out of fuel, too deep.
-pub const OK: u16 = 0;
-
-pub const FAILED: u16 = 1;
-
-pub const SPENT: u16 = 2;
-
-pub const DEEP: u16 = 3;
+// How a reader's state stands.
+#[derive(Clone, Copy, PartialEq, Eq)]
+pub enum Mode {
+    // In good order.
+    Fine,
+    Failed,
+    // Out of fuel.
+    Spent,
+    // Too deep.
+    Deep,
+}

@@ -6,7 +6,7 @@ ghost use Rattle.shapes.specs.Shapes.{record_size, next_record};
 // How many numbers stand before the names.
 pub const HEAD: usize = 5;
 
-// Where each of them stands in it.
+// Where each of them stands in it. Records are lists of numbers that C lends, so these are places and no fields.
 pub const START: usize = 0;
 
 pub const END: usize = 1;

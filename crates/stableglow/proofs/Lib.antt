@@ -1,4 +1,3 @@
 pub mod CutRead
-pub mod Lines
 pub mod ReadMessage
 pub mod ReadRules

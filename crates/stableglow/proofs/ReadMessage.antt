@@ -21,7 +21,8 @@ use Rattle.theorems.proofs.Matched.{Fresh, Names, Row, Written, read_rowed, tile
 use Rattle.messages.specs.Record.{part, behind, counts, has, named, shows, reads, size, record_at}
 use Rattle.messages.specs.Message.{message, written, messaging}
 use Rattle.messages.proofs.Readable.{reads_when}
-use Rattle.desk.specs.declared.read.Reading.TheVariants.{Answered}
+use Rattle.std.specs.Prelude.{Ok}
+use Rattle.desk.specs.declared.read.Answered as code
 use Rattle.desk.proofs.Demands.{Promised, read_given, read_errors}
 
 -- NAMES, in the words of refusal 11
@@ -220,32 +221,32 @@ each_reads bytes after (e ∷ es) zero t h = first_reads bytes after e es t.0
 each_reads bytes after (e ∷ es) (suc n) t h =
     ap (λ (l : List ℕ). reads bytes (record_at n l)) (behind_first after e es t.0.placed) ∙ each_reads bytes after es n t.1 (omega arith)
 
--- THE THEOREM: k records stand in the buffer er that the reader left, and each of them reads, so it is told or there is no room for it
-module _ (L : Limits) (d : Desk) {o c e k f : ℕ} {ev er sc : List ℕ} (p : Promised L d (Answered o c e k f) ev er sc) where
+-- THE THEOREM: as many records as the answer a counts stand in the buffer er that the reader left, and each of them reads, so it is told or there is no room for it
+module _ (L : Limits) (d : Desk) (a : code.Answered) {ev er sc : List ℕ} (p : Promised L d (Ok a) ev er sc) where
   R : Reading
-  R = (read_given L d p).0
+  R = (read_given L d a p).0
 
   all_told : Told d.bytes R.errors
   unfolding R
   all_told =
-      let g = given_is L d (read_given L d p).0 (read_given L d p).1 in
+      let g = given_is L d (read_given L d a p).0 (read_given L d a p).1 in
       subst (Told d.bytes) (sym (ap (λ (r : Reading). r.errors) g.whole))
       (records_told L d (rows_of d g.unrefused).0 (read L d.ids d.fuel).out [] (read_rowed L d.ids d.fuel) tt)
 
-  many : k ≡ length R.errors
+  many : a.errors ≡ length R.errors
   unfolding R
-  many = ap (λ (a : After). a.error_count) p ∙ ap (λ (a : Answer). (left_by d a).error_count) (read_given L d p).1
+  many = ap (λ (x : After). x.error_count) p ∙ ap (λ (x : Answer). (left_by d x).error_count) (read_given L d a p).1
 
   all : List Owned
   all = owned R.errors R.items
 
-  pub written_reads : (n : ℕ) → n < k → reads d.bytes (record_at n er) ≡ true
+  pub written_reads : (n : ℕ) → n < a.errors → reads d.bytes (record_at n er) ≡ true
   unfolding R all
   written_reads n h =
-      ap (λ (l : List ℕ). reads d.bytes (record_at n l)) (read_errors L d p)
+      ap (λ (l : List ℕ). reads d.bytes (record_at n l)) (read_errors L d a p)
       ∙ each_reads d.bytes _ all n (subst (Told d.bytes) (sym (bare_owned R.errors R.items)) all_told) (omega (arith, many, bare_length all, ap length (bare_owned R.errors R.items)))
 
-  pub never_11 : (n : ℕ) (room : List ℕ) → n < k → messaging d.bytes (record_at n er) room ≡ written (message d.bytes (record_at n er)) room
+  pub never_11 : (n : ℕ) (room : List ℕ) → n < a.errors → messaging d.bytes (record_at n er) room ≡ written (message d.bytes (record_at n er)) room
   never_11 n room h =
       let r : List ℕ = record_at n er in
       ap (λ (b : Bool). cond b (written (message d.bytes r) room) (record { number = 11; count = 0; room = room })) (written_reads n h)

@@ -10,7 +10,8 @@ use Rattle.shapes.specs.Shapes.{EVENT}
 use Rattle.definition.specs.Answer.{Desk}
 use Rattle.definition.specs.Merge.{finished}
 use Rattle.definition.specs.Run.{base}
-use Rattle.desk.specs.declared.read.Reading.TheVariants.{Answered}
+use Rattle.std.specs.Prelude.{Ok}
+use Rattle.desk.specs.declared.read.Answered as code
 use Rattle.desk.proofs.Demands.{Promised, read_given, read_list}
 use Rattle.outline.specs.Shape.{events}
 use Rattle.outline.specs.Rules.{rules, flat, fitting, returned, ruling}
@@ -24,23 +25,23 @@ Lists l = (room : List ℕ) → ruling l room ≡ returned room (fitting (length
 abbrev pub Outlines : List ℕ → Type 0
 Outlines l = (at depth : ℕ) (room : List ℕ) → outlining l at depth room ≡ returned room (asked (events l) at (outlined (length room) depth))
 
--- d is what was lent to the reader, e the count of events in its answer, ev what the buffer of events holds then
-module _ (d : Desk) {o c e k f : ℕ} {ev er sc : List ℕ} (p : Promised base d (Answered o c e k f) ev er sc) where
+-- d is what was lent to the reader, a its answer, ev what the buffer of events holds then
+module _ (d : Desk) (a : code.Answered) {ev er sc : List ℕ} (p : Promised base d (Ok a) ev er sc) where
   abbrev l : List ℕ
-  l = take (EVENT * e) ev
+  l = take (EVENT * a.events) ev
 
   pub read_lists : Lists l
-  read_lists = subst Lists (sym (read_list base d p)) (λ room. ap (returned room) (read_never_15 base (omega arith) d (read_given base d p).0 (read_given base d p).1 (length room)))
+  read_lists = subst Lists (sym (read_list base d a p)) (λ room. ap (returned room) (read_never_15 base (omega arith) d (read_given base d a p).0 (read_given base d a p).1 (length room)))
 
   pub read_outline : Outlines l
-  read_outline = subst Outlines (sym (read_list base d p)) (read_outlines base (omega arith) d (read_given base d p).0 (read_given base d p).1)
+  read_outline = subst Outlines (sym (read_list base d a p)) (read_outlines base (omega arith) d (read_given base d a p).0 (read_given base d a p).1)
 
   -- the merged list has the same rules
   abbrev Same : List ℕ → Type 0
   Same l = (room : List ℕ) → ruling (W.flat (finished l)) room ≡ returned room (fitting (length room) (length (rules (events l))) (flat (rules (events l))))
 
   pub merged_lists : Same l
-  merged_lists = subst Same (sym (read_list base d p)) (λ room. ap (returned room) (merged_never_15 base (omega arith) d (read_given base d p).0 (read_given base d p).1 (length room)))
+  merged_lists = subst Same (sym (read_list base d a p)) (λ room. ap (returned room) (merged_never_15 base (omega arith) d (read_given base d a p).0 (read_given base d a p).1 (length room)))
 
   pub merged_outline : Outlines (W.flat (finished l))
-  merged_outline = subst (λ (l : List ℕ). Outlines (W.flat (finished l))) (sym (read_list base d p)) (merged_outlines base (omega arith) d (read_given base d p).0 (read_given base d p).1)
+  merged_outline = subst (λ (l : List ℕ). Outlines (W.flat (finished l))) (sym (read_list base d a p)) (merged_outlines base (omega arith) d (read_given base d a p).0 (read_given base d a p).1)

@@ -1,11 +1,11 @@
 -- What the exports return and leave behind, in numbers.
-use Rattle.std.specs.Prelude.{ℕ, zero, suc, ◌%◌, ◌^◌, ◌≡◌, List, [], ◌∷◌}
+use Rattle.std.specs.Prelude.{ℕ, zero, suc, ◌%◌, ◌^◌, List, [], ◌∷◌, Result, Ok, Err}
+use Rattle.shapes.specs.declared.refusal.Refusal.{Refusal}
+use Rattle.shapes.specs.Refusal.{number}
 use Rattle.definition.specs.Answer.{After}
 use Rattle.reading.specs.Reading.{Outcome}
 use Rattle.definition.specs.Merge.{Returned}
 use Rattle.outline.specs.Rules as o
-use Rattle.outline.specs.Returning.{returning}
-use Rattle.outline.specs.declared.answer.Listed.{Listed}
 use Rattle.cutter.specs.Rows as c
 use Rattle.messages.specs.Message as m
 
@@ -29,9 +29,10 @@ message_face r = record { number = r.number; count = (r.count % 2 ^ 32) ∷ []; 
 abbrev pub faced : ℕ → List ℕ → List ℕ → Face
 faced number count room = record { number = number; count = count; room = room }
 
--- the number and the count's cell that a list's answer is told by, whatever its room
-abbrev pub Told : Listed → ℕ → List ℕ → Type 0
-Told l number count = (room : List ℕ) → faced number count room ≡ list_face (returning l room)
+-- the number and the count's cell that an answer is told by, whatever its room
+abbrev pub told_of : Result ℕ Refusal → ℕ × List ℕ
+told_of (Ok n) = (0, n ∷ [])
+told_of (Err e) = (number e, 0 ∷ [])
 
 -- the refusal's number, the answer's five cells, and the three buffers; rows and counts in cells of 32 bits
 pub record ReadFace : Type 0 where

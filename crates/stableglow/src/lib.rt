@@ -1,24 +1,42 @@
 // The public face. Crate stableglow_c exports it: what C and Rust link.
 #![tactic(auto)]
 
-ghost use Rattle.std.specs.Prelude.{◌≡◌, ℕ, List};
-ghost use Rattle.desk.specs.Framing.{after_of};
-ghost use Rattle.reading.specs.Reading.{reading};
+ghost use Rattle.std.specs.Prelude.{◌≡◌, ◌%◌, ◌^◌, ℕ, List};
+ghost use Rattle.reading.specs.Reading.{reading, outcome_of};
 ghost use Rattle.definition.specs.Merge.{merging};
 ghost use Rattle.outline.specs.Rules.{ruling};
 ghost use Rattle.outline.specs.Outline.{outlining};
 ghost use Rattle.refusals.specs.Judge.{desk};
 ghost use Rattle.cutter.specs.Rows.{cut};
 ghost use Rattle.messages.specs.Message.{messaging};
-ghost use Rattle.stableglow.specs.Face.{face, list_face, faced, message_face, Told, read_face, read_faced, cut_face, cut_faced};
+ghost use Rattle.stableglow.specs.Face.{face, list_face, faced, message_face, told_of, read_face, read_faced, cut_face, cut_faced};
 
-use cutter::Cut;
-use desk::read::Reading;
-use merger::Merged;
-use messages::Written;
-use outline::Listed;
-use reading::Named;
-use shapes::refusal;
+use desk::read::Answered;
+use reading::Unread;
+use shapes::refusal::Refusal;
+
+// A count as a cell of 32 bits has it.
+fn cell(n: usize) -> u32
+    ensures { result ≡ n % 2 ^ 32 }
+{
+    (n % 4294967296) as u32
+}
+
+// The refusal's number, 0 for an answer, whose number stands in `count`.
+fn told(answer: Result<u32, Refusal>, count: &mut [u32; 1]) -> u32
+    ensures { (result, count.new) ≡ told_of answer }
+{
+    match answer {
+        Ok(n) => {
+            *count = [n];
+            0
+        }
+        Err(refusal) => {
+            *count = [0];
+            u32::from(refusal)
+        }
+    }
+}
 
 // Cuts rule text into rows. Returns the refusal's number, 0 for an answer; the count of rows stands in `count`.
 pub fn stableglow_cut(
@@ -31,39 +49,40 @@ pub fn stableglow_cut(
     ensures { cut_faced result count.new ids.new starts.new ends.new
         ≡ cut_face (cut source.now ids.old starts.old ends.old) }
 {
-    let done = cutter::cut(source, ids, starts, ends);
-    match done {
-        Cut::Refused(number) => {
-            *count = [0];
-            number
-        }
-        Cut::Rows(n) => {
-            *count = [n];
-            0
-        }
-    }
+    let cut = cutter::cut(source, ids, starts, ends);
+    told(cut, count)
 }
 
-// A reading by its number, 0 for an answer, whose numbers stand in `answer`.
-fn tell(reading: Reading, answer: &mut [u32; 5]) -> u32
-    ensures { (ev er sc : List ℕ) → read_faced result answer.new ev er sc ≡ read_face (record { line = 0; after = after_of reading ev er sc }) }
+// A reading by its number, 0 for an answer, whose numbers stand in `answer`; on refusal 19 the settings line does.
+fn tell(read: Result<Answered, Unread>, answer: &mut [u32; 5]) -> u32
+    ensures { (ev er sc : List ℕ) → read_faced result answer.new ev er sc ≡ read_face (outcome_of read ev er sc) }
 {
-    match reading {
-        Reading::Refused(number) => {
-            *answer = [0, 0, 0, 0, 0];
-            number
-        }
-        Reading::Answered {
-            outcome,
-            covered,
-            events: written,
-            errors: records,
-            left,
-        } => {
-            let rows = (covered % 4294967296) as u32;
-            let count = (written % 4294967296) as u32;
-            *answer = [outcome, rows, count, records, left];
+    match read {
+        Ok(
+            Answered {
+                outcome,
+                covered,
+                events,
+                errors,
+                left,
+            },
+        ) => {
+            *answer = [
+                u32::from(outcome),
+                cell(covered),
+                cell(events),
+                errors,
+                left,
+            ];
             0
+        }
+        Err(Unread::BadLine(line)) => {
+            *answer = [line, 0, 0, 0, 0];
+            u32::from(Refusal::Settings)
+        }
+        Err(Unread::Refused(refusal)) => {
+            *answer = [0, 0, 0, 0, 0];
+            u32::from(refusal)
         }
     }
 }
@@ -89,16 +108,10 @@ pub fn stableglow_read(
         (desk source.now ids.now starts.now ends.now fuel scratch.old
         events.old errors.old)) }
 {
-    let named = reading::read(
+    let read = reading::read(
         settings, edition, source, ids, starts, ends, fuel, scratch, events, errors,
     );
-    match named {
-        Named::BadLine(line) => {
-            *answer = [line, 0, 0, 0, 0];
-            refusal::SETTINGS
-        }
-        Named::Read(reading) => tell(reading, answer),
-    }
+    tell(read, answer)
 }
 
 // Joins neighbouring ERROR nodes of an event list into the room. Returns the refusal's number, 0 for an answer; the count of events stands in `count`.
@@ -106,24 +119,7 @@ pub fn stableglow_merge(events: &[u32], room: &mut [u32], count: &mut [u32; 1]) 
     ensures { faced result count.new room.new ≡ face (merging events.now room.old) }
 {
     let merged = merger::merge(events, room);
-    match merged {
-        Merged::Malformed => {
-            *count = [0];
-            refusal::MALFORMED
-        }
-        Merged::Unpaired => {
-            *count = [0];
-            refusal::UNPAIRED
-        }
-        Merged::Full => {
-            *count = [0];
-            refusal::EVENTS
-        }
-        Merged::Events(n) => {
-            *count = [(n % 4294967296) as u32];
-            0
-        }
-    }
+    told(merged.map(cell), count)
 }
 
 // Writes the message of the error record that the numbers begin with into the room. Returns the refusal's number, 0 for an answer; the count of bytes
@@ -138,52 +134,15 @@ pub fn stableglow_message(
         ≡ message_face (messaging source.now numbers.now room.old) }
 {
     let written = messages::message(source, numbers, room);
-    match written {
-        Written::Unread => {
-            *length = [0];
-            refusal::RECORD
-        }
-        Written::Full => {
-            *length = [0];
-            refusal::TEXT
-        }
-        Written::Length(n) => {
-            *length = [(n % 4294967296) as u32];
-            0
-        }
-    }
-}
-
-// The refusal's number, 0 for an answer; the count of rules or nodes stands in `count`.
-fn told(listed: Listed, count: &mut [u32; 1]) -> u32
-    ensures { Told listed result count.new }
-{
-    match listed {
-        Listed::Malformed => {
-            *count = [0];
-            refusal::MALFORMED
-        }
-        Listed::Broken => {
-            *count = [0];
-            refusal::NESTING
-        }
-        Listed::Full => {
-            *count = [0];
-            refusal::RULES
-        }
-        Listed::Entries(n) => {
-            *count = [(n % 4294967296) as u32];
-            0
-        }
-    }
+    told(written.map(cell), length)
 }
 
 // Lists the rules of an event list in the room, eight numbers each. Returns the refusal's number, 0 for an answer; the count of rules stands in `count`.
 pub fn stableglow_rules(events: &[u32], room: &mut [u32], count: &mut [u32; 1]) -> u32
     ensures { faced result count.new room.new ≡ list_face (ruling events.now room.old) }
 {
-    let listed = outline::rules(events, room);
-    told(listed, count)
+    let rules = outline::rules(events, room);
+    told(rules.map(cell), count)
 }
 
 // Lists the nodes below the one that the event at index `at` opens, to a depth, in the room, four numbers each. Returns the refusal's number, 0 for an
@@ -197,6 +156,6 @@ pub fn stableglow_outline(
 ) -> u32
     ensures { faced result count.new room.new ≡ list_face (outlining events.now at depth room.old) }
 {
-    let listed = outline::outline(events, at, depth, room);
-    told(listed, count)
+    let nodes = outline::outline(events, at, depth, room);
+    told(nodes.map(cell), count)
 }

@@ -1,3 +1,4 @@
+pub mod Modes
 pub mod Taken
 pub mod Nodes
 pub mod Next

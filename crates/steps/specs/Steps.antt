@@ -1,63 +1,75 @@
--- What the steps' contracts are stated with: the state with its notes, and steps that touch some of the lent lists.
-use Rattle.std.specs.Prelude.{ℕ, ◌≤◌, ◌≡◌, List, Bool, length, get_or, drop}
-use Rattle.kinds.specs.Answers.{words}
+-- What the steps' contracts are stated with: the state with its notes, and steps that touch some of what is lent.
+use Rattle.std.specs.Prelude.{ℕ, ◌≤◌, ◌≡◌, List, Bool, length}
+use Rattle.shapes.specs.Mode.{number}
 use Rattle.definition.specs.Run as P
-use Rattle.notes.specs.Whole.{Whole}
-use Rattle.notes.specs.Means.{source, Lines, Rows}
-use Rattle.notes.specs.Did.{Ok, Events}
+use Rattle.notes.specs.declared.names.Notes.{Notes}
+use Rattle.notes.specs.declared.reading.Given.{Given}
+use Rattle.notes.specs.declared.reading.Lent.{Lent}
+use Rattle.notes.specs.Whole.{Whole, exceeded}
+use Rattle.notes.specs.Means.{bufs}
+use Rattle.notes.specs.Reading.{source_of}
+use Rattle.notes.specs.Did.{Ok, Wf, Events, Both, Shuts}
 use Rattle.steps.specs.declared.state.State.{State}
 
--- the state with what the list notes
-abbrev pub whole : State → List ℕ → Whole
-whole s l =
+-- the state with what is noted
+abbrev pub whole : State → Notes → Whole
+whole s n =
     record {
       pos = s.pos;
       fuel = s.fuel;
-      mode = s.mode;
+      mode = number s.mode;
       ev = s.ev;
       evcap = s.evcap;
-      full = s.full;
-      want = get_or l 0 0;
-      unwant = get_or l 1 0;
-      count = get_or l 2 0;
-      mask = get_or l 3 0;
-      er = get_or l 4 0;
-      ercap = get_or l 5 0;
-      item = get_or l 6 0;
-      first = get_or l 7 0;
-      far = get_or l 8 0;
-      quote = get_or l 9 0;
-      number = get_or l 10 0;
-      codes = drop 11 l;
+      full = exceeded s.full;
+      want = n.want;
+      unwant = n.unwant;
+      count = n.count;
+      mask = n.mask;
+      codes = n.codes;
+      er = n.er;
+      ercap = n.ercap;
+      item = n.item;
+      first = n.first;
+      far = n.far;
+      quote = n.quote;
+      number = n.number;
     }
 
 -- the state at another row
 abbrev pub on_to : ℕ → State → State
 on_to p s = record { pos = p; ev = s.ev; evcap = s.evcap; fuel = s.fuel; mode = s.mode; full = s.full }
 
--- the sets' words, as they are lent
-abbrev pub Tabled : List (List ℕ) → Type 0
-Tabled sets = sets ≡ words
-
 -- the events fit what is lent
 abbrev pub Fits : State → List ℕ → Type 0
 Fits s ev = (s.ev ≤ s.evcap) × (s.evcap ≤ length ev)
 
 -- well formed among the rows, and the events fit
-abbrev pub Ready : List ℕ → List ℕ → State → List ℕ → List ℕ → Type 0
-Ready ids ends s l ev = Lines ids ends × Ok (length ids) (whole s l) × (s.evcap ≤ length ev)
+abbrev pub Ready : Given → State → Lent → Type 0
+Ready x s l = Ok (length x.ids.now) (whole s l.notes) × (s.evcap ≤ length l.events.now)
 
--- the same with a source and room for records
-abbrev pub Whence : List ℕ → List ℕ → List ℕ → State → List ℕ → List ℕ → List ℕ → Type 0
-Whence src ids ends s l ev er = Rows (source src ids ends) × Ok (length ids) (whole s l) × (s.evcap ≤ length ev) × (get_or l 5 0 ≤ length er)
+-- the same with room for records
+abbrev pub Whence : Given → State → Lent → Type 0
+Whence x s l = Ok (length x.ids.now) (whole s l.notes) × (s.evcap ≤ length l.events.now) × (l.notes.ercap ≤ length l.errors.now)
 
 -- a step on events, whatever is noted
-abbrev pub Writes : P.Reader → List ℕ → List ℕ → State → State → List ℕ → List ℕ → Type 0
-Writes f ids ends s r ev ev' = (bytes l : List ℕ) → Ok (length ids) (whole s l) → Events f (source bytes ids ends) (whole s l) (whole r l) ev ev'
+abbrev pub Writes : P.Reader → Given → State → State → List ℕ → List ℕ → Type 0
+Writes f x s r ev ev' = (n : Notes) → Ok (length x.ids.now) (whole s n) → Events f (source_of x) (whole s n) (whole r n) ev ev'
 
--- a step on events and notes
-abbrev pub Eats : P.Reader → List ℕ → List ℕ → State → List ℕ → State → List ℕ → List ℕ → List ℕ → Type 0
-Eats f ids ends s l r l' ev ev' = (bytes : List ℕ) → Events f (source bytes ids ends) (whole s l) (whole r l') ev ev'
+-- a step on events and notes, which leaves records and scratch as they were
+pub record Eats (f : P.Reader) (x : Given) (s : State) (l : Lent) (r : State) (m : Lent) : Type 0 where
+  pub events : Events f (source_of x) (whole s l.notes) (whole r m.notes) l.events.now m.events.now
+  pub errors : m.errors ≡ l.errors
+  pub scratch : m.scratch ≡ l.scratch
+
+-- a step on events, notes and records, which leaves scratch as it was
+pub record Mends (f : P.Reader) (x : Given) (s : State) (l : Lent) (r : State) (m : Lent) : Type 0 where
+  pub both : Both f (source_of x) (whole s l.notes) (whole r m.notes) l.events.now m.events.now l.errors.now m.errors.now
+  pub scratch : m.scratch ≡ l.scratch
+
+-- a node that began before `at` is ended by f; scratch is left as it was
+pub record Ends (f : P.Reader) (at : ℕ) (x : Given) (s : State) (l : Lent) (r : State) (m : Lent) : Type 0 where
+  pub shuts : (sc : List ℕ) → Wf (source_of x) (bufs l.events.now l.errors.now sc) (whole s l.notes) → Shuts f at (source_of x) (whole s l.notes) (whole r m.notes) (bufs l.events.now l.errors.now sc) (bufs m.events.now m.errors.now sc)
+  pub scratch : m.scratch ≡ l.scratch
 
 -- what is chosen where a node ends: outside optional parts, where it did not go well
 abbrev pub tells : Bool → P.Reader

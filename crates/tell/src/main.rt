@@ -2,78 +2,53 @@
 // name to put before each line and the fuel. It takes what `intake` takes, and has the same rooms.
 #![tactic(auto)]
 
-use console::{argument, print_decimal, read_full, write};
-use cutter::Cut;
-use desk::read::Reading;
-use listing::Number;
-use messages::Written;
+use console::{argument, read_full, write};
+use desk::read::Answered;
+use shapes::outcome::Outcome;
+use shapes::refusal::Refusal;
 
 const MOST_BYTES: usize = 65536;
 
 const MOST_ROWS: usize = 4096;
 
-fn say(err: &impl Print, text: &[u8]) {
-    write(err, text);
-}
-
-fn write_number(rt: &impl Print, n: usize) {
-    print_decimal(rt, n as u64);
-    write(rt, b":");
-}
-
 // A room of 4,096 bytes has any message: 85 descriptions of at most 18 bytes with their joints, and a found text of at most 15. A record that the reader wrote
 // is never refused.
 fn write_message(rt: &impl Print, name: &[u8], source: &[u8], numbers: &[u32]) {
     let mut room = [0u8; 4096];
-    match messages::message(source, numbers, &mut room) {
-        Written::Unread => (),
-        Written::Full => (),
-        Written::Length(n) => {
-            let spot = messages::record_spot(source, numbers);
-            write(rt, name);
-            write(rt, b":");
-            write_number(rt, spot.line);
-            write_number(rt, spot.column);
-            write(rt, b" ");
-            if n <= 4096 {
-                write(rt, &room[..n]);
-            }
-            write(rt, b"\n");
-        }
-    }
+    let Ok(n) = messages::message(source, numbers, &mut room) else {
+        return;
+    };
+    let spot = messages::record_spot(source, numbers);
+    write(rt, name);
+    let _ = print!(rt; ":{}:{}: ", spot.line, spot.column);
+    write(rt, room.get(..n).unwrap_or(&[]));
+    write(rt, b"\n");
 }
 
 fn write_messages(rt: &impl Print, name: &[u8], source: &[u8], errors: &[u32], count: u32) {
-    let mut at = 0;
-    let mut n: u32 = 0;
-    while n < count {
-        let rest = &errors[at..];
+    let mut rest = errors;
+    for _ in 0..count {
         write_message(rt, name, source, rest);
-        let size = messages::size(rest);
-        if rest.len() < size {
+        let Some(behind) = rest.get(messages::size(rest)..) else {
             return;
-        }
-        at += size;
-        n += 1;
+        };
+        rest = behind;
     }
 }
 
 // A reading that was stopped has not seen the rest of the file, whether it has errors or not.
-fn write_stop(rt: &impl Print, name: &[u8], outcome: u32) {
-    if outcome == 1 {
-        write(rt, name);
-        write(rt, b": out of fuel\n");
-    }
-    if outcome == 2 {
-        write(rt, name);
-        write(rt, b": too deep\n");
-    }
+fn write_stop(rt: &impl Print, name: &[u8], outcome: Outcome) {
+    let stop: &[u8] = match outcome {
+        Outcome::Done => return,
+        Outcome::Spent => b": out of fuel\n",
+        Outcome::Deep => b": too deep\n",
+    };
+    write(rt, name);
+    write(rt, stop);
 }
 
-fn refused(err: &impl Print, number: u32) {
-    say(err, b"tell: the file is refused, number ");
-    print_decimal(err, number as u64);
-    say(err, b"\n");
+fn refused(err: &impl Print, refusal: Refusal) {
+    let _ = println!(err; "tell: the file is refused, number {}", u32::from(refusal));
 }
 
 fn read_rows(
@@ -101,14 +76,14 @@ fn read_rows(
         &mut errors,
     );
     match reading {
-        Reading::Refused(n) => refused(err, n),
-        Reading::Answered {
-            outcome,
-            covered: _,
-            events: _,
-            errors: count,
-            left: _,
-        } => {
+        Err(refusal) => refused(err, refusal),
+        Ok(
+            Answered {
+                outcome,
+                errors: count,
+                ..
+            },
+        ) => {
             write_messages(rt, name, source, &errors, count);
             write_stop(rt, name, outcome);
         }
@@ -121,8 +96,8 @@ fn cut_source(rt: &impl Print, err: &impl Print, name: &[u8], source: &[u8], fue
     let mut starts = [0u32; 4096];
     let mut ends = [0u32; 4096];
     match cutter::cut(source, &mut ids, &mut starts, &mut ends) {
-        Cut::Refused(_) => refused(err, 1),
-        Cut::Rows(count) => {
+        Err(_) => refused(err, Refusal::Long),
+        Ok(count) => {
             let n = count as usize;
             if n <= MOST_ROWS {
                 read_rows(
@@ -146,17 +121,14 @@ fn main(rt: HostRuntime) {
     let length = argument(&rt, 1, &mut name);
     let mut text = [0u8; 32];
     let digits = argument(&rt, 2, &mut text);
-    let Number::Is(fuel) = listing::read_number(&text[..digits]) else {
-        say(
-            &err,
-            b"tell: give a name and the fuel, a number of 32 bits\n",
-        );
+    let Some(fuel) = listing::read_number(&text[..digits]) else {
+        let _ = println!(err; "tell: give a name and the fuel, a number of 32 bits");
         return;
     };
     let mut source = [0u8; 65537];
     let size = read_full(&mut rt.reader(), &mut source);
     if MOST_BYTES < size {
-        refused(&err, 1);
+        refused(&err, Refusal::Long);
         return;
     }
     cut_source(&rt, &err, &name[..length], &source[..size], fuel);

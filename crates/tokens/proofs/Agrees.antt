@@ -5,6 +5,7 @@ use mathlib.Core.Logic.{◌⊎◌, inl, inr, ⊎_elim}
 use mathlib.Core.List.{List, [], ◌∷◌}
 use mathlib.Core.Bool.{Bool, true, false, cond, not, ◌&&◌}
 use mathlib.Core.Option.{none, some}
+use Rattle.std.specs.Prelude.{None, Some}
 use native.Mathlib.Omega.{arith}
 use native.Mathlib.Decide.{dec_lt}
 use lib.Dec.{T, leb, ltb, eqb, eqb→eq}
@@ -14,7 +15,7 @@ use Rattle.utf8.specs.Utf8.{Range, within, followers, characters, begun}
 use Rattle.utf8.proofs.Laws.{steady, alike}
 use Rattle.tokens.specs.Classes.{class, class_in, normal, hex, jump, INVALID, LEAD}
 use Rattle.tokens.specs.Glyph.{meets, counted, two, three, four, shown, glyph}
-use Rattle.tokens.specs.Decoded.{follower, stray, plain, high, decoded, spread, told}
+use Rattle.tokens.specs.Decoded.{follower, plain, high, decoded, spread, told}
 use Rattle.tokens.proofs.Equal.{both, left, right}
 use Rattle.tokens.proofs.Chars.{parts, plain_mid, plain_high}
 
@@ -129,7 +130,7 @@ module _ (s : List ℕ) where
   unfolding decoded
   of_two l g m = rw (lt-ltb a 0xE0 g) (go (follower b) ∙ ap (λ t. shown m (cond t 2 0) s) two_row ∙ begins 0xC2 0xE0 (followers 1) l g tt refl m)
     where
-      go : (t : Bool) → spread (cond t (two a b, 2) stray) ≡ shown m (cond t 2 0) s
+      go : (t : Bool) → spread (cond t (Some (two a b, 2)) None) ≡ shown m (cond t 2 0) s
       go true = refl
       go false = refl
 
@@ -143,7 +144,7 @@ module _ (s : List ℕ) where
       ∙ ap (λ t. shown m (cond t 3 0) s) (three_row r (h l g).0 (h l g).1)
       ∙ begins lo hi (r ∷ followers 1) l g t e m)
     where
-      go : (t : Bool) → spread (cond t (three a b c, 3) stray) ≡ shown m (cond t 3 0) s
+      go : (t : Bool) → spread (cond t (Some (three a b c, 3)) None) ≡ shown m (cond t 3 0) s
       go true = refl
       go false = refl
 
@@ -157,7 +158,7 @@ module _ (s : List ℕ) where
       ∙ ap (λ t. shown m (cond t 4 0) s) (four_row r (h l g).0 (h l g).1)
       ∙ begins lo hi (r ∷ followers 2) l g t e m)
     where
-      go : (t : Bool) → spread (cond t (four a b c d, 4) stray) ≡ shown m (cond t 4 0) s
+      go : (t : Bool) → spread (cond t (Some (four a b c d, 4)) None) ≡ shown m (cond t 4 0) s
       go true = refl
       go false = refl
 

@@ -3,14 +3,15 @@ use Prim.Native.Nat.{ℕ, zero, suc, ◌+◌, ◌*◌, ◌≤◌, ◌<◌}
 use mathlib.Core.Path.{◌≡◌, refl, sym, ◌∙◌}
 use mathlib.Core.List.{List}
 use mathlib.Core.Bool.{Bool, true, false, cond, ◌&&◌}
+use Rattle.std.specs.Prelude.{Option, None, Some}
 use native.Mathlib.Omega.{arith}
 use native.Mathlib.Decide.{dec_lt}
 use lib.Dec.{ltb, eqb}
 use lib.ListN.{length, get_or, get_or-eq_default}
 use borrow.Author.Tests.{eq-eqb, ne_eqb, eqb-false}
-use Rattle.tokens.specs.Classes.{class, normal, hex, jump, wide_class, INVALID, LEAD}
+use Rattle.tokens.specs.Classes.{class, normal, hex, jump, LEAD}
 use Rattle.tokens.specs.Glyph.{two, three, four, glyph}
-use Rattle.tokens.specs.Decoded.{follower, stray, plain, high, decoded, spread, told}
+use Rattle.tokens.specs.Decoded.{follower, plain, high, decoded, spread, told}
 use Rattle.tokens.specs.Table.{class_table}
 use Rattle.tokens.proofs.Agrees.{agrees, glyph_by}
 use Rattle.tokens.proofs.Chars.{parts}
@@ -39,35 +40,38 @@ module _ (s : List ℕ) (some : 0 < length s) where
   abbrev Fine : ℕ × ℕ → Type 0
   Fine u = (0 < u.1) × (u.1 ≤ length s)
 
-  fine_stray : Fine stray
-  fine_stray = (omega arith, some)
+  -- of a character that was decoded
+  abbrev FineIf : Option (ℕ × ℕ) → Type 0
+  FineIf None = Unit
+  FineIf (Some u) = Fine u
 
-  pub decoded_fine : Fine (decoded (get_or s 0 0) (get_or s 1 0) (get_or s 2 0) (get_or s 3 0))
+  decoded_fine : FineIf (decoded (get_or s 0 0) (get_or s 1 0) (get_or s 2 0) (get_or s 3 0))
   unfolding decoded
   decoded_fine =
       let a = get_or s 0 0 in
       let b = get_or s 1 0 in
       let c = get_or s 2 0 in
       let d = get_or s 3 0 in
-      by_test Fine _ _ (ltb a 0xE0)
-      (λ e. by_test Fine (two a b, 2) stray (follower b) (λ f. (omega arith, there s 1 f)) (λ f. fine_stray))
-      (λ e. by_test Fine _ _ (ltb a 0xF0)
-      (λ e'. by_test Fine (three a b c, 3) stray (follower b && follower c && plain (three a b c))
+      by_test FineIf _ _ (ltb a 0xE0)
+      (λ e. by_test FineIf (Some (two a b, 2)) None (follower b) (λ f. (omega arith, there s 1 f)) (λ f. tt))
+      (λ e. by_test FineIf _ _ (ltb a 0xF0)
+      (λ e'. by_test FineIf (Some (three a b c, 3)) None (follower b && follower c && plain (three a b c))
       (λ f. (omega arith, there s 2 (parts (follower b) (follower c) (parts (follower b && follower c) (plain (three a b c)) f).0).1))
-      (λ f. fine_stray))
-      (λ e'. by_test Fine (four a b c d, 4) stray (follower b && follower c && follower d && high (four a b c d))
+      (λ f. tt))
+      (λ e'. by_test FineIf (Some (four a b c d, 4)) None (follower b && follower c && follower d && high (four a b c d))
       (λ f. (omega arith, there s 3 (parts (follower b && follower c) (follower d) (parts (follower b && follower c && follower d) (high (four a b c d)) f).0).1))
-      (λ f. fine_stray)))
+      (λ f. tt)))
 
-  spread_fine : (u : ℕ × ℕ) → Fine u → Fine (spread u)
-  spread_fine u h = by_test Fine (INVALID, 1) (wide_class u.0, u.1) (eqb u.1 1) (λ e. fine_stray) (λ e. h)
+  spread_fine : (u : Option (ℕ × ℕ)) → FineIf u → Fine (spread u)
+  spread_fine None h = (omega arith, some)
+  spread_fine (Some u) h = h
 
   told_fine : (m : ℕ) → Fine (told m s)
   unfolding told
-  told_fine m = by_test Fine _ (class m (get_or s 0 0), 1) (eqb (class m (get_or s 0 0)) LEAD) (λ e. spread_fine _ decoded_fine) (λ e. fine_stray)
+  told_fine m = by_test Fine _ (class m (get_or s 0 0), 1) (eqb (class m (get_or s 0 0)) LEAD) (λ e. spread_fine _ decoded_fine) (λ e. (omega arith, some))
 
   glyph_fine : (m : ℕ) → Fine (glyph m s)
-  glyph_fine m = glyph_by Fine m s fine_stray (told_fine m)
+  glyph_fine m = glyph_by Fine m s (omega arith, some) (told_fine m)
 
   pub glyph_some : (m : ℕ) → 0 < (glyph m s).1
   glyph_some m = (glyph_fine m).0
@@ -92,8 +96,9 @@ told_low m s =
     (λ e. spread_low (decoded (get_or s 0 0) (get_or s 1 0) (get_or s 2 0) (get_or s 3 0)))
     (λ e. let n : k ≡ 45 → ⊥ = eqb-false k 45 e in omega (arith, class_small m (get_or s 0 0), n))
   where
-    spread_low : (u : ℕ × ℕ) → Low (spread u)
-    spread_low u = by_test Low (INVALID, 1) (wide_class u.0, u.1) (eqb u.1 1) (λ e. omega arith) (λ e. wide_small u.0)
+    spread_low : (u : Option (ℕ × ℕ)) → Low (spread u)
+    spread_low None = omega arith
+    spread_low (Some u) = wide_small u.0
 
 pub glyph_class : (m : ℕ) (s : List ℕ) → (glyph m s).0 < 45
 unfolding Low
@@ -110,12 +115,6 @@ module _ (m : ℕ) (s : List ℕ) (hm : m < 3) (hb : get_or s 0 0 < 256) where
   pub no_lead : (entry ≡ 45 → ⊥) → ◌≡◌ {A = ℕ × ℕ} (entry, 1) (glyph m s)
   unfolding told
   no_lead e = rw ((class_at m (get_or s 0 0) hm hb).0, ne_eqb (class m (get_or s 0 0)) 45 (λ f. e ((class_at m (get_or s 0 0) hm hb).0 ∙ f))) refl ∙ agrees s hb m
-
-pub spread_stray : (u : ℕ × ℕ) → u.1 ≡ 1 → ◌≡◌ {A = ℕ × ℕ} (1, 1) (spread u)
-spread_stray u e = rw (eq-eqb u.1 1 e)
-
-pub spread_wide : (u : ℕ × ℕ) → (u.1 ≡ 1 → ⊥) → ◌≡◌ {A = ℕ × ℕ} (wide_class u.0, u.1) (spread u)
-spread_wide u e = rw (ne_eqb u.1 1 e)
 
 pub same_bytes : {a a' b b' c c' d d' : ℕ} → a ≡ a' → b ≡ b' → c ≡ c' → d ≡ d' → decoded a b c d ≡ decoded a' b' c' d'
 same_bytes e f g h = cc

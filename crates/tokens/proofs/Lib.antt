@@ -9,3 +9,4 @@ pub mod Walks
 pub mod Derived
 pub mod Longest
 pub mod Runs
+pub mod Lookups

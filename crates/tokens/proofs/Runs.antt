@@ -4,7 +4,7 @@ use Prim.Native.Nat.{ℕ, zero, suc, ◌+◌, ◌-◌, ◌*◌, ◌/◌, ◌%◌
 use mathlib.Core.Path.{◌≡◌, refl, sym, ap, ◌∙◌, subst}
 use mathlib.Core.List.{List, [], ◌∷◌}
 use mathlib.Core.Bool.{Bool, true, false, cond, ◌||◌}
-use mathlib.Core.Option.{Option, none, some}
+use Rattle.std.specs.Prelude.{Option, None, Some}
 use mathlib.Core.Logic.{◌⊎◌, inl, inr, ⊎_elim}
 use native.Mathlib.Omega.{arith}
 use native.Mathlib.Decide.{ℕ_discrete}
@@ -15,18 +15,24 @@ use borrow.Author.Tests.{eq-eqb, ne_eqb}
 use Rattle.tokens.specs.Glyph.{glyph}
 use Rattle.tokens.specs.Expr.{Tokens, Match, has, step, whole, better, walk, longest}
 use Rattle.tokens.specs.Table.{next_table, end_table, pairs}
-use Rattle.tokens.specs.Lent.{label, Hop, to, quiet, covers}
+use Rattle.tokens.specs.States.{label, Hop, to, ended, quiet, covers}
 use Rattle.tokens.proofs.Equal.{both, left, right}
-use Rattle.tokens.proofs.Tests.{next_at, end_at, ended, starts_none}
+use Rattle.tokens.proofs.Tests.{next_at, end_at, starts_none}
 use Rattle.tokens.proofs.Glyphs.{glyph_class}
 use Rattle.tokens.proofs.Walks as w
 use Rattle.tokens.proofs.Longest.{kept}
 
-never_both : (o : Match) (k n : ℕ) → o ≡ some (k, n) → o ≡ none → ⊥
+never_both : (o : Match) (k n : ℕ) → o ≡ Some (k, n) → o ≡ None → ⊥
 never_both o k n e f = let z : ◌≡◌ {A = ℕ} 0 1 = cc in omega arith
 
+ended_none : (x : ℕ) → x ≡ 255 → ended x ≡ None
+ended_none x e = rw (eq-eqb x 255 e)
+
+ended_some : (x : ℕ) → (x ≡ 255 → ⊥) → ended x ≡ Some x
+ended_some x e = rw (ne_eqb x 255 e)
+
 -- where a text stands does not matter
-pub hop_free : (m at at' k : ℕ) (ts : Tokens) (xs : List ℕ) → walk m at k ts none xs ≡ none → walk m at' k ts none xs ≡ none
+pub hop_free : (m at at' k : ℕ) (ts : Tokens) (xs : List ℕ) → walk m at k ts None xs ≡ None → walk m at' k ts None xs ≡ None
 hop_free m at at' k ts [] e = refl
 hop_free m at at' (suc k) ts (x ∷ xs) e = hop_free m at at' k ts xs e
 hop_free m at at' zero ts (x ∷ xs) e =
@@ -34,32 +40,32 @@ hop_free m at at' zero ts (x ∷ xs) e =
     (hop_free m (at + (glyph m (x ∷ xs)).1) (at' + (glyph m (x ∷ xs)).1) ((glyph m (x ∷ xs)).1 - 1) (step (glyph m (x ∷ xs)).0 ts) xs) e
   where
     go : (o : Option ℕ)
-        → (walk m (at + (glyph m (x ∷ xs)).1) ((glyph m (x ∷ xs)).1 - 1) (step (glyph m (x ∷ xs)).0 ts) none xs ≡ none
-        → walk m (at' + (glyph m (x ∷ xs)).1) ((glyph m (x ∷ xs)).1 - 1) (step (glyph m (x ∷ xs)).0 ts) none xs ≡ none)
-        → walk m (at + (glyph m (x ∷ xs)).1) ((glyph m (x ∷ xs)).1 - 1) (step (glyph m (x ∷ xs)).0 ts) (better o (at + (glyph m (x ∷ xs)).1) none) xs ≡ none
-        → walk m (at' + (glyph m (x ∷ xs)).1) ((glyph m (x ∷ xs)).1 - 1) (step (glyph m (x ∷ xs)).0 ts) (better o (at' + (glyph m (x ∷ xs)).1) none) xs ≡ none
-    go none rest f = rest f
-    go (some y) rest f =
+        → (walk m (at + (glyph m (x ∷ xs)).1) ((glyph m (x ∷ xs)).1 - 1) (step (glyph m (x ∷ xs)).0 ts) None xs ≡ None
+        → walk m (at' + (glyph m (x ∷ xs)).1) ((glyph m (x ∷ xs)).1 - 1) (step (glyph m (x ∷ xs)).0 ts) None xs ≡ None)
+        → walk m (at + (glyph m (x ∷ xs)).1) ((glyph m (x ∷ xs)).1 - 1) (step (glyph m (x ∷ xs)).0 ts) (better o (at + (glyph m (x ∷ xs)).1) None) xs ≡ None
+        → walk m (at' + (glyph m (x ∷ xs)).1) ((glyph m (x ∷ xs)).1 - 1) (step (glyph m (x ∷ xs)).0 ts) (better o (at' + (glyph m (x ∷ xs)).1) None) xs ≡ None
+    go None rest f = rest f
+    go (Some y) rest f =
         let p = kept m (at + (glyph m (x ∷ xs)).1) ((glyph m (x ∷ xs)).1 - 1) (step (glyph m (x ∷ xs)).0 ts) y (at + (glyph m (x ∷ xs)).1) xs (omega arith) in
         absurd (never_both _ p.0 p.1 p.2 f)
 
 -- state 0 ends nothing; a failed match is one to follow, from its start
 pub hop_zero : (m k : ℕ) (xs : List ℕ) → Hop m 0 k xs
-hop_zero m k xs at = ap (λ ts. walk m at k ts none xs) starts_none ∙ w.nothing_left m at k none xs
+hop_zero m k xs at = ap (λ ts. walk m at k ts None xs) starts_none ∙ w.nothing_left m at k None xs
 
-pub hop_failed : (m st : ℕ) (xs : List ℕ) → longest m (label st) xs ≡ none → Hop m st 0 xs
+pub hop_failed : (m st : ℕ) (xs : List ℕ) → longest m (label st) xs ≡ None → Hop m st 0 xs
 unfolding longest
 hop_failed m st xs e at = hop_free m 0 at 0 (label st) xs e
 
-pub failed_hop : (m st : ℕ) (xs : List ℕ) → Hop m st 0 xs → longest m (label st) xs ≡ none
+pub failed_hop : (m st : ℕ) (xs : List ℕ) → Hop m st 0 xs → longest m (label st) xs ≡ None
 unfolding longest
 failed_hop m st xs h = h 0
 
 pub hop_skip : (m st k : ℕ) (xs : List ℕ) → Hop m st k xs → Hop m st 0 (drop k xs)
-hop_skip m st k xs h at = sym (w.skipped m at k (label st) none xs) ∙ h at
+hop_skip m st k xs h at = sym (w.skipped m at k (label st) None xs) ∙ h at
 
 pub skip_hop : (m st k : ℕ) (xs : List ℕ) → Hop m st 0 (drop k xs) → Hop m st k xs
-skip_hop m st k xs h at = w.skipped m at k (label st) none xs ∙ h at
+skip_hop m st k xs h at = w.skipped m at k (label st) None xs ∙ h at
 
 -- one character: on, and back
 module _ (m : ℕ) (s : List ℕ) (i st : ℕ) (g : ℕ × ℕ) (hi : i < length s) (hs : st < 88) (e : g ≡ glyph m (drop i s)) where
@@ -68,10 +74,10 @@ module _ (m : ℕ) (s : List ℕ) (i st : ℕ) (g : ℕ × ℕ) (hi : i < length
     where
       go : Dec (get_or end_table (to st g.0) 0 ≡ 255) → Hop m (quiet st g.0) 0 (drop (i + g.1) s)
       go (yes z) at =
-          ap (λ b. walk m at 0 (label (cond b (to st g.0) 0)) none (drop (i + g.1) s)) (eq-eqb _ 255 z)
-          ∙ hop_free m (i + g.1) at 0 (label (to st g.0)) (drop (i + g.1) s) (w.unended m s i st none g hi hs e z ∙ h i)
+          ap (λ b. walk m at 0 (label (cond b (to st g.0) 0)) None (drop (i + g.1) s)) (eq-eqb _ 255 z)
+          ∙ hop_free m (i + g.1) at 0 (label (to st g.0)) (drop (i + g.1) s) (w.unended m s i st None g hi hs e (to st g.0) refl (ended_none _ z) ∙ h i)
       go (no z) at =
-          ap (λ b. walk m at 0 (label (cond b (to st g.0) 0)) none (drop (i + g.1) s)) (ne_eqb _ 255 z)
+          ap (λ b. walk m at 0 (label (cond b (to st g.0) 0)) None (drop (i + g.1) s)) (ne_eqb _ 255 z)
           ∙ hop_zero m 0 (drop (i + g.1) s) at
 
   pub hop_back : (quiet st g.0 ≡ 0 → ⊥) → Hop m (quiet st g.0) 0 (drop (i + g.1) s) → Hop m st 0 (drop i s)
@@ -80,8 +86,8 @@ module _ (m : ℕ) (s : List ℕ) (i st : ℕ) (g : ℕ × ℕ) (hi : i < length
       go : Dec (get_or end_table (to st g.0) 0 ≡ 255) → Hop m st 0 (drop i s)
       go (yes z) at =
           hop_free m i at 0 (label st) (drop i s)
-          (sym (w.unended m s i st none g hi hs e z)
-          ∙ sym (ap (λ b. walk m (i + g.1) 0 (label (cond b (to st g.0) 0)) none (drop (i + g.1) s)) (eq-eqb _ 255 z))
+          (sym (w.unended m s i st None g hi hs e (to st g.0) refl (ended_none _ z))
+          ∙ sym (ap (λ b. walk m (i + g.1) 0 (label (cond b (to st g.0) 0)) None (drop (i + g.1) s)) (eq-eqb _ 255 z))
           ∙ h (i + g.1))
       go (no z) at = absurd (n (ap (λ b. cond b (to st g.0) 0) (ne_eqb _ 255 z)))
 
@@ -136,25 +142,19 @@ right_of (q ∷ ps) p t h = go (eqb p q) refl h (right_of ps p (right (pair_righ
 
 -- one character, in terms of the tables
 tabled : (m at n k st c : ℕ) (xs : List ℕ) → st < 88 → c < 45
-    → walk m at k (step c (label st)) (better (whole (step c (label st))) n none) xs
-    ≡ walk m at k (label (to st c)) (better (ended (get_or end_table (to st c) 0)) n none) xs
+    → walk m at k (step c (label st)) (better (whole (step c (label st))) n None) xs
+    ≡ walk m at k (label (to st c)) (better (ended (get_or end_table (to st c) 0)) n None) xs
 tabled m at n k st c xs hs hc =
     let t = next_at st c hs hc in
-    ap (λ ts. walk m at k ts (better (whole ts) n none) xs) t.1
-    ∙ ap (λ o. walk m at k (label (to st c)) (better o n none) xs) (sym (end_at (to st c) t.0))
-
-ended_none : (x : ℕ) → x ≡ 255 → ended x ≡ none
-ended_none x e = rw (eq-eqb x 255 e)
-
-ended_some : (x : ℕ) → (x ≡ 255 → ⊥) → ended x ≡ some x
-ended_some x e = rw (ne_eqb x 255 e)
+    ap (λ ts. walk m at k ts (better (whole ts) n None) xs) t.1
+    ∙ ap (λ o. walk m at k (label (to st c)) (better o n None) xs) (sym (end_at (to st c) t.0))
 
 -- what never ends a row goes on to what never does, and by a state that ends none
 on : (m a : ℕ) (x : ℕ) (xs : List ℕ) → a < 88 → Hop m a 0 (x ∷ xs)
     → let g = glyph m (x ∷ xs) in (get_or end_table (to a g.0) 0 ≡ 255) × Hop m (to a g.0) (g.1 - 1) xs
 on m a x xs ha h = go (ℕ_discrete (get_or end_table (to a (glyph m (x ∷ xs)).0) 0) 255)
   where
-    at_zero : let g = glyph m (x ∷ xs) in walk m (0 + g.1) (g.1 - 1) (label (to a g.0)) (better (ended (get_or end_table (to a g.0) 0)) (0 + g.1) none) xs ≡ none
+    at_zero : let g = glyph m (x ∷ xs) in walk m (0 + g.1) (g.1 - 1) (label (to a g.0)) (better (ended (get_or end_table (to a g.0) 0)) (0 + g.1) None) xs ≡ None
     at_zero = let g = glyph m (x ∷ xs) in sym (tabled m (0 + g.1) (0 + g.1) (g.1 - 1) a g.0 xs ha (glyph_class m (x ∷ xs))) ∙ h 0
 
     go : Dec (get_or end_table (to a (glyph m (x ∷ xs)).0) 0 ≡ 255)
@@ -163,14 +163,14 @@ on m a x xs ha h = go (ℕ_discrete (get_or end_table (to a (glyph m (x ∷ xs))
         let g = glyph m (x ∷ xs) in (
           z,
           λ at. hop_free m (0 + g.1) at (g.1 - 1) (label (to a g.0)) xs
-              (sym (ap (λ o. walk m (0 + g.1) (g.1 - 1) (label (to a g.0)) (better o (0 + g.1) none) xs) (ended_none _ z)) ∙ at_zero),
+              (sym (ap (λ o. walk m (0 + g.1) (g.1 - 1) (label (to a g.0)) (better o (0 + g.1) None) xs) (ended_none _ z)) ∙ at_zero),
         )
     go (no z) =
         let g = glyph m (x ∷ xs) in
         let p = kept m (0 + g.1) (g.1 - 1) (label (to a g.0)) (get_or end_table (to a g.0) 0) (0 + g.1) xs (omega arith) in
         absurd
         (never_both _ p.0 p.1 p.2
-        (sym (ap (λ o. walk m (0 + g.1) (g.1 - 1) (label (to a g.0)) (better o (0 + g.1) none) xs) (ended_some _ z)) ∙ at_zero))
+        (sym (ap (λ o. walk m (0 + g.1) (g.1 - 1) (label (to a g.0)) (better o (0 + g.1) None) xs) (ended_some _ z)) ∙ at_zero))
 
 -- and the other way round
 back : (m b : ℕ) (x : ℕ) (xs : List ℕ) → b < 88
@@ -178,7 +178,7 @@ back : (m b : ℕ) (x : ℕ) (xs : List ℕ) → b < 88
 back m b x xs hb z h at =
     let g = glyph m (x ∷ xs) in
     tabled m (at + g.1) (at + g.1) (g.1 - 1) b g.0 xs hb (glyph_class m (x ∷ xs))
-    ∙ ap (λ o. walk m (at + g.1) (g.1 - 1) (label (to b g.0)) (better o (at + g.1) none) xs) (ended_none _ z)
+    ∙ ap (λ o. walk m (at + g.1) (g.1 - 1) (label (to b g.0)) (better o (at + g.1) None) xs) (ended_none _ z)
     ∙ h (at + g.1)
 
 zero_ends : get_or end_table 0 0 ≡ 255
@@ -234,38 +234,6 @@ quiet_small st c hs hc = go (eqb (get_or end_table (to st c) 0) 255)
     go : (b : Bool) → cond b (to st c) 0 < 88
     go true = (next_at st c hs hc).0
     go false = omega arith
-
-pub quiet_on : (st c t x : ℕ) → t ≡ to st c → x ≡ get_or end_table t 0 → x ≡ 255 → t ≡ quiet st c
-quiet_on st c t x e f z = e ∙ sym (ap (λ b. cond b (to st c) 0) (eq-eqb (get_or end_table (to st c) 0) 255 (sym (f ∙ ap (λ n. get_or end_table n 0) e) ∙ z)))
-
-pub quiet_off : (st c t x : ℕ) → t ≡ to st c → x ≡ get_or end_table t 0 → (x ≡ 255 → ⊥) → 0 ≡ quiet st c
-quiet_off st c t x e f z = sym (ap (λ b. cond b (to st c) 0) (ne_eqb (get_or end_table (to st c) 0) 255 (λ y. z (f ∙ ap (λ n. get_or end_table n 0) e ∙ y))))
-
-listed : (a b p : ℕ) → a * 88 + b ≡ p → T (has pairs p) → T (covers a b)
-listed a b p e t = go (eqb a b) (subst (λ x. T (has pairs x)) (sym e) t)
-  where
-    go : (y : Bool) → T (has pairs (a * 88 + b)) → T (y || has pairs (a * 88 + b))
-    go true u = tt
-    go false u = u
-
-has_at : (xs : List ℕ) (i : ℕ) → i < length xs → T (has xs (get_or xs i 0))
-has_at [] i h = absurd (omega arith)
-has_at (x ∷ xs) zero h = subst (λ y. T (y || has xs x)) (sym (eq-eqb x x refl)) tt
-has_at (x ∷ xs) (suc i) h = go (eqb (get_or xs i 0) x) (has_at xs i (omega arith))
-  where
-    go : (y : Bool) → T (has xs (get_or xs i 0)) → T (y || has xs (get_or xs i 0))
-    go true u = tt
-    go false u = u
-
-pair_count : length pairs ≡ 9
-unfolding pairs
-pair_count = refl
-
-pub listed_at : (a b i : ℕ) → i < 9 → a * 88 + b ≡ get_or pairs i 0 → T (covers a b)
-listed_at a b i h e = listed a b (get_or pairs i 0) e (has_at pairs i (omega (arith, pair_count)))
-
-pub equal : (a b : ℕ) → a ≡ b → T (covers a b)
-equal a b e = subst (λ y. T (y || has pairs (a * 88 + b))) (sym (eq-eqb a b e)) tt
 
 -- two characters on, and back
 pub two_deep : (m : ℕ) (s : List ℕ) (a b : ℕ) (g h : ℕ × ℕ) → a < 88 → b < 88 → 0 < length s → g ≡ glyph m s → g.1 < length s → h ≡ glyph m (drop g.1 s)

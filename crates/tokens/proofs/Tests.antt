@@ -3,8 +3,9 @@ use Prim.Native.Nat.{ℕ, zero, suc, ◌+◌, ◌*◌, ◌/◌, ◌%◌, ◌<◌
 use mathlib.Core.Path.{◌≡◌, refl, subst, sym, ap, ap₂, ◌∙◌}
 use mathlib.Core.List.{List, [], ◌∷◌}
 use mathlib.Core.Bool.{Bool, true, false, cond}
-use mathlib.Core.Option.{Option, none, some}
+use Rattle.std.specs.Prelude.{Option, None, Some}
 use native.Mathlib.Omega.{arith}
+use native.Mathlib.Decide.{ℕ_discrete}
 use native.Mathlib.Nat.{add-zero, zero-add, add-suc, suc-add, le_of_suc-le-suc, not-suc-le-zero}
 use lib.Dec.{T, eqb, ltb, leb, eqb→eq, ltb→lt, leb→le}
 use borrow.Author.Tests.{eq-eqb}
@@ -12,9 +13,12 @@ use lib.ListN.{length, get_or}
 use Rattle.tokens.specs.Classes.{class, class_in, bytes_of, normal, hex, jump}
 use Rattle.tokens.specs.Expr.{Tokens, step, whole}
 use Rattle.tokens.proofs.Equal.{both, left, right, alike, alike→}
-use Rattle.tokens.specs.Table.{class_table, next_table, end_table, words}
+use Rattle.tokens.specs.Table.{class_table, next_table, end_table, key_table, words}
 use Rattle.tokens.specs.Tokens as t
-use Rattle.tokens.specs.Lent.{labels, label}
+use Rattle.tokens.specs.States.{labels, label, ended}
+use Rattle.tokens.specs.Modes.{number}
+use Rattle.tokens.specs.declared.mode.Mode.{Mode}
+use Rattle.tokens.specs.declared.mode.Mode.TheVariants.{Normal, Hex, Jump}
 
 -- the test f passes at each entry of the list and its place, counted from i
 abbrev pub every : (ℕ → ℕ → Bool) → ℕ → List ℕ → Bool
@@ -48,20 +52,17 @@ unfolding next_table labels words t.normal t.hex t.jump t.unknown
 steps_right = tt
 
 -- an entry of the id that a state ends
-abbrev pub ended : ℕ → Option ℕ
-ended x = cond (eqb x 255) none (some x)
-
 abbrev same_end : Option ℕ → Option ℕ → Bool
-same_end none none = true
-same_end none (some y) = false
-same_end (some x) none = false
-same_end (some x) (some y) = eqb x y
+same_end None None = true
+same_end None (Some y) = false
+same_end (Some x) None = false
+same_end (Some x) (Some y) = eqb x y
 
 same_end→ : (x y : Option ℕ) → T (same_end x y) → x ≡ y
-same_end→ none none t = refl
-same_end→ none (some y) t = absurd t
-same_end→ (some x) none t = absurd t
-same_end→ (some x) (some y) t = ap some (eqb→eq x y t)
+same_end→ None None t = refl
+same_end→ None (Some y) t = absurd t
+same_end→ (Some x) None t = absurd t
+same_end→ (Some x) (Some y) t = ap Some (eqb→eq x y t)
 
 abbrev end_right : List Tokens → ℕ → ℕ → Bool
 end_right ls s x = same_end (ended x) (whole (get_or ls s []))
@@ -151,3 +152,42 @@ lead_at m b hm hb e =
     let l : 0xC2 ≤ i % 256 = leb→le 0xC2 (i % 256) (left (leb 0xC2 (i % 256)) (leb (i % 256) 0xF4) u) in
     let g : i % 256 ≤ 0xF4 = leb→le (i % 256) 0xF4 (right (leb 0xC2 (i % 256)) (leb (i % 256) 0xF4) u) in
     (omega arith, omega arith)
+
+-- a test of every number below n
+abbrev pub all : (ℕ → Bool) → ℕ → Bool
+all p zero = true
+all p (suc n) = both (p n) (all p n)
+
+pub all_sound : (p : ℕ → Bool) (n : ℕ) → T (all p n) → (i : ℕ) → i < n → T (p i)
+all_sound p zero t i h = absurd (omega arith)
+all_sound p (suc n) t i h = go (ℕ_discrete i n) (all_sound p n (right (p n) (all p n) t) i)
+  where
+    go : Dec (i ≡ n) → (i < n → T (p i)) → T (p i)
+    go (yes e) rest = rw e (left (p n) (all p n) t)
+    go (no e) rest = rest (omega (arith, e))
+
+-- a slot holds a keyword's number, and a keyword is shorter than its row
+abbrev small_slot : ℕ → Bool
+small_slot i = ltb (get_or key_table (480 + i) 0) 40
+
+slots_small : T (all small_slot 128)
+unfolding key_table
+slots_small = tt
+
+pub slot_small : (i : ℕ) → i < 128 → get_or key_table (480 + i) 0 < 40
+slot_small i h = ltb→lt _ _ (all_sound small_slot 128 slots_small i h)
+
+abbrev small_word : ℕ → Bool
+small_word j = ltb (get_or key_table (j * 12) 0) 12
+
+words_small : T (all small_word 40)
+unfolding key_table
+words_small = tt
+
+pub word_small : (j : ℕ) → j < 40 → get_or key_table (j * 12) 0 < 12
+word_small j h = ltb→lt _ _ (all_sound small_word 40 words_small j h)
+
+pub mode_low : (m : Mode) → number m < 3
+mode_low Normal = omega arith
+mode_low Hex = omega arith
+mode_low Jump = omega arith

@@ -2,21 +2,16 @@
 use Prim.Native.Nat.{ℕ, zero, suc, ◌+◌, ◌-◌, ◌*◌, ◌≤◌, ◌<◌}
 use mathlib.Core.Path.{◌≡◌, refl, sym, ap, ap₂, ◌∙◌}
 use mathlib.Core.List.{List, [], ◌∷◌}
-use mathlib.Core.Bool.{Bool, true, false, cond}
-use mathlib.Core.Option.{none, some}
+use Rattle.std.specs.Prelude.{None, Some}
 use native.Mathlib.Omega.{arith}
-use lib.Dec.{eqb}
 use native.Mathlib.Nat.{le_of_eq}
 use lib.ListN.{length, get_or, take, drop, length-drop, drop_of_length-le}
 use lib.Seq.{drop-cons, drop-drop, take_all}
-use borrow.Author.Tests.{eq-eqb, ne_eqb, eqb-false}
 use Rattle.tokens.specs.Glyph.{glyph}
 use Rattle.tokens.specs.Expr.{Tokens, Match, step, whole, better, walk, longest}
 use Rattle.tokens.specs.Table.{next_table, end_table}
-use Rattle.tokens.specs.Lent.{label, best, match_of, Inside}
-use Rattle.tokens.specs.declared.matcher.Match as m
-use Rattle.tokens.specs.declared.matcher.Match.TheVariants.{Found, Nothing}
-use Rattle.tokens.proofs.Tests.{next_at, end_at, ended, starts_none}
+use Rattle.tokens.specs.States.{label, ended, Inside}
+use Rattle.tokens.proofs.Tests.{next_at, end_at, starts_none}
 use Rattle.tokens.proofs.Glyphs.{glyph_some, glyph_within, glyph_class}
 
 -- bytes of the character taken last are passed over
@@ -84,68 +79,33 @@ module _ (m : ℕ) (s : List ℕ) (i st : ℕ) (b : Match) (g : ℕ × ℕ) (hi 
       let l : label to ≡ [] = ap label z ∙ starts_none in
       turn ∙ ap (λ ts. walk m (i + g.1) 0 ts (better (whole ts) (i + g.1) b) (drop (i + g.1) s)) l ∙ nothing_left m (i + g.1) 0 b (drop (i + g.1) s)
 
-  -- no row may end here
-  pub unended : get_or end_table to 0 ≡ 255 → walk m (i + g.1) 0 (label to) b (drop (i + g.1) s) ≡ walk m i 0 (label st) b (drop i s)
-  unended z =
-      let w : whole (label to) ≡ none = sym (end_at to to_small) ∙ ended_none (get_or end_table to 0) z in
-      sym (turn ∙ ap (λ o. walk m (i + g.1) 0 (label to) (better o (i + g.1) b) (drop (i + g.1) s)) w)
-    where
-      ended_none : (x : ℕ) → x ≡ 255 → ended x ≡ none
-      ended_none x e = rw (eq-eqb x 255 e)
+  -- no row may end here, and one may
+  module _ (t : ℕ) (p : t ≡ to) where
+    same_end : ended (get_or end_table t 0) ≡ whole (label to)
+    same_end = ap (λ n. ended (get_or end_table n 0)) p ∙ end_at to to_small
 
-  -- a row may end here
-  pub ending : (get_or end_table to 0 ≡ 255 → ⊥) → walk m (i + g.1) 0 (label to) (best (get_or end_table to 0) (i + g.1)) (drop (i + g.1) s) ≡ walk m i 0 (label st) b (drop i s)
-  ending z =
-      let w : whole (label to) ≡ some (get_or end_table to 0) = sym (end_at to to_small) ∙ ended_some (get_or end_table to 0) z in
-      let l : better (whole (label to)) (i + g.1) b ≡ best (get_or end_table to 0) (i + g.1) =
-      ap (λ o. better o (i + g.1) b) w ∙ sym (best_some (get_or end_table to 0) (i + g.1) (omega (arith, wide_some))) in
-      sym (turn ∙ ap (λ o. walk m (i + g.1) 0 (label to) o (drop (i + g.1) s)) l)
-    where
-      ended_some : (x : ℕ) → (x ≡ 255 → ⊥) → ended x ≡ some x
-      ended_some x e = rw (ne_eqb x 255 e)
+    pub unended : ended (get_or end_table t 0) ≡ None → walk m (i + g.1) 0 (label t) b (drop (i + g.1) s) ≡ walk m i 0 (label st) b (drop i s)
+    unended z =
+        ap (λ n. walk m (i + g.1) 0 (label n) b (drop (i + g.1) s)) p
+        ∙ sym (turn ∙ ap (λ o. walk m (i + g.1) 0 (label to) (better o (i + g.1) b) (drop (i + g.1) s)) (sym same_end ∙ z))
 
-      best_some : (k n : ℕ) → 0 < n → best k n ≡ some (k, n)
-      best_some k n h = rw (ne_eqb n 0 (omega arith))
-
-  -- the same of the code's own entries
-  module _ (t x : ℕ) (p : t ≡ to) (q : x ≡ get_or end_table t 0) where
-    entry : x ≡ get_or end_table to 0
-    entry = q ∙ ap (λ n. get_or end_table n 0) p
-
-    pub small' : t < 88
-    small' = rw p to_small
-
-    pub unended' : x ≡ 255 → walk m (i + g.1) 0 (label t) b (drop (i + g.1) s) ≡ walk m i 0 (label st) b (drop i s)
-    unended' z = ap (λ n. walk m (i + g.1) 0 (label n) b (drop (i + g.1) s)) p ∙ unended (sym entry ∙ z)
-
-    pub ending' : (x ≡ 255 → ⊥) → walk m (i + g.1) 0 (label t) (best x (i + g.1)) (drop (i + g.1) s) ≡ walk m i 0 (label st) b (drop i s)
-    ending' z =
-        ap₂ (λ n y. walk m (i + g.1) 0 (label n) (best y (i + g.1)) (drop (i + g.1) s)) p entry ∙ ending (λ y. z (entry ∙ y))
+    pub ending : (k : ℕ) → ended (get_or end_table t 0) ≡ Some k → walk m (i + g.1) 0 (label t) (Some (k, i + g.1)) (drop (i + g.1) s) ≡ walk m i 0 (label st) b (drop i s)
+    ending k z =
+        ap (λ n. walk m (i + g.1) 0 (label n) (Some (k, i + g.1)) (drop (i + g.1) s)) p
+        ∙ sym (turn ∙ ap (λ o. walk m (i + g.1) 0 (label to) (better o (i + g.1) b) (drop (i + g.1) s)) (sym same_end ∙ z))
 
 -- a part from i on
 pub tail : (s : List ℕ) (i : ℕ) → take (length s - i) (drop i s) ≡ drop i s
 tail s i = take_all (length s - i) (drop i s) (le_of_eq (length-drop i s))
 
-pub begun : (m : ℕ) (ts : Tokens) (s : List ℕ) → walk m 0 0 ts (best 0 0) (drop 0 s) ≡ longest m ts s
+pub begun : (m : ℕ) (ts : Tokens) (s : List ℕ) → walk m 0 0 ts None (drop 0 s) ≡ longest m ts s
 unfolding longest
 begun m ts s = refl
 
 pub over : (m i : ℕ) (ts : Tokens) (b : Match) (s : List ℕ) → length s ≤ i → walk m i 0 ts b (drop i s) ≡ b
 over m i ts b s h = rw (drop_of_length-le s h)
 
--- a match is of one byte at least, and within the bytes
-pub inside : (r : m.Match) (id len : ℕ) (s : List ℕ) → len ≤ length s → match_of r ≡ best id len → Inside r s
-inside (Found k n) id len s h e = go (eqb len 0) refl
-  where
-    go : (t : Bool) → eqb len 0 ≡ t → (0 < n) × (n ≤ length s)
-    go true f =
-        let z : ◌≡◌ {A = Match} (some (k, n)) none = e ∙ ap (λ x. cond x none (some (id, len))) f in
-        let q : ◌≡◌ {A = ℕ} 0 1 = cc in
-        absurd (omega arith)
-    go false f =
-        let z : ◌≡◌ {A = Match} (some (k, n)) (some (id, len)) = e ∙ ap (λ x. cond x none (some (id, len))) f in
-        let p : ◌≡◌ {A = ℕ × ℕ} (k, n) (id, len) = cc in
-        let q : n ≡ len = ap (λ u. u.1) p in
-        let w : len ≡ 0 → ⊥ = eqb-false len 0 f in
-        (omega (arith, w), omega arith)
-inside Nothing id len s h e = tt
+-- a match within so many bytes is within more
+pub inside : (b : Match) (i n : ℕ) → i ≤ n → Inside b i → Inside b n
+inside None i n h g = tt
+inside (Some x) i n h g = (g.0, omega (arith, g.1))

@@ -1,6 +1,5 @@
 -- Regular expressions over classes, and the longest match: Brzozowski's derivatives ("Derivatives of Regular Expressions", JACM 1964).
-use Rattle.std.specs.Prelude.{ℕ, zero, suc, ◌+◌, ◌-◌, List, [], ◌∷◌, Bool, true, false, cond, ◌&&◌, ◌||◌, eqb}
-use Rattle.std.proofs.Math.Option.{Option, none, some}
+use Rattle.std.specs.Prelude.{ℕ, zero, suc, ◌+◌, ◌-◌, List, [], ◌∷◌, Bool, true, false, cond, ◌&&◌, ◌||◌, eqb, Option, None, Some}
 use Rattle.tokens.specs.Glyph.{glyph}
 
 infixr 60 ◌⨾◌
@@ -71,16 +70,16 @@ step c (t ∷ ts) = keep t.0 (derive c t.1) (step c ts)
 
 -- the kind that matches here; the first where several do
 abbrev pub whole : Tokens → Option ℕ
-whole [] = none
-whole (t ∷ ts) = cond (nullable t.1) (some t.0) (whole ts)
+whole [] = None
+whole (t ∷ ts) = cond (nullable t.1) (Some t.0) (whole ts)
 
 -- a kind, and the place where its text ends
 abbrev pub Match : Type 0
 Match = Option (ℕ × ℕ)
 
 abbrev pub better : Option ℕ → ℕ → Match → Match
-better none at best = best
-better (some k) at best = some (k, at)
+better None at best = best
+better (Some k) at best = Some (k, at)
 
 -- the bytes from place `at` on, of which `skip` belong to the character that was taken last; the last match stands, so the longest does
 abbrev pub walk : ℕ → ℕ → ℕ → Tokens → Match → List ℕ → Match
@@ -93,4 +92,4 @@ walk m at zero ts best (b ∷ bs) =
 
 -- the longest match in mode m at the start of the bytes, and its length
 unfoldable pub longest : ℕ → Tokens → List ℕ → Match
-longest m ts s = walk m 0 0 ts none s
+longest m ts s = walk m 0 0 ts None s

@@ -4,5 +4,6 @@ pub mod Decoded
 pub mod Expr
 pub mod Tokens
 pub mod Table
-pub mod Lent
+pub mod States
+pub mod Modes
 pub mod Matches

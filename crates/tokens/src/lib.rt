@@ -3,6 +3,9 @@
 
 pub mod characters;
 pub mod glyph;
+pub mod keywords;
+mod lookup;
 pub mod matcher;
+pub mod mode;
 pub mod runner;
-pub mod table;
+mod table;

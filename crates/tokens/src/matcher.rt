@@ -1,101 +1,42 @@
 // The longest match of a mode's expressions, by the table of states.
-ghost use Rattle.std.specs.Prelude.{◌≡◌, true, ◌<◌};
-ghost use Rattle.std.proofs.Math.Option.{none};
+ghost use Rattle.std.specs.Prelude.{◌≡◌, true, length, None};
 ghost use Rattle.tokens.specs.Expr.{longest};
-ghost use Rattle.tokens.specs.Lent.{Lent, label, best, match_of, Inside};
+ghost use Rattle.tokens.specs.Modes.{mode, tokens};
+ghost use Rattle.tokens.specs.States.{Inside};
 
 use crate::glyph::glyph_at;
+use crate::lookup::{end_of, next_of};
+use crate::mode::Start;
 
-// The modes, and the states that their expressions start from; what nothing matches has a start of its own, in normal mode.
-pub const NORMAL: usize = 0;
-
-pub const HEX: usize = 1;
-
-pub const JUMP: usize = 2;
-
-pub const FROM_NORMAL: usize = 1;
-
-pub const FROM_HEX: usize = 2;
-
-pub const FROM_JUMP: usize = 3;
-
-pub const FROM_UNKNOWN: usize = 4;
-
-// How many classes a state's row of the table has.
-pub const COLUMNS: usize = 45;
-
-// Stands for the id of a state in which no row may end.
-pub const NONE: u32 = 255;
-
-// The longest match: the row's id and its length.
-#[derive(Drop)]
-pub enum Match {
-    Found(u32, usize),
-    Nothing,
-}
-
-// What matched last, if anything did.
-fn matched(id: u32, len: usize) -> Match
-    ensures { match_of result ≡ best id len }
+// The longest match of a start's expressions: the row's id and its length.
+pub fn longest_from(s: &[u8], start: Start) -> Option<(u32, usize)>
+    ensures { (result ≡ longest (mode start) (tokens start) s.now) × Inside result (length s.now) }
 {
-    if len == 0 {
-        return Match::Nothing;
-    }
-    Match::Found(id, len)
-}
-
-// The longest match of a start's expressions.
-pub fn longest_from(
-    s: &[u8],
-    start: usize,
-    mode: usize,
-    classes: &[u8],
-    states: &[u8],
-    finals: &[u8],
-    ranges: &[u32],
-) -> Match
-    requires { (start < 88) × (mode < 3) × Lent classes.now states.now finals.now ranges.now }
-    ensures { (match_of result ≡ longest mode (label start) s.now) × Inside result s.now }
-{
-    let mut state = start;
-    let mut id: u32 = 0;
-    let mut len: usize = 0;
+    let mut state = start.state;
+    let mut best = None;
     let mut i: usize = 0;
+    // Not a `for`: a character may have several bytes.
     while i < s.len() {
-        let g = glyph_at(&s[i..], mode, classes, ranges);
-        let class = g.class;
-        let to = states[state * COLUMNS + class] as usize;
-        if to == 0 {
-            return matched(id, len);
+        let g = glyph_at(&s[i..], start.mode);
+        state = next_of(state, g.class);
+        if state == 0 {
+            return best;
         }
-        state = to;
         i += g.width;
-        let end = finals[state] as u32;
-        if end != NONE {
-            id = end;
-            len = i;
+        if let Some(id) = end_of(state) {
+            best = Some((id, i));
         }
     }
-    matched(id, len)
+    best
 }
 
 // The same, unless it is known already that nothing matches.
-pub fn tried(
-    s: &[u8],
-    known: bool,
-    start: usize,
-    mode: usize,
-    classes: &[u8],
-    states: &[u8],
-    finals: &[u8],
-    ranges: &[u32],
-) -> Match
-    requires { (start < 88) × (mode < 3) × Lent classes.now states.now finals.now ranges.now
-        × (known ≡ true → longest mode (label start) s.now ≡ none) }
-    ensures { (match_of result ≡ longest mode (label start) s.now) × Inside result s.now }
+pub fn tried(s: &[u8], known: bool, start: Start) -> Option<(u32, usize)>
+    requires { known ≡ true → longest (mode start) (tokens start) s.now ≡ None }
+    ensures { (result ≡ longest (mode start) (tokens start) s.now) × Inside result (length s.now) }
 {
     if known {
-        return Match::Nothing;
+        return None;
     }
-    longest_from(s, start, mode, classes, states, finals, ranges)
+    longest_from(s, start)
 }

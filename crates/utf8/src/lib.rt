@@ -13,13 +13,6 @@ struct Due {
     greatest: u8,
 }
 
-// What is due after a byte, unless it can neither begin nor continue a character.
-#[derive(Drop)]
-enum Step {
-    Owed(Due),
-    Stray,
-}
-
 // The first of the followers has a range of its own.
 fn led(least: u8, greatest: u8, count: u8) -> Due
     ensures { ranges result ≡ led (least, greatest) count }
@@ -37,64 +30,59 @@ fn followers(count: u8) -> Due
     led(0x80, 0xBF, count)
 }
 
-// The characters: what each first byte is followed by.
-fn begun(b: u8) -> Step
+// The characters: what each first byte is followed by, and none where a byte begins no character.
+fn begun(b: u8) -> Option<Due>
     ensures { owed result ≡ begun characters b }
 {
     match b {
-        0x00..=0x7F => Step::Owed(followers(0)),
-        0xC2..=0xDF => Step::Owed(followers(1)),
-        0xE0 => Step::Owed(led(0xA0, 0xBF, 2)),
-        0xE1..=0xEC => Step::Owed(followers(2)),
-        0xED => Step::Owed(led(0x80, 0x9F, 2)),
-        0xEE..=0xEF => Step::Owed(followers(2)),
-        0xF0 => Step::Owed(led(0x90, 0xBF, 3)),
-        0xF1..=0xF3 => Step::Owed(followers(3)),
-        0xF4 => Step::Owed(led(0x80, 0x8F, 3)),
-        _ => Step::Stray,
+        0x00..=0x7F => Some(followers(0)),
+        0xC2..=0xDF => Some(followers(1)),
+        0xE0 => Some(led(0xA0, 0xBF, 2)),
+        0xE1..=0xEC => Some(followers(2)),
+        0xED => Some(led(0x80, 0x9F, 2)),
+        0xEE..=0xEF => Some(followers(2)),
+        0xF0 => Some(led(0x90, 0xBF, 3)),
+        0xF1..=0xF3 => Some(followers(3)),
+        0xF4 => Some(led(0x80, 0x8F, 3)),
+        _ => None,
     }
 }
 
-fn next(due: Due, b: u8) -> Step
+// What is due after one byte more, and none where the byte can neither begin nor continue a character.
+fn next(due: Due, b: u8) -> Option<Due>
     ensures { owed result ≡ next (ranges due) b }
 {
     if due.count == 0 {
         return begun(b);
     }
-    if b < due.least {
-        return Step::Stray;
+    if b < due.least || due.greatest < b {
+        return None;
     }
-    if due.greatest < b {
-        return Step::Stray;
-    }
-    Step::Owed(followers(due.count - 1))
+    Some(followers(due.count - 1))
 }
 
 // The place of the first byte that can neither begin nor continue a character; of a character that is cut short by the end, its first byte. Where
 // there is none it is the length.
+#[tactic(auto, unfolding(crate::specs::Utf8::bad_byte))]
 pub fn bad_byte(s: &[u8]) -> usize
     ensures { result ≡ bad_byte s.now }
 {
     let mut due = followers(0);
     let mut first = 0;
-    let mut i = 0;
-    while i < s.len() {
+    for (i, &b) in s.iter().enumerate() {
         if due.count == 0 {
             first = i;
         }
-        let Step::Owed(rest) = next(due, s[i]) else {
+        let Some(rest) = next(due, b) else {
             return i;
         };
         due = rest;
-        i += 1;
     }
-    if 0 < due.count {
-        return first;
-    }
-    i
+    if due.count == 0 { s.len() } else { first }
 }
 
 // The bytes are whole characters.
+#[tactic(auto, using(crate::proofs::Place::none_bad))]
 pub fn valid(s: &[u8]) -> bool
     ensures { result ≡ utf8 s.now }
 {

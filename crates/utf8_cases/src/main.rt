@@ -13,8 +13,8 @@ fn write_byte(rt: &impl Print, b: u8) {
 }
 
 fn write_bytes(rt: &impl Print, s: &[u8]) {
-    for i in 0..s.len() {
-        write_byte(rt, s[i]);
+    for b in s {
+        write_byte(rt, *b);
     }
 }
 
@@ -35,11 +35,8 @@ fn tell(rt: &impl Print, s: &[u8]) {
 fn tell_each(rt: &impl Print, s: &[u8], n: usize)
     requires { 0 < n }
 {
-    let mut i = 0;
-    while n <= s.len() - i {
-        let end = i + n;
-        tell(rt, &s[i..end]);
-        i = end;
+    for vector in s.chunks_exact(n) {
+        tell(rt, vector);
     }
 }
 

@@ -1,19 +1,18 @@
 use mathlib.Core.Path.{◌≡◌, sym, ap, ◌∙◌}
 use mathlib.Core.Bool.{Bool}
-use native.Mathlib.Omega.{arith}
 use borrow.Author.Tests.{le-leb, lt-leb}
-use lib.ListN.{get_or}
+use Rattle.notes.proofs.Core.{exceeded_some, exceeded_none}
 use Rattle.notes.specs.Bits.{ifb}
-use Rattle.notes.specs.Means.{source}
+use Rattle.notes.specs.Reading.{source_of}
 use Rattle.choice.proofs.Choosing.{furthest, emptied_ok, chooses_full, chooses_none, chooses_at}
 use Rattle.choice.proofs.choose.Goals as goal
 use Rattle.choice.proofs.choose.Goals.{then-expected, else-expected}
 
-pub returns-then-full-ne0 : goal.returns-then-full-ne0
-returns-then-full-ne0 c = λ s f w. chooses_full (source c.args.src.now c.args.ids.now c.args.ends.now) c.args.notes.now s c.args.errors.now w c.requires.2 f c.if-full-ne0.true
+pub returns-then-is_some : goal.returns-then-is_some
+returns-then-is_some c = λ s f w. chooses_full (source_of c.args.x.now) c.args.notes.now s c.args.errors.now w c.requires.1 f (exceeded_some c.args.full c.if-is_some.ensures)
 
 pub returns-then-row-eq0 : goal.returns-then-row-eq0
-returns-then-row-eq0 c = λ s f w. let q : c.if-expected.row ≡ furthest (get_or c.args.notes.now 0 0) (get_or c.args.notes.now 1 0) = elim c.if-expected.branch [ then-expected v ↦ v.row-is ∙ sym (ap (λ (b : Bool). ifb b (get_or c.args.notes.now 0 0) (get_or c.args.notes.now 1 0)) (le-leb _ _ v.if-expected.true)) | else-expected v ↦ v.row-is ∙ sym (ap (λ (b : Bool). ifb b (get_or c.args.notes.now 0 0) (get_or c.args.notes.now 1 0)) (lt-leb _ _ v.if-expected.false)) ] in chooses_none (source c.args.src.now c.args.ids.now c.args.ends.now) c.args.notes.now s c.args.errors.now w c.requires.2 (omega arith) q c.if-row-eq0.true
+returns-then-row-eq0 c = λ s f w. let q : c.if-expected.row ≡ furthest c.args.notes.now.want c.args.notes.now.unwant = elim c.if-expected.branch [ then-expected v ↦ v.row-is ∙ sym (ap (λ (b : Bool). ifb b c.args.notes.now.want c.args.notes.now.unwant) (le-leb _ _ v.if-expected.true)) | else-expected v ↦ v.row-is ∙ sym (ap (λ (b : Bool). ifb b c.args.notes.now.want c.args.notes.now.unwant) (lt-leb _ _ v.if-expected.false)) ] in chooses_none (source_of c.args.x.now) c.args.notes.now s c.args.errors.now w c.requires.1 (f ∙ exceeded_none c.args.full c.if-is_some.ensures) q c.if-row-eq0.true
 
 pub returns : goal.returns
-returns c = λ s f w. let q : c.if-expected.row ≡ furthest (get_or c.args.notes.now 0 0) (get_or c.args.notes.now 1 0) = elim c.if-expected.branch [ then-expected v ↦ v.row-is ∙ sym (ap (λ (b : Bool). ifb b (get_or c.args.notes.now 0 0) (get_or c.args.notes.now 1 0)) (le-leb _ _ v.if-expected.true)) | else-expected v ↦ v.row-is ∙ sym (ap (λ (b : Bool). ifb b (get_or c.args.notes.now 0 0) (get_or c.args.notes.now 1 0)) (lt-leb _ _ v.if-expected.false)) ] in chooses_at (source c.args.src.now c.args.ids.now c.args.ends.now) c.args.notes.now s c.args.errors.now w c.requires.2 (omega arith) q c.if-row-eq0.false (c.choose_at.ensures s (omega arith) (emptied_ok (source c.args.src.now c.args.ids.now c.args.ends.now) c.args.notes.now s c.args.errors.now w c.requires.2))
+returns c = λ s f w. let q : c.if-expected.row ≡ furthest c.args.notes.now.want c.args.notes.now.unwant = elim c.if-expected.branch [ then-expected v ↦ v.row-is ∙ sym (ap (λ (b : Bool). ifb b c.args.notes.now.want c.args.notes.now.unwant) (le-leb _ _ v.if-expected.true)) | else-expected v ↦ v.row-is ∙ sym (ap (λ (b : Bool). ifb b c.args.notes.now.want c.args.notes.now.unwant) (lt-leb _ _ v.if-expected.false)) ] in chooses_at (source_of c.args.x.now) c.args.notes.now s c.args.errors.now w c.requires.1 (f ∙ exceeded_none c.args.full c.if-is_some.ensures) q c.if-row-eq0.false (c.choose_at.ensures s (f ∙ exceeded_none c.args.full c.if-is_some.ensures) (emptied_ok (source_of c.args.x.now) c.args.notes.now s c.args.errors.now w c.requires.1))

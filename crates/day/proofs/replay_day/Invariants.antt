@@ -1,11 +1,10 @@
--- `replay_day` meets its contract: the lines before a place are replayed.
-use Prim.Native.Nat.{◌-◌}
+-- `replay_day` meets its contract: the lines before the rest of the text are replayed.
 use lib.ListN.{length}
 use Rattle.replay.proofs.Replaying.{Replaying}
 use Rattle.day.proofs.replay_day.Given as goal
 
-abbrev pub invariant-loop-at : goal.invariant-loop-at
-invariant-loop-at _ l = Replaying l.text l.tally l.line l.at
+abbrev pub invariant-loop-rest : goal.invariant-loop-rest
+invariant-loop-rest _ l = Replaying l.text l.tally l.number l.rest
 
-abbrev pub decreases-loop-at : goal.decreases-loop-at
-decreases-loop-at _ l = length l.text - l.at
+abbrev pub decreases-loop-rest : goal.decreases-loop-rest
+decreases-loop-rest _ l = length l.rest

@@ -1,13 +1,11 @@
 -- The productions of expressions, each by its shape; what falls is the depth, and at one depth the rank of a function.
 use mathlib.Core.Bool.{true}
-use Prim.Native.Nat.{◌-◌}
 use Rattle.kinds.specs.Kinds as k
 use Rattle.kinds.specs.Sets.{set_of}
 use Rattle.definition.specs.Prog.{eat, ◌⨟◌, node}
 use Rattle.definition.specs.Prog as G
 use Rattle.definition.specs.Grammar.{one}
-use Rattle.notes.specs.Means.{source, names_of}
-use Rattle.steps.specs.Steps.{whole}
+use Rattle.notes.specs.Means.{names_of}
 use Rattle.parts.specs.Reads.{reads}
 use Rattle.expr.specs.Parts.{item_of}
 use Rattle.parts.proofs.Lines.{Turns}
@@ -125,14 +123,8 @@ decreases-whom l = 8 * l.d + 5
 abbrev pub decreases-with_expr : goal.decreases-with_expr
 decreases-with_expr l = 8 * l.d + 0
 
-abbrev pub invariant-and-loop-n : goal.invariant-and-loop-n
-invariant-and-loop-n l = Turns (reads l.ep l.d true (one k.COMMA ⨟ node G.WITH_DECL)) (source l.src l.ids l.ends) (whole l.initial.s l.initial.notes) (whole l.s l.notes) l.initial.n l.n l.initial.ev l.initial.er l.initial.sc l.ev l.er l.sc
+abbrev pub invariant-and-loop-turn : goal.invariant-and-loop-turn
+invariant-and-loop-turn l = Turns (reads l.x.entrypoint l.d true (one k.COMMA ⨟ node G.WITH_DECL)) l.x l.initial.s l.s l.initial.lent l.lent l.turns l.turn
 
-abbrev pub decreases-and-loop-n : goal.decreases-and-loop-n
-decreases-and-loop-n l = l.n
-
-abbrev pub invariant-more-loop-n : goal.invariant-more-loop-n
-invariant-more-loop-n l = Turns (reads l.ep l.d true (eat (set_of l.sep) (names_of l.code) ⨟ item_of l.item)) (source l.src l.ids l.ends) (whole l.initial.s l.initial.notes) (whole l.s l.notes) l.initial.n l.n l.initial.ev l.initial.er l.initial.sc l.ev l.er l.sc
-
-abbrev pub decreases-more-loop-n : goal.decreases-more-loop-n
-decreases-more-loop-n l = l.n
+abbrev pub invariant-more-loop-turn : goal.invariant-more-loop-turn
+invariant-more-loop-turn l = Turns (reads l.x.entrypoint l.d true (eat (set_of l.sep) (names_of l.code) ⨟ item_of l.item)) l.x l.initial.s l.s l.initial.lent l.lent l.turns l.turn

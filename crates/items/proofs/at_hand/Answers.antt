@@ -1,23 +1,25 @@
 -- `items::at_hand` meets its contract. Assumes nothing.
-use mathlib.Core.Path.{sym, ◌∙◌}
-use Rattle.kinds.proofs.Words.{lent_right}
+use mathlib.Core.Path.{sym, ap, subst, ◌∙◌}
+use mathlib.Core.List.{List}
+use Prim.Native.Nat.{ℕ}
+use Rattle.notes.specs.Means.{bufs}
+use Rattle.notes.specs.Reading.{source_of}
+use Rattle.notes.proofs.Core.{exceeded_some, exceeded_none}
+use Rattle.steps.specs.Steps.{whole}
+use Rattle.items.specs.Items.{tally, Strays}
 use Rattle.items.proofs.Hand.{hand_stuck, hand_end, hand_item, hand_stray}
 use Rattle.items.proofs.at_hand.Goals as goal
 
-pub returns-then-s-ne0 : goal.returns-then-s-ne0
-returns-then-s-ne0 c = hand_stuck c.if-s-ne0.true c.requires.1
+pub returns-then-is_some-clause-read : goal.returns-then-is_some-clause-read
+returns-then-is_some-clause-read c = hand_stuck (exceeded_some c.args.s.full c.if-is_some.ensures) c.requires
 
-pub returns-then-at-ids : goal.returns-then-at-ids
-returns-then-at-ids c = hand_end c.if-s-ne0.false c.if-at-ids.true c.requires.1
+pub returns-then-at-x-clause-read : goal.returns-then-at-x-clause-read
+returns-then-at-x-clause-read c = hand_end (exceeded_none c.args.s.full c.if-is_some.ensures) c.if-at-x.true c.requires
 
-pub read_item-t-requires : goal.read_item-t-requires
-read_item-t-requires c = c.requires
+pub returns-then-has-clause-read : goal.returns-then-has-clause-read
+returns-then-has-clause-read c = hand_item (exceeded_none c.args.s.full c.if-is_some.ensures) c.if-at-x.false (sym c.if-has.true ∙ c.has.ensures) c.read_item.ensures.read
 
-pub returns-then-within : goal.returns-then-within
-returns-then-within c = hand_item c.if-s-ne0.false c.if-at-ids.false (sym c.if-within.true ∙ c.within.ensures ∙ lent_right c.args.sets.now c.requires.2 10 _) c.read_item-t.ensures
-
-pub stray-requires : goal.stray-requires
-stray-requires c = ((c.requires.0.lines, c.requires.1.0, c.requires.1.1.events), c.requires.1.1.errors, c.if-at-ids.false, c.if-s-ne0.false, c.requires.2)
-
-pub returns : goal.returns
-returns c = hand_stray c.if-s-ne0.false c.if-at-ids.false (sym c.if-within.false ∙ c.within.ensures ∙ lent_right c.args.sets.now c.requires.2 10 _) (c.stray.ensures c.args.src.now c.args.scratch.now c.requires.1)
+pub returns-clause-read : goal.returns-clause-read
+returns-clause-read c = hand_stray (exceeded_none c.args.s.full c.if-is_some.ensures) c.if-at-x.false (sym c.if-has.false ∙ c.has.ensures)
+    (subst (λ (sc : List ℕ). Strays (source_of c.args.x.now) (whole c.args.s c.args.lent.now.notes) c.args.before (tally c.stray.result c.stray.new.lent.notes) (bufs c.args.lent.now.events.now c.args.lent.now.errors.now c.args.lent.now.scratch.now) (bufs c.stray.new.lent.events.now c.stray.new.lent.errors.now sc)) (sym (ap (λ l. l.now) c.stray.ensures.scratch))
+    (c.stray.ensures.written c.args.lent.now.scratch.now c.requires))

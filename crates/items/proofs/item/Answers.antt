@@ -1,27 +1,34 @@
 -- `items::item` meets its contract. Assumes nothing.
-use mathlib.Core.Path.{sym, ◌∙◌}
-use native.Mathlib.Omega.{arith}
-use lib.ListN.{length, set}
-use Rattle.notes.specs.Means.{source, bufs}
-use Rattle.notes.proofs.Cells.{long, new_number}
+use mathlib.Core.Path.{sym, ap, subst, ◌∙◌}
+use mathlib.Core.List.{List}
+use Prim.Native.Nat.{ℕ, ◌*◌, ◌≤◌}
+use lib.ListN.{length}
+use Rattle.notes.specs.Bits.{Forgot}
+use Rattle.notes.specs.Means.{bufs}
+use Rattle.notes.specs.Reading.{source_of, bufs_of}
 use Rattle.steps.specs.Steps.{whole}
-use Rattle.items.proofs.Between.{idles, more, item_wf, item_goes, settle_asks}
+use Rattle.items.specs.Items.{tally, Goes}
+use Rattle.items.proofs.Between.{idles, more, noting, item_wf, item_goes, settle_asks}
 use Rattle.items.proofs.item.Goals as goal
 
-pub returns-then-over : goal.returns-then-over
-returns-then-over c = idles c.requires.1 c.requires.2 c.args.number 1 (sym c.over.ensures ∙ c.if-over.true)
-
-pub trivia-t-requires : goal.trivia-t-requires
-trivia-t-requires c = (c.requires.0.lines, (c.requires.1.0.2.events, c.requires.1.1.events))
+pub returns-then-over-clause-read : goal.returns-then-over-clause-read
+returns-then-over-clause-read c = idles c.requires.0 c.requires.1 c.args.number 1 (sym c.over.ensures ∙ c.if-over.true)
 
 pub at_hand-h-requires : goal.at_hand-h-requires
-at_hand-h-requires c = (c.requires.0, ((c.trivia-t.ensures.0 c.args.src.now (set c.args.notes.now 10 c.args.number) (item_wf c.args.number (source c.args.src.now c.args.ids.now c.args.ends.now) (bufs c.args.events.now c.args.errors.now c.args.scratch.now) (whole c.args.d.state c.args.notes.now) _ c.requires.0 c.requires.3 c.requires.1 (new_number c.args.notes.now (whole c.args.d.state c.args.notes.now) (long c.args.notes.now c.requires.1.0.1.long) c.args.number)).0).did c.args.errors.now c.args.scratch.now (item_wf c.args.number (source c.args.src.now c.args.ids.now c.args.ends.now) (bufs c.args.events.now c.args.errors.now c.args.scratch.now) (whole c.args.d.state c.args.notes.now) _ c.requires.0 c.requires.3 c.requires.1 (new_number c.args.notes.now (whole c.args.d.state c.args.notes.now) (long c.args.notes.now c.requires.1.0.1.long) c.args.number))).wf, c.requires.4)
-
-pub tell-u-requires : goal.tell-u-requires
-tell-u-requires c = let v = c.at_hand-h.ensures.wf in ((v.0.2.events, v.1.events), v.0.2.since, omega (arith, v.0.2.errors, v.1.errors))
+at_hand-h-requires c = let w = item_wf c.args.number (source_of c.args.x.now) (bufs_of c.args.lent.now) (whole c.args.d.state c.args.lent.now.notes) c.args.x.now.tiled c.requires.2 c.requires.0 in ((c.trivia-t.ensures.0 (noting c.args.number c.args.lent.now.notes) w.0).did c.args.lent.now.errors.now c.args.lent.now.scratch.now w).wf
 
 pub settle-requires : goal.settle-requires
-settle-requires c = ((settle_asks (source c.args.src.now c.args.ids.now c.args.ends.now) c.at_hand-h.ensures (λ sc. c.tell-u.ensures (source c.args.src.now c.args.ids.now c.args.ends.now) sc)), (c.tell-u.ensures (source c.args.src.now c.args.ids.now c.args.ends.now) c.at_hand-h.new.scratch c.at_hand-h.ensures.wf).wf.0.1)
+settle-requires c =
+    let u = c.tell-u.ensures.told (source_of c.args.x.now) in
+    (subst (λ (l : List ℕ). 2 * c.tell-u.new.lent.notes.far ≤ 64 * length l) (sym (ap (λ l. l.now) c.tell-u.ensures.scratch)) (settle_asks (source_of c.args.x.now) c.at_hand-h.ensures.read u), (u c.at_hand-h.new.lent.scratch.now c.at_hand-h.ensures.read.wf).wf.0.1)
 
-pub returns : goal.returns
-returns c = item_goes c.args.number (source c.args.src.now c.args.ids.now c.args.ends.now) _ _ _ _ _ _ _ _ _ _ _ _ _ _ _ c.requires.0 c.requires.3 c.requires.1 c.requires.2 (more (length c.args.ids.now) (whole c.args.d.state c.args.notes.now) (sym c.over.ensures ∙ c.if-over.false)) (new_number c.args.notes.now (whole c.args.d.state c.args.notes.now) (long c.args.notes.now c.requires.1.0.1.long) c.args.number) (c.trivia-t.ensures.0 c.args.src.now (set c.args.notes.now 10 c.args.number) (item_wf c.args.number (source c.args.src.now c.args.ids.now c.args.ends.now) (bufs c.args.events.now c.args.errors.now c.args.scratch.now) (whole c.args.d.state c.args.notes.now) _ c.requires.0 c.requires.3 c.requires.1 (new_number c.args.notes.now (whole c.args.d.state c.args.notes.now) (long c.args.notes.now c.requires.1.0.1.long) c.args.number)).0) c.at_hand-h.ensures (c.tell-u.ensures (source c.args.src.now c.args.ids.now c.args.ends.now) c.at_hand-h.new.scratch c.at_hand-h.ensures.wf) c.settle.ensures.0 c.settle.ensures.1 c.settle.ensures.2 c.settle.auto.scratch
+pub returns-clause-read : goal.returns-clause-read
+returns-clause-read c =
+    let X = source_of c.args.x.now in
+    let H = c.at_hand-h.ensures.read in
+    let kept = ap (λ l. l.now) c.tell-u.ensures.scratch in
+    subst (λ (er : List ℕ). Goes (c.args.depth, c.args.x.now.entrypoint) c.args.number 1 X (tally c.args.d c.args.lent.now.notes) (tally c.settle.result c.settle.new.notes) (bufs_of c.args.lent.now) (bufs c.tell-u.new.lent.events.now er c.settle.new.scratch)) (sym c.tell-u.ensures.errors)
+    (item_goes c.args.number X (tally c.args.d c.args.lent.now.notes) (tally c.at_hand-h.result c.at_hand-h.new.lent.notes) (tally c.tell-u.result c.tell-u.new.lent.notes) _ _ _ _ _ _ _ _ _ c.at_hand-h.new.lent.scratch.now c.settle.new.scratch c.args.x.now.tiled c.requires.2 c.requires.0 c.requires.1
+    (more (length c.args.x.now.ids.now) (whole c.args.d.state c.args.lent.now.notes) (sym c.over.ensures ∙ c.if-over.false))
+    (c.trivia-t.ensures.0 (noting c.args.number c.args.lent.now.notes) (item_wf c.args.number (source_of c.args.x.now) (bufs_of c.args.lent.now) (whole c.args.d.state c.args.lent.now.notes) c.args.x.now.tiled c.requires.2 c.requires.0).0) H (c.tell-u.ensures.told X c.at_hand-h.new.lent.scratch.now H.wf) c.settle.ensures.0 c.settle.ensures.1
+    (subst (λ (l : List ℕ). Forgot c.tell-u.new.lent.notes.first c.tell-u.new.lent.notes.far l c.settle.new.scratch) kept c.settle.ensures.2) (c.settle.auto.scratch ∙ ap length kept))

@@ -1,45 +1,38 @@
 -- `outline` meets its promise: each way out is the definition (proofs/Answering).
-use Prim.Native.Nat.{◌*◌, ◌+◌}
-use mathlib.Core.Path.{ap, sym, ◌∙◌}
-use lib.ListN.{length}
-use native.Mathlib.Omega.{arith}
-use Rattle.shapes.specs.Shapes.{EVENT}
+use Rattle.std.proofs.Common.{◌≡◌, length, take, ap, sym, ◌∙◌, Err, rules, arith}
+use Rattle.shapes.specs.declared.refusal.Refusal.TheVariants.{Nesting}
 use Rattle.outline.specs.Rules as R
 use Rattle.outline.specs.Outline as O
-use Rattle.outline.specs.Steps as S
-use Rattle.outline.proofs.Descending.{flat_size, from_start}
-use Rattle.outline.proofs.Answering.{sound, no_room, answered, asked_past, asked_node, asked_other}
+use Rattle.outline.specs.Steps.{left}
+use Rattle.outline.specs.Returning.{returning}
+use Rattle.outline.proofs.Descending.{flat_size}
+use Rattle.outline.proofs.Answering.{no_room, answered, asked_past, asked_node, asked_other}
 use Rattle.outline.proofs.outline.Goals as goal
 
-pub returns-then-at-events : goal.returns-then-at-events
-returns-then-at-events c =
-    let s = c.args in
-    sym (ap (R.returned s.room.now) (sound s.events.now _ (sym c.well_formed-2.ensures ∙ c.if-not-well_formed.false) (sym c.nests.ensures ∙ c.if-not-nests.false) _ (sym c.count-c.ensures ∙ c.in-Rules.is) ∙ asked_past (O.outlined (length s.room.now) s.depth) s.events.now s.at c.if-at-events.true))
+pub returns-in_err-node : goal.returns-in_err-node
+returns-in_err-node c =
+    let refused : c.from_residual-in_err-node.result ≡ Err Nesting = search rules in
+    ap (λ r. returning r c.args.room.now) refused
+    ∙ sym (ap (R.returned c.args.room.now) (c.in_ok-judge.ensures.0 _ ∙ asked_past (O.outlined (length c.args.room.now) c.args.depth) (record { list = c.args.events }) c.nth.new.self c.args.at _ c.nth.ensures.ran c.in_err-node.ensures.ok_part))
 
-pub returns-then-not-opens : goal.returns-then-not-opens
-returns-then-not-opens c =
-    let s = c.args in
-    sym (ap (R.returned s.room.now) (sound s.events.now _ (sym c.well_formed-2.ensures ∙ c.if-not-well_formed.false) (sym c.nests.ensures ∙ c.if-not-nests.false) _ (sym c.count-c.ensures ∙ c.in-Rules.is) ∙ asked_other (O.outlined (length s.room.now) s.depth) s.events.now s.at c.if-at-events.false (S.event_of c.event_at-e.result) c.event_at-e.ensures (sym c.opens.ensures ∙ c.if-not-opens.true)))
+pub returns-in_default : goal.returns-in_default
+returns-in_default c = sym (ap (R.returned c.args.room.now) (c.in_ok-judge.ensures.0 _ ∙ asked_other (O.outlined (length c.args.room.now) c.args.depth) (record { list = c.args.events }) c.nth.new.self c.args.at _ c.nth.ensures.ran _ c.in_ok-node.ensures.ok_part c.in_default.not-Opens))
 
 pub returns-then-room-n : goal.returns-then-room-n
 returns-then-room-n c =
-    let s = c.args in
-    sym
-    (ap (R.returned s.room.now)
-    (sound s.events.now _ (sym c.well_formed-2.ensures ∙ c.if-not-well_formed.false) (sym c.nests.ensures ∙ c.if-not-nests.false) _ (sym c.count-c.ensures ∙ c.in-Rules.is)
-    ∙ asked_node (O.outlined (length s.room.now) s.depth) s.events.now s.at c.if-at-events.false (S.event_of c.event_at-e.result) c.event_at-e.ensures (sym c.opens.ensures ∙ c.if-not-opens.false)
-    ∙ no_room (length s.room.now) (length (S.nodes_below s.events.now (s.at * EVENT + EVENT) s.depth 1)) (O.flat (S.nodes_below s.events.now (s.at * EVENT + EVENT) s.depth 1)) (omega (arith, flat_size (S.nodes_below s.events.now (s.at * EVENT + EVENT) s.depth 1), c.sum-n.ensures, c.if-room-n.true))))
+    let nodes = O.below (left c.nth.new.self) 0 c.args.depth 1 in
+    let is = c.in_ok-judge.ensures.0 _ ∙ asked_node (O.outlined (length c.args.room.now) c.args.depth) (record { list = c.args.events }) c.nth.new.self c.args.at _ c.nth.ensures.ran _ c.in_ok-node.ensures.ok_part _ _ _ c.in-Opens.is in
+    sym (ap (R.returned c.args.room.now) (is ∙ no_room (length c.args.room.now) (length nodes) (O.flat nodes) (omega (arith, flat_size nodes, c.sum-n.ensures, c.if-room-n.true))))
 
-pub down-requires : goal.down-requires
-down-requires c =
-    let s = c.args in
-    (omega arith, omega arith, omega (arith, flat_size (S.nodes_below s.events.now (s.at * EVENT + EVENT) s.depth 1), c.sum-n.ensures, c.if-room-n.false))
+pub down-requires-clause-room : goal.down-requires-clause-room
+down-requires-clause-room c = omega (arith, flat_size (O.below (left c.nth.new.self) 0 c.args.depth 1), c.sum-n.ensures, c.if-room-n.false)
 
 pub returns : goal.returns
 returns c =
-    let s = c.args in
+    let nodes = O.below (left c.nth.new.self) 0 c.args.depth 1 in
+    let is = c.in_ok-judge.ensures.0 _ ∙ asked_node (O.outlined (length c.args.room.now) c.args.depth) (record { list = c.args.events }) c.nth.new.self c.args.at _ c.nth.ensures.ran _ c.in_ok-node.ensures.ok_part _ _ _ c.in-Opens.is in
     let n = c.sum-n.ensures in
-    let size = flat_size (S.nodes_below s.events.now (s.at * EVENT + EVENT) s.depth 1) in
+    let size = flat_size nodes in
     let down = c.down.ensures in
-    answered s.room.now _ _ (O.flat (S.nodes_below s.events.now (s.at * EVENT + EVENT) s.depth 1)) _ _ _ n (omega (arith, n, size)) (omega (arith, n, size, c.if-room-n.false)) down.same (from_start s.room.now _ _ _ down.upto down.done) c.clear.ensures
-    ∙ sym (ap (R.returned s.room.now) (sound s.events.now _ (sym c.well_formed-2.ensures ∙ c.if-not-well_formed.false) (sym c.nests.ensures ∙ c.if-not-nests.false) _ (sym c.count-c.ensures ∙ c.in-Rules.is) ∙ asked_node (O.outlined (length s.room.now) s.depth) s.events.now s.at c.if-at-events.false (S.event_of c.event_at-e.result) c.event_at-e.ensures (sym c.opens.ensures ∙ c.if-not-opens.false)))
+    answered c.args.room.now _ _ (O.flat nodes) _ _ _ n (omega (arith, n, size)) (omega (arith, n, size, c.if-room-n.false)) down.same (ap (λ i. take i c.down.new.room) (sym down.upto) ∙ down.done) c.fill.ensures
+    ∙ sym (ap (R.returned c.args.room.now) is)

@@ -1,34 +1,27 @@
 -- `rules` meets its promise: each way out is the definition (proofs/Answering).
-use mathlib.Core.Path.{ap, sym, ◌∙◌}
-use lib.ListN.{length}
-use native.Mathlib.Omega.{arith}
-use Rattle.outline.specs.Shape.{rest}
+use Rattle.std.proofs.Common.{length, ap, sym, ◌∙◌, arith}
+use Rattle.outline.specs.Shape.{events}
 use Rattle.outline.specs.Rules as R
 use Rattle.outline.proofs.Listing.{flat_length}
-use Rattle.outline.proofs.Answering.{sound, rules_count, no_room, answered}
+use Rattle.outline.proofs.Answering.{no_room, answered}
 use Rattle.outline.proofs.rules.Goals as goal
 
 pub returns-then-room-n : goal.returns-then-room-n
 returns-then-room-n c =
-    let s = c.args in
-    let q = sym c.count-c.ensures ∙ c.in-Rules.is in
-    let n = rules_count s.events.now _ q in
-    sym
-    (ap (R.returned s.room.now)
-    (sound s.events.now _ (sym c.well_formed-2.ensures ∙ c.if-not-well_formed.false) (sym c.nests.ensures ∙ c.if-not-nests.false) _ q
-    ∙ no_room (length s.room.now) (length (R.rules (rest s.events.now 0))) (R.flat (R.rules (rest s.events.now 0))) (omega (arith, flat_length (R.rules (rest s.events.now 0)), n, c.if-room-n.true))))
+    let list = R.rules (events c.args.events.now) in
+    let j = c.in_ok-n.ensures in
+    sym (ap (R.returned c.args.room.now) (j.0 _ ∙ no_room (length c.args.room.now) (length list) (R.flat list) (omega (arith, flat_length list, j.1, c.if-room-n.true))))
 
 pub write-requires : goal.write-requires
 write-requires c =
-    let s = c.args in
-    let n = rules_count s.events.now _ (sym c.count-c.ensures ∙ c.in-Rules.is) in
-    omega (arith, flat_length (R.rules (rest s.events.now 0)), n, c.if-room-n.false)
+    let list = R.rules (events c.args.events.now) in
+    let j = c.in_ok-n.ensures in
+    omega (arith, flat_length list, j.1, c.if-room-n.false)
 
 pub returns : goal.returns
 returns c =
-    let s = c.args in
-    let q = sym c.count-c.ensures ∙ c.in-Rules.is in
-    let n = rules_count s.events.now _ q in
-    let size = flat_length (R.rules (rest s.events.now 0)) in
-    answered s.room.now _ _ (R.flat (R.rules (rest s.events.now 0))) _ _ _ (sym n) (omega (arith, n, size)) (omega (arith, n, size, c.if-room-n.false)) c.write.auto.room c.write.ensures c.clear.ensures
-    ∙ sym (ap (R.returned s.room.now) (sound s.events.now _ (sym c.well_formed-2.ensures ∙ c.if-not-well_formed.false) (sym c.nests.ensures ∙ c.if-not-nests.false) _ q))
+    let list = R.rules (events c.args.events.now) in
+    let j = c.in_ok-n.ensures in
+    let size = flat_length list in
+    answered c.args.room.now _ _ (R.flat list) _ _ _ (sym j.1) (omega (arith, j.1, size)) (omega (arith, j.1, size, c.if-room-n.false)) c.write.auto.room c.write.ensures c.fill.ensures
+    ∙ sym (ap (R.returned c.args.room.now) (j.0 _))

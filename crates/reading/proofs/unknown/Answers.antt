@@ -1,10 +1,12 @@
 -- 18 behind the refusals before it.
-use Rattle.refusals.specs.Judge.{desk}
+use mathlib.Core.Path.{refl, sym, ap, ◌∙◌}
+use Rattle.refusals.specs.Judge.{desk, number_of}
+use Rattle.desk.proofs.Answering.{numbered}
 use Rattle.reading.proofs.Naming.{refused_before, refused_last}
 use Rattle.reading.proofs.unknown.Goals as goal
 
-pub returns-then-n-ne0 : goal.returns-then-n-ne0
-returns-then-n-ne0 c = λ fuel sc ev er h. refused_before (desk c.args.src.now c.args.ids.now c.args.starts.now c.args.ends.now fuel sc ev er) (c.judged-n.ensures fuel sc ev er h) c.if-n-ne0.true
+pub returns-in-Err : goal.returns-in-Err
+returns-in-Err c = λ fuel sc ev er h. refused_before (desk c.args.src.now c.args.ids.now c.args.starts.now c.args.ends.now fuel sc ev er) (sym (ap number_of c.in-Err.is) ∙ c.judged.ensures fuel sc ev er h) (numbered c.in-Err.refusal)
 
-pub returns : goal.returns
-returns c = λ fuel sc ev er h. refused_last (desk c.args.src.now c.args.ids.now c.args.starts.now c.args.ends.now fuel sc ev er) (c.judged-n.ensures fuel sc ev er h) c.if-n-ne0.false
+pub returns-in-Ok : goal.returns-in-Ok
+returns-in-Ok c = λ fuel sc ev er h. refused_last (desk c.args.src.now c.args.ids.now c.args.starts.now c.args.ends.now fuel sc ev er) (sym (ap number_of c.in-Ok.is) ∙ c.judged.ensures fuel sc ev er h) refl

@@ -1,11 +1,6 @@
--- `utf8_cases::fitting` is safe and ends.
-use Prim.Native.Nat.{◌≤◌, ◌-◌}
-use mathlib.Core.Path.{◌≡◌}
-use lib.ListN.{length}
+-- `utf8_cases::fitting` does not count past the bytes that it has put.
+use Prim.Native.Nat.{◌≤◌}
 use Rattle.utf8_cases.proofs.fitting.Given as goal
 
 abbrev pub invariant-loop-b : goal.invariant-loop-b
-invariant-loop-b l = (length l.s ≡ length l.initial.s) × ((l.b ≤ 255) × (l.found ≤ l.b))
-
-abbrev pub decreases-loop-b : goal.decreases-loop-b
-decreases-loop-b l = 256 - l.b
+invariant-loop-b l = l.found ≤ l.b

@@ -1,9 +1,6 @@
--- `numbers` is safe and ends: each field lies in the line, and each number in the cells.
-use Rattle.std.proofs.Common.{◌≡◌, ◌-◌, ◌≤◌, length}
+-- `numbers` is safe: the count never passes the cells.
+use Rattle.std.proofs.Common.{◌≤◌, length}
 use Rattle.vectors.proofs.numbers.Given as goal
 
-abbrev pub invariant-loop-n : goal.invariant-loop-n
-invariant-loop-n l = (l.n ≤ length l.initial.cells) × (l.at ≤ length l.line) × (length l.cells ≡ length l.initial.cells)
-
-abbrev pub decreases-loop-n : goal.decreases-loop-n
-decreases-loop-n l = length l.initial.cells - l.n
+abbrev pub invariant-loop-field : goal.invariant-loop-field
+invariant-loop-field l = l.n ≤ length l.cells

@@ -1,10 +1,6 @@
-use Prim.Native.Nat.{◌-◌}
 use Rattle.kinds.specs.Sets.{ids_of, set_of}
 use Rattle.choice.proofs.Spelling.{Entering}
 use Rattle.choice.proofs.Names.enter_ids.Given as goal
 
 abbrev pub invariant-loop-k : goal.invariant-loop-k
 invariant-loop-k l = Entering (ids_of (set_of l.set)) l.initial.self l.self l.k
-
-abbrev pub decreases-loop-k : goal.decreases-loop-k
-decreases-loop-k l = 16 - l.k

@@ -3,27 +3,41 @@ use Prim.Native.Nat.{ℕ}
 use native.Mathlib.Omega.{arith}
 use mathlib.Core.Path.{refl, sym, ap, ◌∙◌}
 use lib.ListN.{replicate}
+use Rattle.std.proofs.lemmas.Result.{err_from_is_err_and}
+use Rattle.shapes.specs.Refusal.{number}
 use Rattle.definition.specs.Answer.{refusing}
-use Rattle.refusals.specs.Judge.{desk}
+use Rattle.refusals.specs.Judge.{desk, number_of}
 use Rattle.refusals.proofs.Admitted.{judged_rows}
+use Rattle.notes.specs.Whole.{exceeded}
 use Rattle.desk.specs.Framing.{limits_of}
-use Rattle.desk.proofs.Answering.{refused_so, too_small, room_so, answer_so}
+use Rattle.desk.proofs.Answering.{numbered, none_full, refused_so, too_small, room_so, answer_so}
 use Rattle.desk.proofs.read.read.Goals as goal
 
-pub returns-then-n-ne0 : goal.returns-then-n-ne0
-returns-then-n-ne0 c = refused_so (limits_of c.args.limits) (desk c.args.src.now c.args.ids.now c.args.starts.now c.args.ends.now c.args.fuel c.args.scratch.now c.args.events.now c.args.errors.now) _ (c.judged-n.ensures c.args.fuel c.args.scratch.now c.args.events.now c.args.errors.now refl) (λ z. omega (arith, z, c.if-n-ne0.true))
+pub returns-in_err-judged : goal.returns-in_err-judged
+returns-in_err-judged c =
+    let p = err_from_is_err_and c.from_residual.result c.from_residual.ensures.1 in
+    rw (p.1, p.2) (refused_so (limits_of c.args.limits) (desk c.args.src.now c.args.ids.now c.args.starts.now c.args.ends.now c.args.fuel c.args.scratch.now c.args.events.now c.args.errors.now) (number c.in_err-judged.field-0.0) (sym (ap number_of c.in_err-judged.was) ∙ c.judged.ensures c.args.fuel c.args.scratch.now c.args.events.now c.args.errors.now refl) (numbered c.in_err-judged.field-0.0))
 
 pub returns-then-events-lt-EVENT : goal.returns-then-events-lt-EVENT
-returns-then-events-lt-EVENT c = c.spoilt.ensures ∙ too_small (limits_of c.args.limits) (desk c.args.src.now c.args.ids.now c.args.starts.now c.args.ends.now c.args.fuel c.args.scratch.now c.args.events.now c.args.errors.now) c.if-events-lt-EVENT.true (sym c.if-n-ne0.false ∙ (c.judged-n.ensures c.args.fuel c.args.scratch.now c.args.events.now c.args.errors.now refl))
+returns-then-events-lt-EVENT c = c.spoilt.ensures ∙ too_small (limits_of c.args.limits) (desk c.args.src.now c.args.ids.now c.args.starts.now c.args.ends.now c.args.fuel c.args.scratch.now c.args.events.now c.args.errors.now) c.if-events-lt-EVENT.true (sym (ap number_of c.in_ok-judged.was) ∙ c.judged.ensures c.args.fuel c.args.scratch.now c.args.events.now c.args.errors.now refl)
 
-pub whole-d-requires : goal.whole-d-requires
-whole-d-requires c = let j = judged_rows (desk c.args.src.now c.args.ids.now c.args.starts.now c.args.ends.now c.args.fuel c.args.scratch.now c.args.events.now c.args.errors.now) (sym (sym c.if-n-ne0.false ∙ (c.judged-n.ensures c.args.fuel c.args.scratch.now c.args.events.now c.args.errors.now refl))) in (j.rows, c.wipe.ensures ∙ ap (λ (n : ℕ). replicate n 0) (sym c.wipe.auto.words), omega (arith, j.scratch, c.wipe.auto.words), c.if-events-lt-EVENT.false, refl)
+pub invariant_of-x : goal.invariant_of-x
+invariant_of-x c = record { tiled = (judged_rows (desk c.args.src.now c.args.ids.now c.args.starts.now c.args.ends.now c.args.fuel c.args.scratch.now c.args.events.now c.args.errors.now) (sym (sym (ap number_of c.in_ok-judged.was) ∙ c.judged.ensures c.args.fuel c.args.scratch.now c.args.events.now c.args.errors.now refl))).rows }
 
-pub returns-then-s-ne0 : goal.returns-then-s-ne0
-returns-then-s-ne0 c = c.spoilt-then-s-ne0.ensures ∙ (λ i. refusing c.whole-d.result.state.full (replicate (c.whole-d.auto.events i) 0) (replicate (c.whole-d.auto.errors i) 0) (replicate ((c.whole-d.auto.scratch ∙ c.wipe.auto.words) i) 0)) ∙ room_so (limits_of c.args.limits) (desk c.args.src.now c.args.ids.now c.args.starts.now c.args.ends.now c.args.fuel c.args.scratch.now c.args.events.now c.args.errors.now) c.whole-d.result c.whole-d.new.notes (sym c.if-n-ne0.false ∙ (c.judged-n.ensures c.args.fuel c.args.scratch.now c.args.events.now c.args.errors.now refl)) c.whole-d.ensures c.if-s-ne0.true
+pub whole-ended-requires : goal.whole-ended-requires
+whole-ended-requires c =
+    let j = judged_rows (desk c.args.src.now c.args.ids.now c.args.starts.now c.args.ends.now c.args.fuel c.args.scratch.now c.args.events.now c.args.errors.now) (sym (sym (ap number_of c.in_ok-judged.was) ∙ c.judged.ensures c.args.fuel c.args.scratch.now c.args.events.now c.args.errors.now refl)) in
+    (refl, c.fill.ensures ∙ ap (λ (n : ℕ). replicate n 0) (sym c.fill.auto.cells), omega (arith, j.scratch, c.fill.auto.cells), c.if-events-lt-EVENT.false)
 
-pub answered-requires : goal.answered-requires
-answered-requires c = let q = c.whole-d.ensures.finished c.if-s-ne0.false in (q.event_fits, q.error_fits)
+pub returns-in-Some : goal.returns-in-Some
+returns-in-Some c =
+    let is = ap exceeded c.in-Some.is in
+    c.spoilt-in-Some.ensures
+    ∙ (λ i. refusing (sym is i) (replicate (c.whole-ended.auto.events i) 0) (replicate (c.whole-ended.auto.errors i) 0) (replicate ((c.whole-ended.auto.scratch ∙ c.fill.auto.cells) i) 0))
+    ∙ room_so (limits_of c.args.limits) (desk c.args.src.now c.args.ids.now c.args.starts.now c.args.ends.now c.args.fuel c.args.scratch.now c.args.events.now c.args.errors.now) c.whole-ended.result.desk c.whole-ended.result.er (sym (ap number_of c.in_ok-judged.was) ∙ c.judged.ensures c.args.fuel c.args.scratch.now c.args.events.now c.args.errors.now refl) c.whole-ended.ensures (λ z. numbered c.in-Some.room (sym is ∙ z))
+
+pub finished-requires : goal.finished-requires
+finished-requires c = let q = c.whole-ended.ensures.finished (none_full _ c.in_default.not-Some) in (q.event_fits, q.error_fits)
 
 pub returns : goal.returns
-returns c = c.answered.ensures ∙ answer_so (limits_of c.args.limits) (desk c.args.src.now c.args.ids.now c.args.starts.now c.args.ends.now c.args.fuel c.args.scratch.now c.args.events.now c.args.errors.now) c.whole-d.result c.whole-d.new.notes (sym c.if-n-ne0.false ∙ (c.judged-n.ensures c.args.fuel c.args.scratch.now c.args.events.now c.args.errors.now refl)) c.whole-d.ensures c.if-s-ne0.false c.whole-d.auto.events c.whole-d.auto.errors c.whole-d.new.scratch (c.whole-d.auto.scratch ∙ c.wipe.auto.words)
+returns c = c.finished.ensures ∙ answer_so (limits_of c.args.limits) (desk c.args.src.now c.args.ids.now c.args.starts.now c.args.ends.now c.args.fuel c.args.scratch.now c.args.events.now c.args.errors.now) c.whole-ended.result.desk c.whole-ended.result.er (sym (ap number_of c.in_ok-judged.was) ∙ c.judged.ensures c.args.fuel c.args.scratch.now c.args.events.now c.args.errors.now refl) c.whole-ended.ensures (none_full _ c.in_default.not-Some) c.whole-ended.auto.events c.whole-ended.auto.errors c.whole-ended.new.scratch (c.whole-ended.auto.scratch ∙ c.fill.auto.cells)

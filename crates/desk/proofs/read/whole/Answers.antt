@@ -1,30 +1,22 @@
 -- SOURCE_FILE around all items.
-use Prim.Native.Nat.{◌-◌}
+use Prim.Native.Nat.{ℕ}
 use native.Mathlib.Omega.{arith}
-use mathlib.Core.Path.{refl}
-use lib.ListN.{length, length-set}
+use mathlib.Core.Path.{sym, ap, ◌∙◌}
+use mathlib.Core.Bool.{Bool}
+use lib.ListN.{length}
 use Rattle.kinds.specs.Kinds as k
-use Rattle.shapes.specs.Sort as Sort
-use Rattle.notes.specs.Means.{source}
+use Rattle.shapes.specs.Shapes.{event}
+use Rattle.notes.specs.Reading.{source_of}
 use Rattle.notes.proofs.Lists.{stored, take_event, length_event}
 use Rattle.desk.specs.Framing.{limits_of}
 use Rattle.desk.proofs.Framing.{opens, frames}
 use Rattle.desk.proofs.read.whole.Goals as goal
 
-pub bounds-events-1 : goal.bounds-events-1
-bounds-events-1 c = simp length-set (omega (arith, c.requires.3))
-
-pub bounds-events-2 : goal.bounds-events-2
-bounds-events-2 c = simp length-set (omega (arith, c.requires.3))
-
-pub bounds-events-3 : goal.bounds-events-3
-bounds-events-3 c = simp length-set (omega (arith, c.requires.3))
-
-pub bounds-events-4 : goal.bounds-events-4
-bounds-events-4 c = simp length-set (omega (arith, c.requires.3))
-
-pub items_by-r-requires : goal.items_by-r-requires
-items_by-r-requires c = let w = opens (limits_of c.args.limits) (source c.args.src.now c.args.ids.now c.args.ends.now) c.args.fuel (stored c.args.events.now 0 Sort.BEGIN k.SOURCE_FILE 0 (length c.args.src.now) 0) c.args.errors.now c.args.scratch.now c.args.notes.now c.blank-d.ensures c.requires.4 c.requires.2 in (c.requires.0, w.0, w.1)
+pub all_items-r-requires : goal.all_items-r-requires
+all_items-r-requires c = opens (limits_of c.args.limits) (source_of c.args.x.now) c.args.fuel (stored c.args.events.now 0 c.from.result k.SOURCE_FILE 0 (length c.args.x.now.src.now) 0) c.args.errors.now c.args.scratch.now c.blank-d.ensures c.fresh-notes.ensures c.requires.2
 
 pub returns : goal.returns
-returns c = frames (limits_of c.args.limits) (source c.args.src.now c.args.ids.now c.args.ends.now) c.args.fuel (stored c.args.events.now 0 Sort.BEGIN k.SOURCE_FILE 0 (length c.args.src.now) 0) c.args.errors.now c.args.scratch.now c.args.notes.now c.blank-d.ensures c.requires.4 c.requires.1 (omega (arith, c.requires.3, length_event c.args.events.now 0 Sort.BEGIN k.SOURCE_FILE 0 (length c.args.src.now) 0)) _ (length_event c.args.events.now 0 Sort.BEGIN k.SOURCE_FILE 0 (length c.args.src.now) 0) (take_event c.args.events.now 0 Sort.BEGIN k.SOURCE_FILE 0 (length c.args.src.now) 0 c.requires.3) refl (omega (arith, c.well_formed)) c.items_by-r.ensures (c.write-t.ensures c.items_by-r.new.notes)
+returns c = frames (limits_of c.args.limits) (source_of c.args.x.now) c.args.fuel (stored c.args.events.now 0 c.from.result k.SOURCE_FILE 0 (length c.args.x.now.src.now) 0) c.args.errors.now c.args.scratch.now c.blank-d.ensures c.fresh-notes.ensures c.requires.1
+    (omega (arith, c.requires.3, (length_event c.args.events.now 0 c.from.result k.SOURCE_FILE 0 (length c.args.x.now.src.now) 0))) (length c.args.events.now) (length_event c.args.events.now 0 c.from.result k.SOURCE_FILE 0 (length c.args.x.now.src.now) 0)
+    (take_event c.args.events.now 0 c.from.result k.SOURCE_FILE 0 (length c.args.x.now.src.now) 0 c.requires.3 ∙ ap (λ (i : ℕ). event i k.SOURCE_FILE 0 (length c.args.x.now.src.now) 0) c.from.ensures)
+    (ap (λ (b : Bool). (c.args.limits.depth, b)) (sym c.requires.0)) (omega (arith, c.well_formed)) c.all_items-r.ensures.1 c.all_items-r.ensures.2 (c.write-t.ensures c.all_items-r.ensures.0)

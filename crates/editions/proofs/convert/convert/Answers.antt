@@ -1,12 +1,15 @@
 -- `editions::convert::convert` meets its contract, by what the first pass found.
-use Rattle.editions.proofs.Judging.{refused_line, refused_room, made_text}
+use mathlib.Core.Path.{refl}
+use Rattle.std.proofs.Common.{rules}
+use Rattle.std.proofs.lemmas.Result.{err_from_is_err_and}
+use Rattle.editions.proofs.Judging.{refused_by, made_by}
 use Rattle.editions.proofs.convert.convert.Goals as goal
 
-pub returns-in-Stray : goal.returns-in-Stray
-returns-in-Stray c = refused_line c.args.up c.args.text.now c.args.room.now c.judge.ensures c.in-Stray.is
+pub returns-in_err-judge : goal.returns-in_err-judge
+returns-in_err-judge c =
+    let p = err_from_is_err_and c.from_residual.result c.from_residual.ensures.1 in
+    rw (p.1, p.2) (refused_by c.args.up c.args.text.now c.args.room.now c.judge.ensures _ c.in_err-judge.was)
 
-pub returns-in-Full : goal.returns-in-Full
-returns-in-Full c = refused_room c.args.up c.args.text.now c.args.room.now c.judge.ensures c.in-Full.is
-
-pub returns-in-Fits : goal.returns-in-Fits
-returns-in-Fits c = made_text c.args.up c.args.text.now c.args.room.now c.judge.ensures c.in-Fits.is c.write-end.ensures c.blank.ensures
+pub returns : goal.returns
+returns c =
+    made_by c.args.up c.args.text.now c.args.room.now c.judge.ensures c.in_ok-judge.was c.write.ensures refl refl c.fill.ensures (λ e. search rules)

@@ -5,7 +5,7 @@ use Rattle.editions.proofs.Judging.{Writing}
 use Rattle.editions.proofs.convert.write.Given as goal
 
 abbrev pub invariant-loop-at : goal.invariant-loop-at
-invariant-loop-at l = Writing l.up l.text l.number l.depth l.at l.initial.room l.room l.end
+invariant-loop-at l = Writing l.up l.text l.number l.depth l.at l.initial.page l.page
 
 abbrev pub decreases-loop-at : goal.decreases-loop-at
 decreases-loop-at l = length l.text - l.at

@@ -1,9 +1,10 @@
--- `listing::read::piece_end` meets its contract: no byte passed is the mark.
-use Rattle.listing.proofs.Pieces.{seeking, seeking_on}
+-- `listing::read::piece_end` meets its contract: the first mark behind the place ends the piece.
+use mathlib.Core.Path.{sym, ◌∙◌}
+use Rattle.listing.proofs.Pieces.{found, unfound}
 use Rattle.listing.proofs.read.piece_end.Goals as goal
 
-pub loop-to-init : goal.loop-to-init
-loop-to-init c = seeking _ _ _ c.requires
+pub returns-in-Some : goal.returns-in-Some
+returns-in-Some c = found c.requires (sym c.in-Some.is ∙ c.first_mark.ensures)
 
-pub loop-to-preserved : goal.loop-to-preserved
-loop-to-preserved c = seeking_on c.loop-to.invariant c.loop-to-test.true c.if-text-to.false
+pub returns-in-None : goal.returns-in-None
+returns-in-None c = unfound c.requires (sym c.in-None.is ∙ c.first_mark.ensures)

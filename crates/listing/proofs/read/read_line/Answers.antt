@@ -1,5 +1,6 @@
 -- `listing::read::read_line` meets its contract, by the places of the first carriage return and the first tab.
 use mathlib.Core.Path.{◌∙◌}
+use Rattle.std.proofs.Common.{rules}
 use Rattle.listing.proofs.Fields.{too_long, returned, no_letter, no_field, is_source, is_row, is_neither}
 use Rattle.listing.proofs.read.read_line.Goals as goal
 
@@ -27,4 +28,4 @@ returns-in-84 c =
 
 pub returns-in_default : goal.returns-in_default
 returns-in_default c =
-    is_neither c.if-line-gt-LONGEST.false c.piece_end.ensures c.if-piece_end-line.false c.piece_end-2.ensures c.if-piece_end-ne1.false c.if-line-lt2.false c.in_default.in_default-own.rest.0.1 c.in_default.in_default-own.rest.1
+    is_neither c.if-line-gt-LONGEST.false c.piece_end.ensures c.if-piece_end-line.false c.piece_end-2.ensures c.if-piece_end-ne1.false c.if-line-lt2.false (λ e. search rules) (λ e. search rules)

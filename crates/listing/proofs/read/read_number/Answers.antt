@@ -1,21 +1,17 @@
 -- `listing::read::read_number` meets its contract: the bytes passed are digits that spell n.
-use mathlib.Core.Path.{sym, ap}
+use mathlib.Core.Path.{sym, ◌∙◌}
 use native.Mathlib.Omega.{arith}
-use Rattle.listing.specs.Read.{number_of}
-use Rattle.listing.proofs.Digits.{empty, below, above, over, read}
+use Rattle.listing.proofs.Digits.{empty, stray, over, read}
 use Rattle.listing.proofs.read.read_number.Goals as goal
 
-pub returns-then-text-eq0 : goal.returns-then-text-eq0
-returns-then-text-eq0 c = ap number_of (sym (empty _ c.if-text-eq0.true))
+pub returns-then-is_empty : goal.returns-then-is_empty
+returns-then-is_empty c = sym (empty c.args.text.now (sym c.is_empty.ensures ∙ c.if-is_empty.true))
 
-pub returns-then-b-lt48 : goal.returns-then-b-lt48
-returns-then-b-lt48 c = ap number_of (sym (below c.loop-i.invariant c.loop-i-test.true c.if-b-lt48.true))
-
-pub returns-then-b-gt57 : goal.returns-then-b-gt57
-returns-then-b-gt57 c = ap number_of (sym (above c.loop-i.invariant c.loop-i-test.true c.if-b-gt57.true))
+pub returns-then-not-is_ascii_digit : goal.returns-then-not-is_ascii_digit
+returns-then-not-is_ascii_digit c = sym (stray c.loop-b.invariant c.loop-b-test.true (sym c.is_ascii_digit.ensures.value ∙ c.if-not-is_ascii_digit.true))
 
 pub returns-then-n-gt4294967295 : goal.returns-then-n-gt4294967295
-returns-then-n-gt4294967295 c = ap number_of (sym (over c.loop-i.invariant c.loop-i-test.true c.if-n-gt4294967295.true))
+returns-then-n-gt4294967295 c = sym (over c.loop-b.invariant c.loop-b-test.true (omega (arith, c.from.ensures, c.if-n-gt4294967295.true)))
 
 pub returns : goal.returns
-returns c = ap number_of (sym (read c.loop-i.invariant (omega arith) c.loop-i-test.false))
+returns c = sym (read c.loop-b.invariant (sym c.is_empty.ensures ∙ c.if-is_empty.false) c.loop-b-test.false)

@@ -1,7 +1,13 @@
 -- `listing::write::error_line` meets its contract: the pieces of the line are joined.
-use Rattle.listing.proofs.Written.{spelled, put_as, joins}
+use mathlib.Core.Path.{refl}
+use Rattle.std.proofs.Common.{rules}
+use Rattle.listing.proofs.Written.{spelled_by, wrote_as, then}
 use Rattle.listing.proofs.Records.{behind_error}
 use Rattle.listing.proofs.write.error_line.Goals as goal
 
 pub returns : goal.returns
-returns c = spelled (put_as (behind_error c.args.edition c.args.list.now c.number_at.ensures) (joins c.put_byte-letter_end.ensures (joins (joins c.put_error-fields_end.ensures.put c.put_last-item_end.ensures.put) c.put_byte.ensures)))
+returns c =
+    spelled_by
+    (wrote_as (behind_error c.args.edition c.args.list.now c.number_at.ensures)
+    (then c.put_byte.ensures (then (then c.put_error.ensures.put c.put_last.ensures.put) c.put_byte-2.ensures)))
+    refl (λ e. search rules)

@@ -7,4 +7,4 @@ use Rattle.listing.proofs.write.names_of.Goals as goal
 pub returns-clause-result_value : goal.returns-clause-result_value
 returns-clause-result_value c =
     let l = c.args.list.now in
-    let e = names l c.least-from.ensures (c.least-count.ensures ∙ ap (λ (n : ℕ). min n 85) c.number_at.ensures) c.least.ensures in e
+    let e = names l c.min-from.ensures (c.min-count.ensures ∙ ap (λ (n : ℕ). min n 85) c.number_at.ensures) c.min.ensures in e

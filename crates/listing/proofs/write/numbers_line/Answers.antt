@@ -1,7 +1,8 @@
 -- `listing::write::numbers_line` meets its contract: the letter, the numbers and the line feed are joined.
-use Rattle.listing.proofs.Written.{spelled, joins}
+use mathlib.Core.Path.{refl}
+use Rattle.std.proofs.Common.{rules}
+use Rattle.listing.proofs.Written.{spelled_by, then}
 use Rattle.listing.proofs.write.numbers_line.Goals as goal
 
 pub returns : goal.returns
-returns c =
-    spelled (joins c.put_byte-letter_end.ensures (joins c.put_numbers-end.ensures.put c.put_byte.ensures))
+returns c = spelled_by (then c.put_byte.ensures (then c.put_numbers.ensures.put c.put_byte-2.ensures)) refl (λ e. search rules)

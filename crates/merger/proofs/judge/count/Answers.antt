@@ -1,30 +1,29 @@
--- `count` finds refusal 10 or the size of the finished list. The invariant: the tally and the marks from here on come to the same.
-use mathlib.Core.Path.{refl, ap, sym, ◌∙◌}
+-- `count` finds refusal 10 or the size of the finished list. The invariant: the tally and the marks that are left come to the same.
+use mathlib.Core.Path.{◌≡◌, refl, sym, ◌∙◌}
 use native.Mathlib.Omega.{arith}
+use Rattle.std.specs.Prelude.{Some}
 use Rattle.events.specs.Events.{entry_at}
-use Rattle.merger.specs.Events.{rest}
-use Rattle.merger.specs.declared.judge.Tally.TheVariants as tally
-use Rattle.merger.proofs.Counting.{comes, comes_first, comes_turn, comes_last, comes_open}
-use Rattle.merger.proofs.Reading.{other_at, rest_end}
+use Rattle.merger.specs.Events.{marks_of, mark_of}
+use Rattle.merger.specs.Count.{tallied}
+use Rattle.merger.proofs.Counting.{comes_first, comes_turn, tallied_more}
+use Rattle.merger.proofs.Reading.{other_event}
 use Rattle.merger.proofs.judge.count.Goals as goal
 
-pub loop-at-init : goal.loop-at-init
-loop-at-init c = (omega arith, omega arith, omega arith, comes_first (rest c.args.events.now 0))
+pub loop-event-init : goal.loop-event-init
+loop-event-init c = (omega arith, omega arith, comes_first (marks_of c.args.events.now))
 
-pub loop-at-preserved : goal.loop-at-preserved
-loop-at-preserved c =
-    let events = c.args.events.now in
-    let read = other_at events c.loop-at.at (omega arith) (entry_at events c.loop-at.at) refl c.if-events-at-eq-ERROR.false in
-    (omega arith, omega (arith, c.loop-at.invariant), omega (arith, c.loop-at.invariant), c.loop-at.invariant.3 ∙ comes_turn _ _ _ c.loop-at.nodes c.loop-at.left _ read refl)
+pub loop-event-preserved-then-event : goal.loop-event-preserved-then-event
+loop-event-preserved-then-event c =
+    let old = c.loop-event.tally in
+    let tally = c.in_ok-tally.tally in
+    let mark = mark_of c.first_mark-mark.result.0 in
+    let with : tallied mark old.nodes old.left ≡ Some tally = sym c.with.ensures ∙ c.in_ok-tally.was in
+    let more = tallied_more mark old.nodes old.left tally.nodes tally.left with in
+    (omega (arith, more.0), omega (arith, more.1), c.loop-event.invariant.2 ∙ comes_turn _ _ _ old.nodes old.left _ c.first_mark-mark.ensures.first (sym with))
 
-pub returns-then-nodes-eq0 : goal.returns-then-nodes-eq0
-returns-then-nodes-eq0 c =
-    let end = c.loop-at in
-    let none = rest_end c.args.events.now end.at c.loop-at-test.false in
-    sym (end.invariant.3 ∙ ap (comes (tally.Open end.nodes end.left)) none ∙ comes_last end.nodes end.left c.if-nodes-eq0.true)
-
-pub returns-else-nodes-eq0 : goal.returns-else-nodes-eq0
-returns-else-nodes-eq0 c =
-    let end = c.loop-at in
-    let none = rest_end c.args.events.now end.at c.loop-at-test.false in
-    sym (end.invariant.3 ∙ ap (comes (tally.Open end.nodes end.left)) none ∙ comes_open end.nodes end.left c.if-nodes-eq0.false)
+pub loop-event-preserved : goal.loop-event-preserved
+loop-event-preserved c =
+    let rest = c.loop-event.rest.now in
+    let split = c.in-Some.ensures.cases in
+    let read = other_event rest split.0 split.1 split.2 c.if-event.false (entry_at rest 0) refl in
+    (omega (arith, split.2), omega (arith, split.2), c.loop-event.invariant.2 ∙ comes_turn _ _ _ c.loop-event.tally.nodes c.loop-event.tally.left _ read refl)

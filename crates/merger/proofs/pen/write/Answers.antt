@@ -1,37 +1,32 @@
 -- `write` leaves the finished list at the front of the room. The invariant: the room is a draft of it (proofs/Drafting).
 use mathlib.Core.Path.{refl, ◌∙◌}
-use native.Mathlib.Omega.{arith}
 use Rattle.events.specs.Events.{entry_of}
-use Rattle.merger.specs.Events.{rest}
-use Rattle.merger.proofs.Reading.{other_at, rest_end}
+use Rattle.merger.specs.Events.{marks_of}
+use Rattle.merger.proofs.Reading.{other_event, none_left}
 use Rattle.merger.proofs.Drafting.{started, able, drafted, completed}
 use Rattle.merger.proofs.pen.write.Goals as goal
 
-pub loop-at-init : goal.loop-at-init
-loop-at-init c = (omega arith, refl, started (rest c.args.events.now 0) c.args.room.now c.requires.nested c.requires.fits)
+pub loop-event-init : goal.loop-event-init
+loop-event-init c = (refl, started (marks_of c.args.events.now) c.args.room.now c.requires.nested c.requires.fits)
 
 pub turn-pen-requires : goal.turn-pen-requires
-turn-pen-requires c = able _ _ _ _ _ c.mark_at-n.ensures.first c.loop-at.invariant.2
+turn-pen-requires c = able _ _ _ _ _ c.first_mark-mark.ensures.first c.loop-event.invariant.1
 
-pub loop-at-preserved-then-events-at-eq-ERROR : goal.loop-at-preserved-then-events-at-eq-ERROR
-loop-at-preserved-then-events-at-eq-ERROR c =
-    let turn = c.turn-pen in
-    let read = c.mark_at-n.ensures in
-    let inv = c.loop-at.invariant in
-    (omega (arith, read), turn.auto.room ∙ inv.1, drafted _ _ _ _ _ read.first inv.2 _ turn.ensures)
+pub loop-event-preserved-then-event : goal.loop-event-preserved-then-event
+loop-event-preserved-then-event c =
+    (c.turn-pen.auto.room ∙ c.loop-event.invariant.0, drafted _ _ _ _ _ c.first_mark-mark.ensures.first c.loop-event.invariant.1 _ c.turn-pen.ensures)
 
 pub keeps-pen-requires : goal.keeps-pen-requires
 keeps-pen-requires c =
-    let read = c.read-e in
-    let loop = c.loop-at in
-    able _ _ _ _ _ (other_at c.args.events.now loop.at (omega arith) (entry_of read.result) read.ensures c.if-events-at-eq-ERROR.false) loop.invariant.2
+    let split = c.in-Some.ensures.cases in
+    able _ _ _ _ _ (other_event c.loop-event.rest.now split.0 split.1 split.2 c.if-event.false (entry_of c.read.result) c.read.ensures) c.loop-event.invariant.1
 
-pub loop-at-preserved : goal.loop-at-preserved
-loop-at-preserved c =
-    let keeps = c.keeps-pen in
-    let read = c.read-e in
-    let loop = c.loop-at in
-    (omega arith, keeps.auto.room ∙ loop.invariant.1, drafted _ _ _ _ _ (other_at c.args.events.now loop.at (omega arith) (entry_of read.result) read.ensures c.if-events-at-eq-ERROR.false) loop.invariant.2 _ keeps.ensures)
+pub loop-event-preserved : goal.loop-event-preserved
+loop-event-preserved c =
+    let split = c.in-Some.ensures.cases in (
+      c.keeps-pen.auto.room ∙ c.loop-event.invariant.0,
+      drafted _ _ _ _ _ (other_event c.loop-event.rest.now split.0 split.1 split.2 c.if-event.false (entry_of c.read.result) c.read.ensures) c.loop-event.invariant.1 _ c.keeps-pen.ensures,
+    )
 
 pub returns : goal.returns
-returns c = let s = c.args in completed _ _ _ (rest_end s.events.now c.loop-at.at c.loop-at-test.false) c.loop-at.invariant.2
+returns c = completed _ _ _ (none_left c.loop-event.rest.now c.in_default.ensures.cases) c.loop-event.invariant.1

@@ -1,12 +1,18 @@
--- `messages::writing::put` meets its contract: after `i` turns the first `i` bytes of the text are written.
-use mathlib.Core.Path.{sym}
-use native.Mathlib.Numerals.{add-one}
+-- `messages::writing::put` meets its contract.
+use Prim.Native.Nat.{◌+◌}
+use mathlib.Core.Path.{refl, ap₂}
+use mathlib.Core.List.{◌++◌}
 use native.Mathlib.Omega.{arith}
-use lib.Seq.{take-suc}
-use Rattle.messages.proofs.Puts.{running_on}
+use borrow.Rule.Slice.PartMut.{Post-is}
+use lib.ListN.{length, take}
 use Rattle.messages.proofs.writing.put.Goals as goal
 
-pub loop-i-preserved : goal.loop-i-preserved
-loop-i-preserved c =
-    running_on c.loop-i.invariant c.loop-i-test.true (sym (rw add-one (take-suc _ _ 0 c.loop-i-test.true))) c.put_byte-end.ensures
-    (omega (arith, c.put_byte-end.ensures.count))
+pub returns : goal.returns
+returns c =
+    record {
+      count = refl;
+      within = c.requires;
+      written =
+          ap₂ (λ t rest. take c.args.at c.args.room.now ++ (t ++ rest)) c.copy_from_slice.ensures.after
+          (Post-is c.args.at (c.args.at + length c.args.text.now) c.args.room.now (omega arith));
+    }

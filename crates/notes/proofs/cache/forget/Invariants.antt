@@ -1,5 +1,5 @@
 -- `cache::forget` meets its contract: the rows before word `at` are forgotten, and no bit was set.
-use Prim.Native.Nat.{◌*◌, ◌-◌}
+use Prim.Native.Nat.{◌*◌}
 use mathlib.Core.Path.{◌≡◌}
 use lib.ListN.{length}
 use Rattle.notes.specs.Bits.{Forgot}
@@ -7,6 +7,3 @@ use Rattle.notes.proofs.cache.forget.Given as goal
 
 abbrev pub invariant-loop-at : goal.invariant-loop-at
 invariant-loop-at l = Forgot l.from (32 * l.at) l.initial.scratch l.scratch × (length l.scratch ≡ length l.initial.scratch)
-
-abbrev pub decreases-loop-at : goal.decreases-loop-at
-decreases-loop-at l = length l.initial.scratch - l.at

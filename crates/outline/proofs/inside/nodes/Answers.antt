@@ -1,21 +1,19 @@
--- `nodes` counts the nodes of a kind. The invariant: what is counted and what is inside from here on come to the same.
-use mathlib.Core.Path.{ap, sym, ◌∙◌}
-use native.Mathlib.Omega.{arith}
-use Rattle.outline.specs.Rules as R
-use Rattle.outline.specs.Steps.{event_of}
-use Rattle.outline.proofs.Walking.{further_few, begins_few, inside_end, nodes_on}
+-- `nodes` counts what the definition does, of the events inside.
+use Rattle.std.proofs.Common.{ℕ, length, ap, ◌∙◌, inl, rules, tests, arith}
+use Rattle.std.proofs.lemmas.Iterator.Consumers.{YieldsList-from_first, YieldsList-from_filter, count_from_yields_List}
+use Rattle.outline.specs.declared.shape.Event.{Event}
+use Rattle.outline.specs.Steps.{left, levels, begins}
+use Rattle.outline.specs.Levels.{inside_left}
+use Rattle.outline.proofs.Numbers.{few}
+use Rattle.outline.proofs.Walking.{levels_few, nodes_levels}
 use Rattle.outline.proofs.inside.nodes.Goals as goal
 
-pub loop-at-preserved : goal.loop-at-preserved
-loop-at-preserved c =
-    let e = event_of c.event_at-e.result in
-    let q = sym c.in-Open.is ∙ c.further-l.ensures in
-    let more = nodes_on c.args.events.now c.loop-at.at e c.event_at-e.ensures (omega arith) c.loop-at.h _ q c.args.kind in
-    let few = further_few e c.loop-at.h _ q in
-    let one = begins_few c.args.kind e in
-    (omega arith, omega (arith, few), omega (arith, one, c.begins-n.ensures), omega (arith, c.loop-at.invariant.3, more, c.begins-n.ensures))
+pub count-requires-clause-fits : goal.count-requires-clause-fits
+count-requires-clause-fits c = inl (omega (arith, ap length (ap inside_left c.filter.ensures.source ∙ c.of.ensures), levels_few (left c.args.events) 1, few c.args.events.list.now))
 
 pub returns : goal.returns
 returns c =
-    let none = inside_end c.args.events.now c.loop-at.at c.loop-at.h c.loop-at-test.false in
-    omega (arith, c.loop-at.invariant.3, ap (R.nodes c.args.kind) none)
+    let all = ap inside_left c.filter.ensures.source ∙ c.of.ensures in
+    count_from_yields_List c.filter.result _ c.count.ensures.ran
+    (YieldsList-from_filter _ (λ (p : Event × ℕ). begins c.args.kind p.0) (YieldsList-from_first (λ x. x) inside_left (levels (left c.args.events) 1) all) c.filter.ensures.closure (λ x r q k. search (rules, tests)))
+    ∙ nodes_levels c.args.kind (left c.args.events) 0

@@ -3,20 +3,20 @@ use mathlib.Core.Path.{ap, ◌∙◌}
 use Rattle.kinds.specs.Sets.{set_of}
 use Rattle.definition.specs.Prog.{eat}
 use Rattle.notes.specs.Change.{with_mode}
-use Rattle.notes.specs.Means.{source, names_of}
-use Rattle.steps.specs.Steps.{whole}
+use Rattle.notes.specs.Means.{names_of}
 use Rattle.parts.specs.Parts.{optionally}
 use Rattle.parts.proofs.Lines.{from, plus_e, plus_t, stops, waives, waived_on, waived_back}
+use Rattle.steps.proofs.Modes.{failed, fine, not_failed, not_fine}
 use Rattle.parts.proofs.tuples.maybe.Goals as goal
 
-pub returns-then-s-ne-OK : goal.returns-then-s-ne-OK
+pub returns-then-ne-clause-read : goal.returns-then-ne-clause-read
 unfolding names_of
-returns-then-s-ne-OK c = stops (from (source c.args.src.now c.args.ids.now c.args.ends.now) (whole c.args.s c.args.notes.now) c.args.ev.now c.args.er.now c.args.sc.now c.requires.0.1) c.args.ep c.args.d c.args.may (optionally c.args.set) tt c.if-s-ne-OK.true
+returns-then-ne-clause-read c = stops (from c.args.x.now c.args.s c.args.lent.now c.requires.0) c.args.x.now.entrypoint c.args.d c.args.may (optionally c.args.set) tt (not_fine _ c.if-ne.ensures)
 
-pub returns-then-s-ne-FAILED : goal.returns-then-s-ne-FAILED
+pub returns-then-ne-2-clause-read : goal.returns-then-ne-2-clause-read
 unfolding names_of
-returns-then-s-ne-FAILED c = waives c.args.ep c.args.d c.args.may (eat (set_of c.args.set) (names_of c.args.set)) (from (source c.args.src.now c.args.ids.now c.args.ends.now) (whole c.args.s c.args.notes.now) c.args.ev.now c.args.er.now c.args.sc.now c.requires.0.1) c.if-s-ne-OK.false (c.mark-m.ensures c.args.notes.now) (plus_e (plus_t (from (source c.args.src.now c.args.ids.now c.args.ends.now) (whole c.args.s c.args.notes.now) c.args.ev.now c.args.er.now c.args.sc.now c.requires.0.1) (c.trivia-s.ensures.0 c.args.src.now c.args.notes.now)) (c.expect-s.ensures c.args.src.now)) (waived_on _ _ c.if-s-ne-FAILED.true)
+returns-then-ne-2-clause-read c = waives c.args.x.now.entrypoint c.args.d c.args.may (eat (set_of c.args.set) (names_of c.args.set)) (from c.args.x.now c.args.s c.args.lent.now c.requires.0) (fine _ c.if-ne.ensures) (c.mark-m.ensures c.args.lent.now.notes) (plus_e (plus_t (from c.args.x.now c.args.s c.args.lent.now c.requires.0) (c.trivia-s.ensures.0 c.args.lent.now.notes)) c.expect-s.ensures.step) (waived_on _ _ (not_failed _ c.if-ne-2.ensures))
 
-pub returns : goal.returns
+pub returns-clause-read : goal.returns-clause-read
 unfolding names_of
-returns c = waives c.args.ep c.args.d c.args.may (eat (set_of c.args.set) (names_of c.args.set)) (from (source c.args.src.now c.args.ids.now c.args.ends.now) (whole c.args.s c.args.notes.now) c.args.ev.now c.args.er.now c.args.sc.now c.requires.0.1) c.if-s-ne-OK.false (c.mark-m.ensures c.args.notes.now) (plus_e (plus_t (from (source c.args.src.now c.args.ids.now c.args.ends.now) (whole c.args.s c.args.notes.now) c.args.ev.now c.args.er.now c.args.sc.now c.requires.0.1) (c.trivia-s.ensures.0 c.args.src.now c.args.notes.now)) (c.expect-s.ensures c.args.src.now)) (ap (with_mode 0) (c.rewind-s.ensures c.expect-s.new.notes) ∙ waived_back _ _ c.if-s-ne-FAILED.false)
+returns-clause-read c = waives c.args.x.now.entrypoint c.args.d c.args.may (eat (set_of c.args.set) (names_of c.args.set)) (from c.args.x.now c.args.s c.args.lent.now c.requires.0) (fine _ c.if-ne.ensures) (c.mark-m.ensures c.args.lent.now.notes) (plus_e (plus_t (from c.args.x.now c.args.s c.args.lent.now c.requires.0) (c.trivia-s.ensures.0 c.args.lent.now.notes)) c.expect-s.ensures.step) (ap (with_mode 0) (c.rewind-s.ensures c.expect-s.new.lent.notes) ∙ waived_back _ _ (failed _ c.if-ne-2.ensures))

@@ -3,35 +3,35 @@ use native.Mathlib.Omega.{arith}
 use Rattle.definition.specs.Prog.{then, node}
 use Rattle.definition.specs.Prog as G
 use Rattle.definition.specs.Grammar.{grammar, kind}
-use Rattle.notes.specs.Means.{source, names_of}
-use Rattle.steps.specs.Steps.{whole}
+use Rattle.notes.specs.Means.{names_of}
 use Rattle.parts.proofs.Exec.{begins, closes, makes, makes_none}
-use Rattle.parts.proofs.Lines.{from, plus, plus_e, plus_t, asks_e, then_past, stops}
+use Rattle.parts.proofs.Lines.{from, plus, plus_e, plus_t, asks_e, then_past, stops, ended}
+use Rattle.steps.proofs.Modes.{fine, not_fine}
 use Rattle.parts.proofs.tuples.pattern_ident_tuple.Goals as goal
 
-pub returns-then-s-ne-OK : goal.returns-then-s-ne-OK
+pub returns-then-ne-clause-read : goal.returns-then-ne-clause-read
 unfolding grammar kind names_of
-returns-then-s-ne-OK c = stops (from (source c.args.src.now c.args.ids.now c.args.ends.now) (whole c.args.s c.args.notes.now) c.args.ev.now c.args.er.now c.args.sc.now c.requires.1) c.args.ep c.args.d c.args.may (then (node G.PATTERN_IDENT_TUPLE)) tt c.if-s-ne-OK.true
+returns-then-ne-clause-read c = stops (from c.args.x.now c.args.s c.args.lent.now c.requires) c.args.x.now.entrypoint c.args.d c.args.may (then (node G.PATTERN_IDENT_TUPLE)) tt (not_fine _ c.if-ne.ensures)
 
 pub end-requires : goal.end-requires
-end-requires c = closes G.PATTERN_IDENT_TUPLE c.args.may c.args.ep c.args.d (plus_t (from (source c.args.src.now c.args.ids.now c.args.ends.now) (whole c.args.s c.args.notes.now) c.args.ev.now c.args.er.now c.args.sc.now c.requires.1) (c.trivia-s.ensures.0 c.args.src.now c.args.notes.now)) (c.begin-s.ensures c.args.src.now c.args.notes.now) c.requires.0 (begins G.PATTERN_IDENT_TUPLE c.args.may c.args.ep c.args.d (plus_t (from (source c.args.src.now c.args.ids.now c.args.ends.now) (whole c.args.s c.args.notes.now) c.args.ev.now c.args.er.now c.args.sc.now c.requires.1) (c.trivia-s.ensures.0 c.args.src.now c.args.notes.now)) (c.begin-s.ensures c.args.src.now c.args.notes.now))
+end-requires c = closes G.PATTERN_IDENT_TUPLE c.args.may c.args.x.now.entrypoint c.args.d (plus_t (from c.args.x.now c.args.s c.args.lent.now c.requires) (c.trivia-s.ensures.0 c.args.lent.now.notes)) (c.begin-s.ensures c.args.lent.now.notes) (begins G.PATTERN_IDENT_TUPLE c.args.may c.args.x.now.entrypoint c.args.d (plus_t (from c.args.x.now c.args.s c.args.lent.now c.requires) (c.trivia-s.ensures.0 c.args.lent.now.notes)) (c.begin-s.ensures c.args.lent.now.notes))
 
-pub returns-then-d-eq0 : goal.returns-then-d-eq0
+pub returns-then-d-eq0-clause-read : goal.returns-then-d-eq0-clause-read
 unfolding grammar kind names_of
-returns-then-d-eq0 c = then_past c.args.ep c.args.d c.args.may (node G.PATTERN_IDENT_TUPLE) c.if-s-ne-OK.false (makes_none G.PATTERN_IDENT_TUPLE c.args.may c.args.ep c.args.d (plus_t (from (source c.args.src.now c.args.ids.now c.args.ends.now) (whole c.args.s c.args.notes.now) c.args.ev.now c.args.er.now c.args.sc.now c.requires.1) (c.trivia-s.ensures.0 c.args.src.now c.args.notes.now)) (c.begin-s.ensures c.args.src.now c.args.notes.now) c.if-d-eq0.true (c.end.ensures _))
+returns-then-d-eq0-clause-read c = then_past c.args.x.now.entrypoint c.args.d c.args.may (node G.PATTERN_IDENT_TUPLE) (fine _ c.if-ne.ensures) (makes_none G.PATTERN_IDENT_TUPLE c.args.may c.args.x.now.entrypoint c.args.d (plus_t (from c.args.x.now c.args.s c.args.lent.now c.requires) (c.trivia-s.ensures.0 c.args.lent.now.notes)) (c.begin-s.ensures c.args.lent.now.notes) c.if-d-eq0.true (ended c.end.ensures.step))
 
 pub expect-s-requires : goal.expect-s-requires
-expect-s-requires c = (asks_e (begins G.PATTERN_IDENT_TUPLE c.args.may c.args.ep c.args.d (plus_t (from (source c.args.src.now c.args.ids.now c.args.ends.now) (whole c.args.s c.args.notes.now) c.args.ev.now c.args.er.now c.args.sc.now c.requires.1) (c.trivia-s.ensures.0 c.args.src.now c.args.notes.now)) (c.begin-s.ensures c.args.src.now c.args.notes.now)) c.requires.0, omega arith, c.requires.2)
+expect-s-requires c = (asks_e (begins G.PATTERN_IDENT_TUPLE c.args.may c.args.x.now.entrypoint c.args.d (plus_t (from c.args.x.now c.args.s c.args.lent.now c.requires) (c.trivia-s.ensures.0 c.args.lent.now.notes)) (c.begin-s.ensures c.args.lent.now.notes)), omega arith)
 
 pub expect-s-requires-2 : goal.expect-s-requires-2
-expect-s-requires-2 c = (asks_e (plus_e (begins G.PATTERN_IDENT_TUPLE c.args.may c.args.ep c.args.d (plus_t (from (source c.args.src.now c.args.ids.now c.args.ends.now) (whole c.args.s c.args.notes.now) c.args.ev.now c.args.er.now c.args.sc.now c.requires.1) (c.trivia-s.ensures.0 c.args.src.now c.args.notes.now)) (c.begin-s.ensures c.args.src.now c.args.notes.now)) (c.expect-s.ensures c.args.src.now)) c.requires.0, omega arith, c.requires.2)
+expect-s-requires-2 c = (asks_e (plus_e (begins G.PATTERN_IDENT_TUPLE c.args.may c.args.x.now.entrypoint c.args.d (plus_t (from c.args.x.now c.args.s c.args.lent.now c.requires) (c.trivia-s.ensures.0 c.args.lent.now.notes)) (c.begin-s.ensures c.args.lent.now.notes)) c.expect-s.ensures.step), omega arith)
 
 pub maybe-s-requires : goal.maybe-s-requires
-maybe-s-requires c = ((c.requires.0, (plus_e (plus_e (begins G.PATTERN_IDENT_TUPLE c.args.may c.args.ep c.args.d (plus_t (from (source c.args.src.now c.args.ids.now c.args.ends.now) (whole c.args.s c.args.notes.now) c.args.ev.now c.args.er.now c.args.sc.now c.requires.1) (c.trivia-s.ensures.0 c.args.src.now c.args.notes.now)) (c.begin-s.ensures c.args.src.now c.args.notes.now)) (c.expect-s.ensures c.args.src.now)) (c.expect-s-2.ensures c.args.src.now)).wf, c.requires.2), omega arith)
+maybe-s-requires c = ((plus_e (plus_e (begins G.PATTERN_IDENT_TUPLE c.args.may c.args.x.now.entrypoint c.args.d (plus_t (from c.args.x.now c.args.s c.args.lent.now c.requires) (c.trivia-s.ensures.0 c.args.lent.now.notes)) (c.begin-s.ensures c.args.lent.now.notes)) c.expect-s.ensures.step) c.expect-s-2.ensures.step).wf, omega arith)
 
 pub end-requires-2 : goal.end-requires-2
-end-requires-2 c = closes G.PATTERN_IDENT_TUPLE c.args.may c.args.ep c.args.d (plus_t (from (source c.args.src.now c.args.ids.now c.args.ends.now) (whole c.args.s c.args.notes.now) c.args.ev.now c.args.er.now c.args.sc.now c.requires.1) (c.trivia-s.ensures.0 c.args.src.now c.args.notes.now)) (c.begin-s.ensures c.args.src.now c.args.notes.now) c.requires.0 (plus_e (plus (plus (plus_e (plus_e (begins G.PATTERN_IDENT_TUPLE c.args.may c.args.ep c.args.d (plus_t (from (source c.args.src.now c.args.ids.now c.args.ends.now) (whole c.args.s c.args.notes.now) c.args.ev.now c.args.er.now c.args.sc.now c.requires.1) (c.trivia-s.ensures.0 c.args.src.now c.args.notes.now)) (c.begin-s.ensures c.args.src.now c.args.notes.now)) (c.expect-s.ensures c.args.src.now)) (c.expect-s-2.ensures c.args.src.now)) c.maybe-s.ensures) c.pattern_idents-s.ensures) (c.expect-s-3.ensures c.args.src.now))
+end-requires-2 c = closes G.PATTERN_IDENT_TUPLE c.args.may c.args.x.now.entrypoint c.args.d (plus_t (from c.args.x.now c.args.s c.args.lent.now c.requires) (c.trivia-s.ensures.0 c.args.lent.now.notes)) (c.begin-s.ensures c.args.lent.now.notes) (plus_e (plus (plus (plus_e (plus_e (begins G.PATTERN_IDENT_TUPLE c.args.may c.args.x.now.entrypoint c.args.d (plus_t (from c.args.x.now c.args.s c.args.lent.now c.requires) (c.trivia-s.ensures.0 c.args.lent.now.notes)) (c.begin-s.ensures c.args.lent.now.notes)) c.expect-s.ensures.step) c.expect-s-2.ensures.step) c.maybe-s.ensures.read) c.pattern_idents-s.ensures.read) c.expect-s-3.ensures.step)
 
-pub returns : goal.returns
+pub returns-clause-read : goal.returns-clause-read
 unfolding grammar kind names_of
-returns c = then_past c.args.ep c.args.d c.args.may (node G.PATTERN_IDENT_TUPLE) c.if-s-ne-OK.false (makes G.PATTERN_IDENT_TUPLE c.args.may c.args.ep c.args.d (plus_t (from (source c.args.src.now c.args.ids.now c.args.ends.now) (whole c.args.s c.args.notes.now) c.args.ev.now c.args.er.now c.args.sc.now c.requires.1) (c.trivia-s.ensures.0 c.args.src.now c.args.notes.now)) (c.begin-s.ensures c.args.src.now c.args.notes.now) c.if-d-eq0.false (plus_e (plus (plus (plus_e (plus_e (begins G.PATTERN_IDENT_TUPLE c.args.may c.args.ep c.args.d (plus_t (from (source c.args.src.now c.args.ids.now c.args.ends.now) (whole c.args.s c.args.notes.now) c.args.ev.now c.args.er.now c.args.sc.now c.requires.1) (c.trivia-s.ensures.0 c.args.src.now c.args.notes.now)) (c.begin-s.ensures c.args.src.now c.args.notes.now)) (c.expect-s.ensures c.args.src.now)) (c.expect-s-2.ensures c.args.src.now)) c.maybe-s.ensures) c.pattern_idents-s.ensures) (c.expect-s-3.ensures c.args.src.now)) (c.end-2.ensures _))
+returns-clause-read c = then_past c.args.x.now.entrypoint c.args.d c.args.may (node G.PATTERN_IDENT_TUPLE) (fine _ c.if-ne.ensures) (makes G.PATTERN_IDENT_TUPLE c.args.may c.args.x.now.entrypoint c.args.d (plus_t (from c.args.x.now c.args.s c.args.lent.now c.requires) (c.trivia-s.ensures.0 c.args.lent.now.notes)) (c.begin-s.ensures c.args.lent.now.notes) c.if-d-eq0.false (plus_e (plus (plus (plus_e (plus_e (begins G.PATTERN_IDENT_TUPLE c.args.may c.args.x.now.entrypoint c.args.d (plus_t (from c.args.x.now c.args.s c.args.lent.now c.requires) (c.trivia-s.ensures.0 c.args.lent.now.notes)) (c.begin-s.ensures c.args.lent.now.notes)) c.expect-s.ensures.step) c.expect-s-2.ensures.step) c.maybe-s.ensures.read) c.pattern_idents-s.ensures.read) c.expect-s-3.ensures.step) (ended c.end-2.ensures.step))

@@ -5,27 +5,27 @@ use Rattle.definition.specs.Prog.{node}
 use Rattle.definition.specs.Prog as G
 use Rattle.definition.specs.Grammar.{them}
 use Rattle.notes.specs.Change.{with_mode}
-use Rattle.notes.specs.Means.{source, names_of}
-use Rattle.steps.specs.Steps.{whole}
+use Rattle.notes.specs.Means.{names_of}
 use Rattle.parts.proofs.Lines.{from, plus_e, plus_t, past_then, stops, tries, goes, else, at_last, lost_on, lost_back}
+use Rattle.steps.proofs.Modes.{failed, fine, not_failed, not_fine}
 use Rattle.parts.proofs.tuples.them.Goals as goal
 
-pub returns-then-s-ne-OK : goal.returns-then-s-ne-OK
+pub returns-then-ne-clause-read : goal.returns-then-ne-clause-read
 unfolding names_of
-returns-then-s-ne-OK c = stops (from (source c.args.src.now c.args.ids.now c.args.ends.now) (whole c.args.s c.args.notes.now) c.args.ev.now c.args.er.now c.args.sc.now c.requires.1) c.args.ep c.args.d c.args.may them tt c.if-s-ne-OK.true
+returns-then-ne-clause-read c = stops (from c.args.x.now c.args.s c.args.lent.now c.requires) c.args.x.now.entrypoint c.args.d c.args.may them tt (not_fine _ c.if-ne.ensures)
 
-pub returns-then-s-ne-FAILED : goal.returns-then-s-ne-FAILED
+pub returns-then-ne-2-clause-read : goal.returns-then-ne-2-clause-read
 unfolding names_of
-returns-then-s-ne-FAILED c = goes (tries c.args.ep c.args.d c.args.may them (from (source c.args.src.now c.args.ids.now c.args.ends.now) (whole c.args.s c.args.notes.now) c.args.ev.now c.args.er.now c.args.sc.now c.requires.1) c.if-s-ne-OK.false (c.mark-m.ensures c.args.notes.now)) (λ g h. (plus_e (plus_t h (c.trivia-s.ensures.0 c.args.src.now c.args.notes.now)) (c.expect-s.ensures c.args.src.now))) c.if-s-ne-FAILED.true
+returns-then-ne-2-clause-read c = goes (tries c.args.x.now.entrypoint c.args.d c.args.may them (from c.args.x.now c.args.s c.args.lent.now c.requires) (fine _ c.if-ne.ensures) (c.mark-m.ensures c.args.lent.now.notes)) (λ g h. (plus_e (plus_t h (c.trivia-s.ensures.0 c.args.lent.now.notes)) c.expect-s.ensures.step)) (not_failed _ c.if-ne-2.ensures)
 
 pub pattern_ident_tuple-s-requires : goal.pattern_ident_tuple-s-requires
 unfolding names_of
-pattern_ident_tuple-s-requires c = (c.requires.0, (else (tries c.args.ep c.args.d c.args.may them (from (source c.args.src.now c.args.ids.now c.args.ends.now) (whole c.args.s c.args.notes.now) c.args.ev.now c.args.er.now c.args.sc.now c.requires.1) c.if-s-ne-OK.false (c.mark-m.ensures c.args.notes.now)) (λ g h. (plus_e (plus_t h (c.trivia-s.ensures.0 c.args.src.now c.args.notes.now)) (c.expect-s.ensures c.args.src.now))) c.if-s-ne-FAILED.false (ap (with_mode 0) (c.rewind-s.ensures c.expect-s.new.notes))).here.wf, c.requires.2)
+pattern_ident_tuple-s-requires c = (else (tries c.args.x.now.entrypoint c.args.d c.args.may them (from c.args.x.now c.args.s c.args.lent.now c.requires) (fine _ c.if-ne.ensures) (c.mark-m.ensures c.args.lent.now.notes)) (λ g h. (plus_e (plus_t h (c.trivia-s.ensures.0 c.args.lent.now.notes)) c.expect-s.ensures.step)) (failed _ c.if-ne-2.ensures) (ap (with_mode 0) (c.rewind-s.ensures c.expect-s.new.lent.notes))).here.wf
 
-pub returns-then-s-ne-FAILED-2 : goal.returns-then-s-ne-FAILED-2
+pub returns-then-ne-3-clause-read : goal.returns-then-ne-3-clause-read
 unfolding names_of
-returns-then-s-ne-FAILED-2 c = at_last (else (tries c.args.ep c.args.d c.args.may them (from (source c.args.src.now c.args.ids.now c.args.ends.now) (whole c.args.s c.args.notes.now) c.args.ev.now c.args.er.now c.args.sc.now c.requires.1) c.if-s-ne-OK.false (c.mark-m.ensures c.args.notes.now)) (λ g h. (plus_e (plus_t h (c.trivia-s.ensures.0 c.args.src.now c.args.notes.now)) (c.expect-s.ensures c.args.src.now))) c.if-s-ne-FAILED.false (ap (with_mode 0) (c.rewind-s.ensures c.expect-s.new.notes))) (λ g h. (past_then c.args.ep c.args.d true (node G.PATTERN_IDENT_TUPLE) g c.pattern_ident_tuple-s.ensures)) (lost_on _ _ c.if-s-ne-FAILED-2.true)
+returns-then-ne-3-clause-read c = at_last (else (tries c.args.x.now.entrypoint c.args.d c.args.may them (from c.args.x.now c.args.s c.args.lent.now c.requires) (fine _ c.if-ne.ensures) (c.mark-m.ensures c.args.lent.now.notes)) (λ g h. (plus_e (plus_t h (c.trivia-s.ensures.0 c.args.lent.now.notes)) c.expect-s.ensures.step)) (failed _ c.if-ne-2.ensures) (ap (with_mode 0) (c.rewind-s.ensures c.expect-s.new.lent.notes))) (λ g h. (past_then c.args.x.now.entrypoint c.args.d true (node G.PATTERN_IDENT_TUPLE) g c.pattern_ident_tuple-s.ensures.read)) (lost_on _ _ (not_failed _ c.if-ne-3.ensures))
 
-pub returns : goal.returns
+pub returns-clause-read : goal.returns-clause-read
 unfolding names_of
-returns c = at_last (else (tries c.args.ep c.args.d c.args.may them (from (source c.args.src.now c.args.ids.now c.args.ends.now) (whole c.args.s c.args.notes.now) c.args.ev.now c.args.er.now c.args.sc.now c.requires.1) c.if-s-ne-OK.false (c.mark-m.ensures c.args.notes.now)) (λ g h. (plus_e (plus_t h (c.trivia-s.ensures.0 c.args.src.now c.args.notes.now)) (c.expect-s.ensures c.args.src.now))) c.if-s-ne-FAILED.false (ap (with_mode 0) (c.rewind-s.ensures c.expect-s.new.notes))) (λ g h. (past_then c.args.ep c.args.d true (node G.PATTERN_IDENT_TUPLE) g c.pattern_ident_tuple-s.ensures)) ((c.rewind-s-2.ensures c.pattern_ident_tuple-s.new.notes) ∙ lost_back _ _ c.if-s-ne-FAILED-2.false)
+returns-clause-read c = at_last (else (tries c.args.x.now.entrypoint c.args.d c.args.may them (from c.args.x.now c.args.s c.args.lent.now c.requires) (fine _ c.if-ne.ensures) (c.mark-m.ensures c.args.lent.now.notes)) (λ g h. (plus_e (plus_t h (c.trivia-s.ensures.0 c.args.lent.now.notes)) c.expect-s.ensures.step)) (failed _ c.if-ne-2.ensures) (ap (with_mode 0) (c.rewind-s.ensures c.expect-s.new.lent.notes))) (λ g h. (past_then c.args.x.now.entrypoint c.args.d true (node G.PATTERN_IDENT_TUPLE) g c.pattern_ident_tuple-s.ensures.read)) ((c.rewind-s-2.ensures c.pattern_ident_tuple-s.new.lent.notes) ∙ lost_back _ _ (failed _ c.if-ne-3.ensures))

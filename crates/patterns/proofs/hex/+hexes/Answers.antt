@@ -2,162 +2,143 @@
 use native.Mathlib.Omega.{arith}
 use mathlib.Core.Path.{refl, ap, ◌∙◌}
 use mathlib.Core.Bool.{true}
-use Prim.Native.Nat.{◌-◌}
 use Rattle.kinds.specs.Kinds as k
 use Rattle.definition.specs.Prog.{then, ◌⨟◌, node}
 use Rattle.definition.specs.Prog as G
 use Rattle.definition.specs.Grammar.{grammar, kind, one, hex_unit}
 use Rattle.notes.specs.Change.{with_mode}
-use Rattle.notes.specs.Means.{source, names_of}
+use Rattle.notes.specs.Means.{names_of}
 use Rattle.notes.proofs.Sticky.{sticky_exec}
-use Rattle.steps.specs.Steps.{whole}
 use Rattle.parts.specs.Reads.{reads}
 use Rattle.patterns.specs.Parts.{hex_units, hex_choices, hex_jumps}
 use Rattle.parts.proofs.Exec.{begins, closes, makes, makes_none}
-use Rattle.parts.proofs.Lines.{from, here, plus, plus_e, plus_t, asks_e, then_past, stops, tries, goes, else, at_last, lost_on, lost_back, turns, turns_more, turns_undone, turns_over}
+use Rattle.parts.proofs.Lines.{from, plus, plus_e, plus_t, asks_e, then_past, stops, tries, goes, else, at_last, lost_on, lost_back, turns, turns_more, turns_undone, turns_over, ended, chain}
+use Rattle.steps.proofs.Modes.{failed, fine, not_failed, not_fine}
 use Rattle.patterns.proofs.hex.+hexes.Goals as goal
 
-pub hex_alternative-begin-s-requires : goal.hex_alternative-begin-s-requires
-hex_alternative-begin-s-requires t c = (c.requires.0.lines, ((from (source c.args.src.now c.args.ids.now c.args.ends.now) (whole c.args.s c.args.notes.now) c.args.ev.now c.args.er.now c.args.sc.now c.requires.1).wf.0.2.events, (from (source c.args.src.now c.args.ids.now c.args.ends.now) (whole c.args.s c.args.notes.now) c.args.ev.now c.args.er.now c.args.sc.now c.requires.1).wf.1.events), (from (source c.args.src.now c.args.ids.now c.args.ends.now) (whole c.args.s c.args.notes.now) c.args.ev.now c.args.er.now c.args.sc.now c.requires.1).wf.0.0.here)
-
 pub hex_alternative-end-requires : goal.hex_alternative-end-requires
-hex_alternative-end-requires t c = closes G.HEX_ALTERNATIVE c.args.may c.args.ep c.args.d (from (source c.args.src.now c.args.ids.now c.args.ends.now) (whole c.args.s c.args.notes.now) c.args.ev.now c.args.er.now c.args.sc.now c.requires.1) (c.begin-s.ensures c.args.src.now c.args.notes.now) c.requires.0 (begins G.HEX_ALTERNATIVE c.args.may c.args.ep c.args.d (from (source c.args.src.now c.args.ids.now c.args.ends.now) (whole c.args.s c.args.notes.now) c.args.ev.now c.args.er.now c.args.sc.now c.requires.1) (c.begin-s.ensures c.args.src.now c.args.notes.now))
+hex_alternative-end-requires t c = closes G.HEX_ALTERNATIVE c.args.may c.args.x.now.entrypoint c.args.d (from c.args.x.now c.args.s c.args.lent.now c.requires) (c.begin-s.ensures c.args.lent.now.notes) (begins G.HEX_ALTERNATIVE c.args.may c.args.x.now.entrypoint c.args.d (from c.args.x.now c.args.s c.args.lent.now c.requires) (c.begin-s.ensures c.args.lent.now.notes))
 
-pub hex_alternative-returns-then-d-eq0 : goal.hex_alternative-returns-then-d-eq0
+pub hex_alternative-returns-then-d-eq0-clause-read : goal.hex_alternative-returns-then-d-eq0-clause-read
 unfolding grammar kind names_of
-hex_alternative-returns-then-d-eq0 t c = makes_none G.HEX_ALTERNATIVE c.args.may c.args.ep c.args.d (from (source c.args.src.now c.args.ids.now c.args.ends.now) (whole c.args.s c.args.notes.now) c.args.ev.now c.args.er.now c.args.sc.now c.requires.1) (c.begin-s.ensures c.args.src.now c.args.notes.now) c.if-d-eq0.true (c.end.ensures _)
+hex_alternative-returns-then-d-eq0-clause-read t c = makes_none G.HEX_ALTERNATIVE c.args.may c.args.x.now.entrypoint c.args.d (from c.args.x.now c.args.s c.args.lent.now c.requires) (c.begin-s.ensures c.args.lent.now.notes) c.if-d-eq0.true (ended c.end.ensures.step)
 
 pub hex_alternative-expect-s-requires : goal.hex_alternative-expect-s-requires
-hex_alternative-expect-s-requires t c = (asks_e (begins G.HEX_ALTERNATIVE c.args.may c.args.ep c.args.d (from (source c.args.src.now c.args.ids.now c.args.ends.now) (whole c.args.s c.args.notes.now) c.args.ev.now c.args.er.now c.args.sc.now c.requires.1) (c.begin-s.ensures c.args.src.now c.args.notes.now)) c.requires.0, omega arith, c.requires.2)
+hex_alternative-expect-s-requires t c = (asks_e (begins G.HEX_ALTERNATIVE c.args.may c.args.x.now.entrypoint c.args.d (from c.args.x.now c.args.s c.args.lent.now c.requires) (c.begin-s.ensures c.args.lent.now.notes)), omega arith)
 
 pub hex_alternative-hex_sub_pattern-s-requires : goal.hex_alternative-hex_sub_pattern-s-requires
-hex_alternative-hex_sub_pattern-s-requires t c = (omega (arith, c.if-d-eq0.false), (c.requires.0, (plus_e (begins G.HEX_ALTERNATIVE c.args.may c.args.ep c.args.d (from (source c.args.src.now c.args.ids.now c.args.ends.now) (whole c.args.s c.args.notes.now) c.args.ev.now c.args.er.now c.args.sc.now c.requires.1) (c.begin-s.ensures c.args.src.now c.args.notes.now)) (c.expect-s.ensures c.args.src.now)).wf, c.requires.2))
+hex_alternative-hex_sub_pattern-s-requires t c = (omega (arith, c.if-d-eq0.false), (plus_e (begins G.HEX_ALTERNATIVE c.args.may c.args.x.now.entrypoint c.args.d (from c.args.x.now c.args.s c.args.lent.now c.requires) (c.begin-s.ensures c.args.lent.now.notes)) c.expect-s.ensures.step).wf)
 
 pub hex_alternative-hex_choices-s-requires : goal.hex_alternative-hex_choices-s-requires
-hex_alternative-hex_choices-s-requires t c = (omega (arith, c.if-d-eq0.false), (c.requires.0, (plus (plus_e (begins G.HEX_ALTERNATIVE c.args.may c.args.ep c.args.d (from (source c.args.src.now c.args.ids.now c.args.ends.now) (whole c.args.s c.args.notes.now) c.args.ev.now c.args.er.now c.args.sc.now c.requires.1) (c.begin-s.ensures c.args.src.now c.args.notes.now)) (c.expect-s.ensures c.args.src.now)) c.hex_sub_pattern-s.ensures).wf, c.requires.2))
+hex_alternative-hex_choices-s-requires t c = (omega (arith, c.if-d-eq0.false), (plus (plus_e (begins G.HEX_ALTERNATIVE c.args.may c.args.x.now.entrypoint c.args.d (from c.args.x.now c.args.s c.args.lent.now c.requires) (c.begin-s.ensures c.args.lent.now.notes)) c.expect-s.ensures.step) c.hex_sub_pattern-s.ensures.read).wf)
 
 pub hex_alternative-expect-s-requires-2 : goal.hex_alternative-expect-s-requires-2
-hex_alternative-expect-s-requires-2 t c = (asks_e (plus (plus (plus_e (begins G.HEX_ALTERNATIVE c.args.may c.args.ep c.args.d (from (source c.args.src.now c.args.ids.now c.args.ends.now) (whole c.args.s c.args.notes.now) c.args.ev.now c.args.er.now c.args.sc.now c.requires.1) (c.begin-s.ensures c.args.src.now c.args.notes.now)) (c.expect-s.ensures c.args.src.now)) c.hex_sub_pattern-s.ensures) c.hex_choices-s.ensures) c.requires.0, omega arith, c.requires.2)
+hex_alternative-expect-s-requires-2 t c = (asks_e (plus (plus (plus_e (begins G.HEX_ALTERNATIVE c.args.may c.args.x.now.entrypoint c.args.d (from c.args.x.now c.args.s c.args.lent.now c.requires) (c.begin-s.ensures c.args.lent.now.notes)) c.expect-s.ensures.step) c.hex_sub_pattern-s.ensures.read) c.hex_choices-s.ensures.read), omega arith)
 
 pub hex_alternative-end-requires-2 : goal.hex_alternative-end-requires-2
-hex_alternative-end-requires-2 t c = closes G.HEX_ALTERNATIVE c.args.may c.args.ep c.args.d (from (source c.args.src.now c.args.ids.now c.args.ends.now) (whole c.args.s c.args.notes.now) c.args.ev.now c.args.er.now c.args.sc.now c.requires.1) (c.begin-s.ensures c.args.src.now c.args.notes.now) c.requires.0 (plus_e (plus (plus (plus_e (begins G.HEX_ALTERNATIVE c.args.may c.args.ep c.args.d (from (source c.args.src.now c.args.ids.now c.args.ends.now) (whole c.args.s c.args.notes.now) c.args.ev.now c.args.er.now c.args.sc.now c.requires.1) (c.begin-s.ensures c.args.src.now c.args.notes.now)) (c.expect-s.ensures c.args.src.now)) c.hex_sub_pattern-s.ensures) c.hex_choices-s.ensures) (c.expect-s-2.ensures c.args.src.now))
+hex_alternative-end-requires-2 t c = closes G.HEX_ALTERNATIVE c.args.may c.args.x.now.entrypoint c.args.d (from c.args.x.now c.args.s c.args.lent.now c.requires) (c.begin-s.ensures c.args.lent.now.notes) (plus_e (plus (plus (plus_e (begins G.HEX_ALTERNATIVE c.args.may c.args.x.now.entrypoint c.args.d (from c.args.x.now c.args.s c.args.lent.now c.requires) (c.begin-s.ensures c.args.lent.now.notes)) c.expect-s.ensures.step) c.hex_sub_pattern-s.ensures.read) c.hex_choices-s.ensures.read) c.expect-s-2.ensures.step)
 
-pub hex_alternative-returns : goal.hex_alternative-returns
+pub hex_alternative-returns-clause-read : goal.hex_alternative-returns-clause-read
 unfolding grammar kind names_of
-hex_alternative-returns t c = makes G.HEX_ALTERNATIVE c.args.may c.args.ep c.args.d (from (source c.args.src.now c.args.ids.now c.args.ends.now) (whole c.args.s c.args.notes.now) c.args.ev.now c.args.er.now c.args.sc.now c.requires.1) (c.begin-s.ensures c.args.src.now c.args.notes.now) c.if-d-eq0.false (plus_e (plus (plus (plus_e (begins G.HEX_ALTERNATIVE c.args.may c.args.ep c.args.d (from (source c.args.src.now c.args.ids.now c.args.ends.now) (whole c.args.s c.args.notes.now) c.args.ev.now c.args.er.now c.args.sc.now c.requires.1) (c.begin-s.ensures c.args.src.now c.args.notes.now)) (c.expect-s.ensures c.args.src.now)) c.hex_sub_pattern-s.ensures) c.hex_choices-s.ensures) (c.expect-s-2.ensures c.args.src.now)) (c.end-2.ensures _)
+hex_alternative-returns-clause-read t c = makes G.HEX_ALTERNATIVE c.args.may c.args.x.now.entrypoint c.args.d (from c.args.x.now c.args.s c.args.lent.now c.requires) (c.begin-s.ensures c.args.lent.now.notes) c.if-d-eq0.false (plus_e (plus (plus (plus_e (begins G.HEX_ALTERNATIVE c.args.may c.args.x.now.entrypoint c.args.d (from c.args.x.now c.args.s c.args.lent.now c.requires) (c.begin-s.ensures c.args.lent.now.notes)) c.expect-s.ensures.step) c.hex_sub_pattern-s.ensures.read) c.hex_choices-s.ensures.read) c.expect-s-2.ensures.step) (ended c.end-2.ensures.step)
 
-pub hex_choices-returns-then-s-ne-OK : goal.hex_choices-returns-then-s-ne-OK
+pub hex_choices-returns-then-ne-clause-read : goal.hex_choices-returns-then-ne-clause-read
 unfolding grammar kind names_of
-hex_choices-returns-then-s-ne-OK t c = stops (from (source c.args.src.now c.args.ids.now c.args.ends.now) (whole c.args.s c.args.notes.now) c.args.ev.now c.args.er.now c.args.sc.now c.requires.1) c.args.ep c.args.d c.args.may hex_choices tt c.if-s-ne-OK.true
+hex_choices-returns-then-ne-clause-read t c = stops (from c.args.x.now c.args.s c.args.lent.now c.requires) c.args.x.now.entrypoint c.args.d c.args.may hex_choices tt (not_fine _ c.if-ne.ensures)
 
-pub hex_choices-loop-n-init : goal.hex_choices-loop-n-init
-hex_choices-loop-n-init t c = turns (reads c.args.ep c.args.d true (one k.PIPE ⨟ then (node G.HEX_SUB_PATTERN))) _ _ _ _ (λ p. sticky_exec p _ c.args.ep c.args.d (one k.PIPE ⨟ then (node G.HEX_SUB_PATTERN)) true) c.requires.1 c.if-s-ne-OK.false refl
-
-pub hex_choices-trivia-s-requires : goal.hex_choices-trivia-s-requires
-hex_choices-trivia-s-requires t c = (c.requires.0.lines, (c.loop-n.invariant.here.wf.0.2.events, c.loop-n.invariant.here.wf.1.events))
+pub hex_choices-loop-turn-init : goal.hex_choices-loop-turn-init
+hex_choices-loop-turn-init t c = turns (reads c.args.x.now.entrypoint c.args.d true (one k.PIPE ⨟ then (node G.HEX_SUB_PATTERN))) _ _ _ _ (λ p. sticky_exec p _ c.args.x.now.entrypoint c.args.d (one k.PIPE ⨟ then (node G.HEX_SUB_PATTERN)) true) c.requires (fine _ c.if-ne.ensures) refl
 
 pub hex_choices-expect-s-requires : goal.hex_choices-expect-s-requires
-hex_choices-expect-s-requires t c = (asks_e (plus_t c.loop-n.invariant.here (c.trivia-s.ensures.0 c.args.src.now c.loop-n.notes)) c.requires.0, omega arith, c.requires.2)
+hex_choices-expect-s-requires t c = (asks_e (plus_t c.loop-turn.invariant.here (c.trivia-s.ensures.0 c.loop-turn.lent.notes)), omega arith)
 
 pub hex_choices-hex_sub_pattern-s-requires : goal.hex_choices-hex_sub_pattern-s-requires
-hex_choices-hex_sub_pattern-s-requires t c = (omega arith, (c.requires.0, (plus_e (plus_t c.loop-n.invariant.here (c.trivia-s.ensures.0 c.args.src.now c.loop-n.notes)) (c.expect-s.ensures c.args.src.now)).wf, c.requires.2))
+hex_choices-hex_sub_pattern-s-requires t c = (omega arith, (plus_e (plus_t c.loop-turn.invariant.here (c.trivia-s.ensures.0 c.loop-turn.lent.notes)) c.expect-s.ensures.step).wf)
 
-pub hex_choices-returns-then-s-ne-OK-2 : goal.hex_choices-returns-then-s-ne-OK-2
+pub hex_choices-returns-then-ne-2-clause-read : goal.hex_choices-returns-then-ne-2-clause-read
 unfolding grammar kind names_of
-hex_choices-returns-then-s-ne-OK-2 t c = turns_undone c.loop-n.invariant c.loop-n-test.true (plus (plus_e (plus_t c.loop-n.invariant.here (c.trivia-s.ensures.0 c.args.src.now c.loop-n.notes)) (c.expect-s.ensures c.args.src.now)) c.hex_sub_pattern-s.ensures) c.if-s-ne-OK-2.true (c.mark-m.ensures c.loop-n.notes) (c.undone.ensures c.hex_sub_pattern-s.new.notes)
+hex_choices-returns-then-ne-2-clause-read t c = turns_undone c.loop-turn.invariant c.loop-turn-test.true (plus (plus_e (plus_t c.loop-turn.invariant.here (c.trivia-s.ensures.0 c.loop-turn.lent.notes)) c.expect-s.ensures.step) c.hex_sub_pattern-s.ensures.read) (not_fine _ c.if-ne-2.ensures) (c.mark-m.ensures c.loop-turn.lent.notes) (c.undone.ensures c.hex_sub_pattern-s.new.lent.notes)
 
-pub hex_choices-loop-n-preserved : goal.hex_choices-loop-n-preserved
+pub hex_choices-loop-turn-preserved : goal.hex_choices-loop-turn-preserved
 unfolding grammar kind names_of
-hex_choices-loop-n-preserved t c = turns_more c.loop-n.invariant c.loop-n-test.true (plus (plus_e (plus_t c.loop-n.invariant.here (c.trivia-s.ensures.0 c.args.src.now c.loop-n.notes)) (c.expect-s.ensures c.args.src.now)) c.hex_sub_pattern-s.ensures) c.if-s-ne-OK-2.false (c.hex_sub_pattern-s.auto.ev ∙ c.expect-s.auto.events ∙ c.trivia-s.auto.events) c.hex_sub_pattern-s.auto.er c.hex_sub_pattern-s.auto.sc
+hex_choices-loop-turn-preserved t c = turns_more c.loop-turn.invariant c.loop-turn-test.true (plus (plus_e (plus_t c.loop-turn.invariant.here (c.trivia-s.ensures.0 c.loop-turn.lent.notes)) c.expect-s.ensures.step) c.hex_sub_pattern-s.ensures.read) (fine _ c.if-ne-2.ensures) (chain c.expect-s.ensures.lists c.hex_sub_pattern-s.ensures.lists)
 
-pub hex_choices-returns : goal.hex_choices-returns
+pub hex_choices-returns-clause-read : goal.hex_choices-returns-clause-read
 unfolding grammar kind names_of
-hex_choices-returns t c = turns_over c.loop-n.invariant c.loop-n-test.false
+hex_choices-returns-clause-read t c = turns_over c.loop-turn.invariant c.loop-turn-test.false
 
-pub hex_sub_pattern-returns-then-s-ne-OK : goal.hex_sub_pattern-returns-then-s-ne-OK
+pub hex_sub_pattern-returns-then-ne-clause-read : goal.hex_sub_pattern-returns-then-ne-clause-read
 unfolding grammar kind names_of
-hex_sub_pattern-returns-then-s-ne-OK t c = stops (from (source c.args.src.now c.args.ids.now c.args.ends.now) (whole c.args.s c.args.notes.now) c.args.ev.now c.args.er.now c.args.sc.now c.requires.1) c.args.ep c.args.d c.args.may (then (node G.HEX_SUB_PATTERN)) tt c.if-s-ne-OK.true
-
-pub hex_sub_pattern-trivia-s-requires : goal.hex_sub_pattern-trivia-s-requires
-hex_sub_pattern-trivia-s-requires t c = (c.requires.0.lines, ((from (source c.args.src.now c.args.ids.now c.args.ends.now) (whole c.args.s c.args.notes.now) c.args.ev.now c.args.er.now c.args.sc.now c.requires.1).wf.0.2.events, (from (source c.args.src.now c.args.ids.now c.args.ends.now) (whole c.args.s c.args.notes.now) c.args.ev.now c.args.er.now c.args.sc.now c.requires.1).wf.1.events))
-
-pub hex_sub_pattern-begin-s-requires : goal.hex_sub_pattern-begin-s-requires
-hex_sub_pattern-begin-s-requires t c = (c.requires.0.lines, ((plus_t (from (source c.args.src.now c.args.ids.now c.args.ends.now) (whole c.args.s c.args.notes.now) c.args.ev.now c.args.er.now c.args.sc.now c.requires.1) (c.trivia-s.ensures.0 c.args.src.now c.args.notes.now)).wf.0.2.events, (plus_t (from (source c.args.src.now c.args.ids.now c.args.ends.now) (whole c.args.s c.args.notes.now) c.args.ev.now c.args.er.now c.args.sc.now c.requires.1) (c.trivia-s.ensures.0 c.args.src.now c.args.notes.now)).wf.1.events), (plus_t (from (source c.args.src.now c.args.ids.now c.args.ends.now) (whole c.args.s c.args.notes.now) c.args.ev.now c.args.er.now c.args.sc.now c.requires.1) (c.trivia-s.ensures.0 c.args.src.now c.args.notes.now)).wf.0.0.here)
+hex_sub_pattern-returns-then-ne-clause-read t c = stops (from c.args.x.now c.args.s c.args.lent.now c.requires) c.args.x.now.entrypoint c.args.d c.args.may (then (node G.HEX_SUB_PATTERN)) tt (not_fine _ c.if-ne.ensures)
 
 pub hex_sub_pattern-end-requires : goal.hex_sub_pattern-end-requires
-hex_sub_pattern-end-requires t c = closes G.HEX_SUB_PATTERN c.args.may c.args.ep c.args.d (plus_t (from (source c.args.src.now c.args.ids.now c.args.ends.now) (whole c.args.s c.args.notes.now) c.args.ev.now c.args.er.now c.args.sc.now c.requires.1) (c.trivia-s.ensures.0 c.args.src.now c.args.notes.now)) (c.begin-s.ensures c.args.src.now c.args.notes.now) c.requires.0 (begins G.HEX_SUB_PATTERN c.args.may c.args.ep c.args.d (plus_t (from (source c.args.src.now c.args.ids.now c.args.ends.now) (whole c.args.s c.args.notes.now) c.args.ev.now c.args.er.now c.args.sc.now c.requires.1) (c.trivia-s.ensures.0 c.args.src.now c.args.notes.now)) (c.begin-s.ensures c.args.src.now c.args.notes.now))
+hex_sub_pattern-end-requires t c = closes G.HEX_SUB_PATTERN c.args.may c.args.x.now.entrypoint c.args.d (plus_t (from c.args.x.now c.args.s c.args.lent.now c.requires) (c.trivia-s.ensures.0 c.args.lent.now.notes)) (c.begin-s.ensures c.args.lent.now.notes) (begins G.HEX_SUB_PATTERN c.args.may c.args.x.now.entrypoint c.args.d (plus_t (from c.args.x.now c.args.s c.args.lent.now c.requires) (c.trivia-s.ensures.0 c.args.lent.now.notes)) (c.begin-s.ensures c.args.lent.now.notes))
 
-pub hex_sub_pattern-returns-then-d-eq0 : goal.hex_sub_pattern-returns-then-d-eq0
+pub hex_sub_pattern-returns-then-d-eq0-clause-read : goal.hex_sub_pattern-returns-then-d-eq0-clause-read
 unfolding grammar kind names_of
-hex_sub_pattern-returns-then-d-eq0 t c = then_past c.args.ep c.args.d c.args.may (node G.HEX_SUB_PATTERN) c.if-s-ne-OK.false (makes_none G.HEX_SUB_PATTERN c.args.may c.args.ep c.args.d (plus_t (from (source c.args.src.now c.args.ids.now c.args.ends.now) (whole c.args.s c.args.notes.now) c.args.ev.now c.args.er.now c.args.sc.now c.requires.1) (c.trivia-s.ensures.0 c.args.src.now c.args.notes.now)) (c.begin-s.ensures c.args.src.now c.args.notes.now) c.if-d-eq0.true (c.end.ensures _))
+hex_sub_pattern-returns-then-d-eq0-clause-read t c = then_past c.args.x.now.entrypoint c.args.d c.args.may (node G.HEX_SUB_PATTERN) (fine _ c.if-ne.ensures) (makes_none G.HEX_SUB_PATTERN c.args.may c.args.x.now.entrypoint c.args.d (plus_t (from c.args.x.now c.args.s c.args.lent.now c.requires) (c.trivia-s.ensures.0 c.args.lent.now.notes)) (c.begin-s.ensures c.args.lent.now.notes) c.if-d-eq0.true (ended c.end.ensures.step))
 
 pub hex_sub_pattern-hex_unit-s-requires : goal.hex_sub_pattern-hex_unit-s-requires
-hex_sub_pattern-hex_unit-s-requires t c = (omega (arith, c.if-d-eq0.false), (c.requires.0, (begins G.HEX_SUB_PATTERN c.args.may c.args.ep c.args.d (plus_t (from (source c.args.src.now c.args.ids.now c.args.ends.now) (whole c.args.s c.args.notes.now) c.args.ev.now c.args.er.now c.args.sc.now c.requires.1) (c.trivia-s.ensures.0 c.args.src.now c.args.notes.now)) (c.begin-s.ensures c.args.src.now c.args.notes.now)).wf, c.requires.2))
+hex_sub_pattern-hex_unit-s-requires t c = (omega (arith, c.if-d-eq0.false), (begins G.HEX_SUB_PATTERN c.args.may c.args.x.now.entrypoint c.args.d (plus_t (from c.args.x.now c.args.s c.args.lent.now c.requires) (c.trivia-s.ensures.0 c.args.lent.now.notes)) (c.begin-s.ensures c.args.lent.now.notes)).wf)
 
 pub hex_sub_pattern-hex_units-s-requires : goal.hex_sub_pattern-hex_units-s-requires
-hex_sub_pattern-hex_units-s-requires t c = (omega (arith, c.if-d-eq0.false), (c.requires.0, (plus (begins G.HEX_SUB_PATTERN c.args.may c.args.ep c.args.d (plus_t (from (source c.args.src.now c.args.ids.now c.args.ends.now) (whole c.args.s c.args.notes.now) c.args.ev.now c.args.er.now c.args.sc.now c.requires.1) (c.trivia-s.ensures.0 c.args.src.now c.args.notes.now)) (c.begin-s.ensures c.args.src.now c.args.notes.now)) c.hex_unit-s.ensures).wf, c.requires.2))
+hex_sub_pattern-hex_units-s-requires t c = (omega (arith, c.if-d-eq0.false), (plus (begins G.HEX_SUB_PATTERN c.args.may c.args.x.now.entrypoint c.args.d (plus_t (from c.args.x.now c.args.s c.args.lent.now c.requires) (c.trivia-s.ensures.0 c.args.lent.now.notes)) (c.begin-s.ensures c.args.lent.now.notes)) c.hex_unit-s.ensures.read).wf)
 
 pub hex_sub_pattern-end-requires-2 : goal.hex_sub_pattern-end-requires-2
-hex_sub_pattern-end-requires-2 t c = closes G.HEX_SUB_PATTERN c.args.may c.args.ep c.args.d (plus_t (from (source c.args.src.now c.args.ids.now c.args.ends.now) (whole c.args.s c.args.notes.now) c.args.ev.now c.args.er.now c.args.sc.now c.requires.1) (c.trivia-s.ensures.0 c.args.src.now c.args.notes.now)) (c.begin-s.ensures c.args.src.now c.args.notes.now) c.requires.0 (plus (plus (begins G.HEX_SUB_PATTERN c.args.may c.args.ep c.args.d (plus_t (from (source c.args.src.now c.args.ids.now c.args.ends.now) (whole c.args.s c.args.notes.now) c.args.ev.now c.args.er.now c.args.sc.now c.requires.1) (c.trivia-s.ensures.0 c.args.src.now c.args.notes.now)) (c.begin-s.ensures c.args.src.now c.args.notes.now)) c.hex_unit-s.ensures) c.hex_units-s.ensures)
+hex_sub_pattern-end-requires-2 t c = closes G.HEX_SUB_PATTERN c.args.may c.args.x.now.entrypoint c.args.d (plus_t (from c.args.x.now c.args.s c.args.lent.now c.requires) (c.trivia-s.ensures.0 c.args.lent.now.notes)) (c.begin-s.ensures c.args.lent.now.notes) (plus (plus (begins G.HEX_SUB_PATTERN c.args.may c.args.x.now.entrypoint c.args.d (plus_t (from c.args.x.now c.args.s c.args.lent.now c.requires) (c.trivia-s.ensures.0 c.args.lent.now.notes)) (c.begin-s.ensures c.args.lent.now.notes)) c.hex_unit-s.ensures.read) c.hex_units-s.ensures.read)
 
-pub hex_sub_pattern-returns : goal.hex_sub_pattern-returns
+pub hex_sub_pattern-returns-clause-read : goal.hex_sub_pattern-returns-clause-read
 unfolding grammar kind names_of
-hex_sub_pattern-returns t c = then_past c.args.ep c.args.d c.args.may (node G.HEX_SUB_PATTERN) c.if-s-ne-OK.false (makes G.HEX_SUB_PATTERN c.args.may c.args.ep c.args.d (plus_t (from (source c.args.src.now c.args.ids.now c.args.ends.now) (whole c.args.s c.args.notes.now) c.args.ev.now c.args.er.now c.args.sc.now c.requires.1) (c.trivia-s.ensures.0 c.args.src.now c.args.notes.now)) (c.begin-s.ensures c.args.src.now c.args.notes.now) c.if-d-eq0.false (plus (plus (begins G.HEX_SUB_PATTERN c.args.may c.args.ep c.args.d (plus_t (from (source c.args.src.now c.args.ids.now c.args.ends.now) (whole c.args.s c.args.notes.now) c.args.ev.now c.args.er.now c.args.sc.now c.requires.1) (c.trivia-s.ensures.0 c.args.src.now c.args.notes.now)) (c.begin-s.ensures c.args.src.now c.args.notes.now)) c.hex_unit-s.ensures) c.hex_units-s.ensures) (c.end-2.ensures _))
+hex_sub_pattern-returns-clause-read t c = then_past c.args.x.now.entrypoint c.args.d c.args.may (node G.HEX_SUB_PATTERN) (fine _ c.if-ne.ensures) (makes G.HEX_SUB_PATTERN c.args.may c.args.x.now.entrypoint c.args.d (plus_t (from c.args.x.now c.args.s c.args.lent.now c.requires) (c.trivia-s.ensures.0 c.args.lent.now.notes)) (c.begin-s.ensures c.args.lent.now.notes) c.if-d-eq0.false (plus (plus (begins G.HEX_SUB_PATTERN c.args.may c.args.x.now.entrypoint c.args.d (plus_t (from c.args.x.now c.args.s c.args.lent.now c.requires) (c.trivia-s.ensures.0 c.args.lent.now.notes)) (c.begin-s.ensures c.args.lent.now.notes)) c.hex_unit-s.ensures.read) c.hex_units-s.ensures.read) (ended c.end-2.ensures.step))
 
-pub hex_unit-returns-then-s-ne-OK : goal.hex_unit-returns-then-s-ne-OK
+pub hex_unit-returns-then-ne-clause-read : goal.hex_unit-returns-then-ne-clause-read
 unfolding grammar kind names_of
-hex_unit-returns-then-s-ne-OK t c = stops (from (source c.args.src.now c.args.ids.now c.args.ends.now) (whole c.args.s c.args.notes.now) c.args.ev.now c.args.er.now c.args.sc.now c.requires.1) c.args.ep c.args.d c.args.may hex_unit tt c.if-s-ne-OK.true
-
-pub hex_unit-trivia-s-requires : goal.hex_unit-trivia-s-requires
-hex_unit-trivia-s-requires t c = (c.requires.0.lines, ((tries c.args.ep c.args.d c.args.may hex_unit (from (source c.args.src.now c.args.ids.now c.args.ends.now) (whole c.args.s c.args.notes.now) c.args.ev.now c.args.er.now c.args.sc.now c.requires.1) c.if-s-ne-OK.false (c.mark-m.ensures c.args.notes.now)).here.wf.0.2.events, (tries c.args.ep c.args.d c.args.may hex_unit (from (source c.args.src.now c.args.ids.now c.args.ends.now) (whole c.args.s c.args.notes.now) c.args.ev.now c.args.er.now c.args.sc.now c.requires.1) c.if-s-ne-OK.false (c.mark-m.ensures c.args.notes.now)).here.wf.1.events))
+hex_unit-returns-then-ne-clause-read t c = stops (from c.args.x.now c.args.s c.args.lent.now c.requires) c.args.x.now.entrypoint c.args.d c.args.may hex_unit tt (not_fine _ c.if-ne.ensures)
 
 pub hex_unit-expect-s-requires : goal.hex_unit-expect-s-requires
-hex_unit-expect-s-requires t c = (asks_e (plus_t (tries c.args.ep c.args.d c.args.may hex_unit (from (source c.args.src.now c.args.ids.now c.args.ends.now) (whole c.args.s c.args.notes.now) c.args.ev.now c.args.er.now c.args.sc.now c.requires.1) c.if-s-ne-OK.false (c.mark-m.ensures c.args.notes.now)).here (c.trivia-s.ensures.0 c.args.src.now c.args.notes.now)) c.requires.0, omega arith, c.requires.2)
+hex_unit-expect-s-requires t c = (asks_e (plus_t (tries c.args.x.now.entrypoint c.args.d c.args.may hex_unit (from c.args.x.now c.args.s c.args.lent.now c.requires) (fine _ c.if-ne.ensures) (c.mark-m.ensures c.args.lent.now.notes)).here (c.trivia-s.ensures.0 c.args.lent.now.notes)), omega arith)
 
-pub hex_unit-returns-then-s-ne-FAILED : goal.hex_unit-returns-then-s-ne-FAILED
+pub hex_unit-returns-then-ne-2-clause-read : goal.hex_unit-returns-then-ne-2-clause-read
 unfolding grammar kind names_of
-hex_unit-returns-then-s-ne-FAILED t c = goes (tries c.args.ep c.args.d c.args.may hex_unit (from (source c.args.src.now c.args.ids.now c.args.ends.now) (whole c.args.s c.args.notes.now) c.args.ev.now c.args.er.now c.args.sc.now c.requires.1) c.if-s-ne-OK.false (c.mark-m.ensures c.args.notes.now)) (λ g h. (plus_e (plus_t h (c.trivia-s.ensures.0 c.args.src.now c.args.notes.now)) (c.expect-s.ensures c.args.src.now))) c.if-s-ne-FAILED.true
+hex_unit-returns-then-ne-2-clause-read t c = goes (tries c.args.x.now.entrypoint c.args.d c.args.may hex_unit (from c.args.x.now c.args.s c.args.lent.now c.requires) (fine _ c.if-ne.ensures) (c.mark-m.ensures c.args.lent.now.notes)) (λ g h. (plus_e (plus_t h (c.trivia-s.ensures.0 c.args.lent.now.notes)) c.expect-s.ensures.step)) (not_failed _ c.if-ne-2.ensures)
 
 pub hex_unit-trivia-s-requires-2 : goal.hex_unit-trivia-s-requires-2
 unfolding grammar kind names_of
-hex_unit-trivia-s-requires-2 t c = (c.requires.0.lines, ((else (tries c.args.ep c.args.d c.args.may hex_unit (from (source c.args.src.now c.args.ids.now c.args.ends.now) (whole c.args.s c.args.notes.now) c.args.ev.now c.args.er.now c.args.sc.now c.requires.1) c.if-s-ne-OK.false (c.mark-m.ensures c.args.notes.now)) (λ g h. (plus_e (plus_t h (c.trivia-s.ensures.0 c.args.src.now c.args.notes.now)) (c.expect-s.ensures c.args.src.now))) c.if-s-ne-FAILED.false (ap (with_mode 0) (c.rewind-s.ensures c.expect-s.new.notes))).here.wf.0.2.events, (else (tries c.args.ep c.args.d c.args.may hex_unit (from (source c.args.src.now c.args.ids.now c.args.ends.now) (whole c.args.s c.args.notes.now) c.args.ev.now c.args.er.now c.args.sc.now c.requires.1) c.if-s-ne-OK.false (c.mark-m.ensures c.args.notes.now)) (λ g h. (plus_e (plus_t h (c.trivia-s.ensures.0 c.args.src.now c.args.notes.now)) (c.expect-s.ensures c.args.src.now))) c.if-s-ne-FAILED.false (ap (with_mode 0) (c.rewind-s.ensures c.expect-s.new.notes))).here.wf.1.events))
+hex_unit-trivia-s-requires-2 t c = ((else (tries c.args.x.now.entrypoint c.args.d c.args.may hex_unit (from c.args.x.now c.args.s c.args.lent.now c.requires) (fine _ c.if-ne.ensures) (c.mark-m.ensures c.args.lent.now.notes)) (λ g h. (plus_e (plus_t h (c.trivia-s.ensures.0 c.args.lent.now.notes)) c.expect-s.ensures.step)) (failed _ c.if-ne-2.ensures) (ap (with_mode 0) (c.rewind-s.ensures c.expect-s.new.lent.notes))).here.wf.0.2.events, (else (tries c.args.x.now.entrypoint c.args.d c.args.may hex_unit (from c.args.x.now c.args.s c.args.lent.now c.requires) (fine _ c.if-ne.ensures) (c.mark-m.ensures c.args.lent.now.notes)) (λ g h. (plus_e (plus_t h (c.trivia-s.ensures.0 c.args.lent.now.notes)) c.expect-s.ensures.step)) (failed _ c.if-ne-2.ensures) (ap (with_mode 0) (c.rewind-s.ensures c.expect-s.new.lent.notes))).here.wf.1.events)
 
 pub hex_unit-hex_alternative-s-requires : goal.hex_unit-hex_alternative-s-requires
 unfolding grammar kind names_of
-hex_unit-hex_alternative-s-requires t c = (omega arith, (c.requires.0, (plus_t (else (tries c.args.ep c.args.d c.args.may hex_unit (from (source c.args.src.now c.args.ids.now c.args.ends.now) (whole c.args.s c.args.notes.now) c.args.ev.now c.args.er.now c.args.sc.now c.requires.1) c.if-s-ne-OK.false (c.mark-m.ensures c.args.notes.now)) (λ g h. (plus_e (plus_t h (c.trivia-s.ensures.0 c.args.src.now c.args.notes.now)) (c.expect-s.ensures c.args.src.now))) c.if-s-ne-FAILED.false (ap (with_mode 0) (c.rewind-s.ensures c.expect-s.new.notes))).here (c.trivia-s-2.ensures.0 c.args.src.now c.expect-s.new.notes)).wf, c.requires.2))
+hex_unit-hex_alternative-s-requires t c = (omega arith, (plus_t (else (tries c.args.x.now.entrypoint c.args.d c.args.may hex_unit (from c.args.x.now c.args.s c.args.lent.now c.requires) (fine _ c.if-ne.ensures) (c.mark-m.ensures c.args.lent.now.notes)) (λ g h. (plus_e (plus_t h (c.trivia-s.ensures.0 c.args.lent.now.notes)) c.expect-s.ensures.step)) (failed _ c.if-ne-2.ensures) (ap (with_mode 0) (c.rewind-s.ensures c.expect-s.new.lent.notes))).here (c.trivia-s-2.ensures.0 c.expect-s.new.lent.notes)).wf)
 
-pub hex_unit-returns-then-s-ne-FAILED-2 : goal.hex_unit-returns-then-s-ne-FAILED-2
+pub hex_unit-returns-then-ne-3-clause-read : goal.hex_unit-returns-then-ne-3-clause-read
 unfolding grammar kind names_of
-hex_unit-returns-then-s-ne-FAILED-2 t c = at_last (else (tries c.args.ep c.args.d c.args.may hex_unit (from (source c.args.src.now c.args.ids.now c.args.ends.now) (whole c.args.s c.args.notes.now) c.args.ev.now c.args.er.now c.args.sc.now c.requires.1) c.if-s-ne-OK.false (c.mark-m.ensures c.args.notes.now)) (λ g h. (plus_e (plus_t h (c.trivia-s.ensures.0 c.args.src.now c.args.notes.now)) (c.expect-s.ensures c.args.src.now))) c.if-s-ne-FAILED.false (ap (with_mode 0) (c.rewind-s.ensures c.expect-s.new.notes))) (λ g h. (plus (plus_t h (c.trivia-s-2.ensures.0 c.args.src.now c.expect-s.new.notes)) c.hex_alternative-s.ensures)) (lost_on _ _ c.if-s-ne-FAILED-2.true)
+hex_unit-returns-then-ne-3-clause-read t c = at_last (else (tries c.args.x.now.entrypoint c.args.d c.args.may hex_unit (from c.args.x.now c.args.s c.args.lent.now c.requires) (fine _ c.if-ne.ensures) (c.mark-m.ensures c.args.lent.now.notes)) (λ g h. (plus_e (plus_t h (c.trivia-s.ensures.0 c.args.lent.now.notes)) c.expect-s.ensures.step)) (failed _ c.if-ne-2.ensures) (ap (with_mode 0) (c.rewind-s.ensures c.expect-s.new.lent.notes))) (λ g h. (plus (plus_t h (c.trivia-s-2.ensures.0 c.expect-s.new.lent.notes)) c.hex_alternative-s.ensures.read)) (lost_on _ _ (not_failed _ c.if-ne-3.ensures))
 
-pub hex_unit-returns : goal.hex_unit-returns
+pub hex_unit-returns-clause-read : goal.hex_unit-returns-clause-read
 unfolding grammar kind names_of
-hex_unit-returns t c = at_last (else (tries c.args.ep c.args.d c.args.may hex_unit (from (source c.args.src.now c.args.ids.now c.args.ends.now) (whole c.args.s c.args.notes.now) c.args.ev.now c.args.er.now c.args.sc.now c.requires.1) c.if-s-ne-OK.false (c.mark-m.ensures c.args.notes.now)) (λ g h. (plus_e (plus_t h (c.trivia-s.ensures.0 c.args.src.now c.args.notes.now)) (c.expect-s.ensures c.args.src.now))) c.if-s-ne-FAILED.false (ap (with_mode 0) (c.rewind-s.ensures c.expect-s.new.notes))) (λ g h. (plus (plus_t h (c.trivia-s-2.ensures.0 c.args.src.now c.expect-s.new.notes)) c.hex_alternative-s.ensures)) ((c.rewind-s-2.ensures c.hex_alternative-s.new.notes) ∙ lost_back _ _ c.if-s-ne-FAILED-2.false)
+hex_unit-returns-clause-read t c = at_last (else (tries c.args.x.now.entrypoint c.args.d c.args.may hex_unit (from c.args.x.now c.args.s c.args.lent.now c.requires) (fine _ c.if-ne.ensures) (c.mark-m.ensures c.args.lent.now.notes)) (λ g h. (plus_e (plus_t h (c.trivia-s.ensures.0 c.args.lent.now.notes)) c.expect-s.ensures.step)) (failed _ c.if-ne-2.ensures) (ap (with_mode 0) (c.rewind-s.ensures c.expect-s.new.lent.notes))) (λ g h. (plus (plus_t h (c.trivia-s-2.ensures.0 c.expect-s.new.lent.notes)) c.hex_alternative-s.ensures.read)) ((c.rewind-s-2.ensures c.hex_alternative-s.new.lent.notes) ∙ lost_back _ _ (failed _ c.if-ne-3.ensures))
 
-pub hex_units-returns-then-s-ne-OK : goal.hex_units-returns-then-s-ne-OK
+pub hex_units-returns-then-ne-clause-read : goal.hex_units-returns-then-ne-clause-read
 unfolding grammar kind names_of
-hex_units-returns-then-s-ne-OK t c = stops (from (source c.args.src.now c.args.ids.now c.args.ends.now) (whole c.args.s c.args.notes.now) c.args.ev.now c.args.er.now c.args.sc.now c.requires.1) c.args.ep c.args.d c.args.may hex_units tt c.if-s-ne-OK.true
+hex_units-returns-then-ne-clause-read t c = stops (from c.args.x.now c.args.s c.args.lent.now c.requires) c.args.x.now.entrypoint c.args.d c.args.may hex_units tt (not_fine _ c.if-ne.ensures)
 
-pub hex_units-loop-n-init : goal.hex_units-loop-n-init
-hex_units-loop-n-init t c = turns (reads c.args.ep c.args.d true (hex_jumps ⨟ hex_unit)) _ _ _ _ (λ p. sticky_exec p _ c.args.ep c.args.d (hex_jumps ⨟ hex_unit) true) c.requires.1 c.if-s-ne-OK.false refl
-
-pub hex_units-trivia-s-requires : goal.hex_units-trivia-s-requires
-hex_units-trivia-s-requires t c = (c.requires.0.lines, (c.loop-n.invariant.here.wf.0.2.events, c.loop-n.invariant.here.wf.1.events))
+pub hex_units-loop-turn-init : goal.hex_units-loop-turn-init
+hex_units-loop-turn-init t c = turns (reads c.args.x.now.entrypoint c.args.d true (hex_jumps ⨟ hex_unit)) _ _ _ _ (λ p. sticky_exec p _ c.args.x.now.entrypoint c.args.d (hex_jumps ⨟ hex_unit) true) c.requires (fine _ c.if-ne.ensures) refl
 
 pub hex_units-hex_jumps-s-requires : goal.hex_units-hex_jumps-s-requires
-hex_units-hex_jumps-s-requires t c = (c.requires.0, (plus_t c.loop-n.invariant.here (c.trivia-s.ensures.0 c.args.src.now c.loop-n.notes)).wf, c.requires.2)
+hex_units-hex_jumps-s-requires t c = (plus_t c.loop-turn.invariant.here (c.trivia-s.ensures.0 c.loop-turn.lent.notes)).wf
 
 pub hex_units-hex_unit-s-requires : goal.hex_units-hex_unit-s-requires
-hex_units-hex_unit-s-requires t c = (omega arith, (c.requires.0, (plus (plus_t c.loop-n.invariant.here (c.trivia-s.ensures.0 c.args.src.now c.loop-n.notes)) c.hex_jumps-s.ensures).wf, c.requires.2))
+hex_units-hex_unit-s-requires t c = (omega arith, (plus (plus_t c.loop-turn.invariant.here (c.trivia-s.ensures.0 c.loop-turn.lent.notes)) c.hex_jumps-s.ensures.read).wf)
 
-pub hex_units-returns-then-s-ne-OK-2 : goal.hex_units-returns-then-s-ne-OK-2
+pub hex_units-returns-then-ne-2-clause-read : goal.hex_units-returns-then-ne-2-clause-read
 unfolding grammar kind names_of
-hex_units-returns-then-s-ne-OK-2 t c = turns_undone c.loop-n.invariant c.loop-n-test.true (plus (plus (plus_t c.loop-n.invariant.here (c.trivia-s.ensures.0 c.args.src.now c.loop-n.notes)) c.hex_jumps-s.ensures) c.hex_unit-s.ensures) c.if-s-ne-OK-2.true (c.mark-m.ensures c.loop-n.notes) (c.undone.ensures c.hex_unit-s.new.notes)
+hex_units-returns-then-ne-2-clause-read t c = turns_undone c.loop-turn.invariant c.loop-turn-test.true (plus (plus (plus_t c.loop-turn.invariant.here (c.trivia-s.ensures.0 c.loop-turn.lent.notes)) c.hex_jumps-s.ensures.read) c.hex_unit-s.ensures.read) (not_fine _ c.if-ne-2.ensures) (c.mark-m.ensures c.loop-turn.lent.notes) (c.undone.ensures c.hex_unit-s.new.lent.notes)
 
-pub hex_units-loop-n-preserved : goal.hex_units-loop-n-preserved
+pub hex_units-loop-turn-preserved : goal.hex_units-loop-turn-preserved
 unfolding grammar kind names_of
-hex_units-loop-n-preserved t c = turns_more c.loop-n.invariant c.loop-n-test.true (plus (plus (plus_t c.loop-n.invariant.here (c.trivia-s.ensures.0 c.args.src.now c.loop-n.notes)) c.hex_jumps-s.ensures) c.hex_unit-s.ensures) c.if-s-ne-OK-2.false (c.hex_unit-s.auto.ev ∙ c.hex_jumps-s.auto.ev ∙ c.trivia-s.auto.events) (c.hex_unit-s.auto.er ∙ c.hex_jumps-s.auto.er) (c.hex_unit-s.auto.sc ∙ c.hex_jumps-s.auto.sc)
+hex_units-loop-turn-preserved t c = turns_more c.loop-turn.invariant c.loop-turn-test.true (plus (plus (plus_t c.loop-turn.invariant.here (c.trivia-s.ensures.0 c.loop-turn.lent.notes)) c.hex_jumps-s.ensures.read) c.hex_unit-s.ensures.read) (fine _ c.if-ne-2.ensures) (chain c.hex_jumps-s.ensures.lists c.hex_unit-s.ensures.lists)
 
-pub hex_units-returns : goal.hex_units-returns
+pub hex_units-returns-clause-read : goal.hex_units-returns-clause-read
 unfolding grammar kind names_of
-hex_units-returns t c = turns_over c.loop-n.invariant c.loop-n-test.false
+hex_units-returns-clause-read t c = turns_over c.loop-turn.invariant c.loop-turn-test.false

@@ -1,37 +1,31 @@
 -- By its shape.
 use native.Mathlib.Omega.{arith}
-use mathlib.Core.Bool.{true}
-use Prim.Native.Nat.{◌-◌}
 use Rattle.definition.specs.Prog as G
 use Rattle.definition.specs.Grammar.{grammar, kind}
-use Rattle.notes.specs.Means.{source, names_of}
-use Rattle.steps.specs.Steps.{whole}
+use Rattle.notes.specs.Means.{names_of}
 use Rattle.parts.proofs.Exec.{begins, closes, makes, makes_none}
-use Rattle.parts.proofs.Lines.{from, here, plus, plus_e, asks_e}
+use Rattle.parts.proofs.Lines.{from, plus, plus_e, asks_e, ended}
 use Rattle.patterns.proofs.hex.hex_jump.Goals as goal
 
-pub begin-s-requires : goal.begin-s-requires
-begin-s-requires c = (c.requires.0.lines, ((from (source c.args.src.now c.args.ids.now c.args.ends.now) (whole c.args.s c.args.notes.now) c.args.ev.now c.args.er.now c.args.sc.now c.requires.1).wf.0.2.events, (from (source c.args.src.now c.args.ids.now c.args.ends.now) (whole c.args.s c.args.notes.now) c.args.ev.now c.args.er.now c.args.sc.now c.requires.1).wf.1.events), (from (source c.args.src.now c.args.ids.now c.args.ends.now) (whole c.args.s c.args.notes.now) c.args.ev.now c.args.er.now c.args.sc.now c.requires.1).wf.0.0.here)
-
 pub end-requires : goal.end-requires
-end-requires c = closes G.HEX_JUMP c.args.may c.args.ep c.args.d (from (source c.args.src.now c.args.ids.now c.args.ends.now) (whole c.args.s c.args.notes.now) c.args.ev.now c.args.er.now c.args.sc.now c.requires.1) (c.begin-s.ensures c.args.src.now c.args.notes.now) c.requires.0 (begins G.HEX_JUMP c.args.may c.args.ep c.args.d (from (source c.args.src.now c.args.ids.now c.args.ends.now) (whole c.args.s c.args.notes.now) c.args.ev.now c.args.er.now c.args.sc.now c.requires.1) (c.begin-s.ensures c.args.src.now c.args.notes.now))
+end-requires c = closes G.HEX_JUMP c.args.may c.args.x.now.entrypoint c.args.d (from c.args.x.now c.args.s c.args.lent.now c.requires) (c.begin-s.ensures c.args.lent.now.notes) (begins G.HEX_JUMP c.args.may c.args.x.now.entrypoint c.args.d (from c.args.x.now c.args.s c.args.lent.now c.requires) (c.begin-s.ensures c.args.lent.now.notes))
 
-pub returns-then-d-eq0 : goal.returns-then-d-eq0
+pub returns-then-d-eq0-clause-read : goal.returns-then-d-eq0-clause-read
 unfolding grammar kind names_of
-returns-then-d-eq0 c = makes_none G.HEX_JUMP c.args.may c.args.ep c.args.d (from (source c.args.src.now c.args.ids.now c.args.ends.now) (whole c.args.s c.args.notes.now) c.args.ev.now c.args.er.now c.args.sc.now c.requires.1) (c.begin-s.ensures c.args.src.now c.args.notes.now) c.if-d-eq0.true (c.end.ensures _)
+returns-then-d-eq0-clause-read c = makes_none G.HEX_JUMP c.args.may c.args.x.now.entrypoint c.args.d (from c.args.x.now c.args.s c.args.lent.now c.requires) (c.begin-s.ensures c.args.lent.now.notes) c.if-d-eq0.true (ended c.end.ensures.step)
 
 pub expect-s-requires : goal.expect-s-requires
-expect-s-requires c = (asks_e (begins G.HEX_JUMP c.args.may c.args.ep c.args.d (from (source c.args.src.now c.args.ids.now c.args.ends.now) (whole c.args.s c.args.notes.now) c.args.ev.now c.args.er.now c.args.sc.now c.requires.1) (c.begin-s.ensures c.args.src.now c.args.notes.now)) c.requires.0, omega arith, c.requires.2)
+expect-s-requires c = (asks_e (begins G.HEX_JUMP c.args.may c.args.x.now.entrypoint c.args.d (from c.args.x.now c.args.s c.args.lent.now c.requires) (c.begin-s.ensures c.args.lent.now.notes)), omega arith)
 
 pub jump_range-s-requires : goal.jump_range-s-requires
-jump_range-s-requires c = (c.requires.0, (plus_e (begins G.HEX_JUMP c.args.may c.args.ep c.args.d (from (source c.args.src.now c.args.ids.now c.args.ends.now) (whole c.args.s c.args.notes.now) c.args.ev.now c.args.er.now c.args.sc.now c.requires.1) (c.begin-s.ensures c.args.src.now c.args.notes.now)) (c.expect-s.ensures c.args.src.now)).wf, c.requires.2)
+jump_range-s-requires c = (plus_e (begins G.HEX_JUMP c.args.may c.args.x.now.entrypoint c.args.d (from c.args.x.now c.args.s c.args.lent.now c.requires) (c.begin-s.ensures c.args.lent.now.notes)) c.expect-s.ensures.step).wf
 
 pub expect-s-requires-2 : goal.expect-s-requires-2
-expect-s-requires-2 c = (asks_e (plus (plus_e (begins G.HEX_JUMP c.args.may c.args.ep c.args.d (from (source c.args.src.now c.args.ids.now c.args.ends.now) (whole c.args.s c.args.notes.now) c.args.ev.now c.args.er.now c.args.sc.now c.requires.1) (c.begin-s.ensures c.args.src.now c.args.notes.now)) (c.expect-s.ensures c.args.src.now)) c.jump_range-s.ensures) c.requires.0, omega arith, c.requires.2)
+expect-s-requires-2 c = (asks_e (plus (plus_e (begins G.HEX_JUMP c.args.may c.args.x.now.entrypoint c.args.d (from c.args.x.now c.args.s c.args.lent.now c.requires) (c.begin-s.ensures c.args.lent.now.notes)) c.expect-s.ensures.step) c.jump_range-s.ensures.read), omega arith)
 
 pub end-requires-2 : goal.end-requires-2
-end-requires-2 c = closes G.HEX_JUMP c.args.may c.args.ep c.args.d (from (source c.args.src.now c.args.ids.now c.args.ends.now) (whole c.args.s c.args.notes.now) c.args.ev.now c.args.er.now c.args.sc.now c.requires.1) (c.begin-s.ensures c.args.src.now c.args.notes.now) c.requires.0 (plus_e (plus (plus_e (begins G.HEX_JUMP c.args.may c.args.ep c.args.d (from (source c.args.src.now c.args.ids.now c.args.ends.now) (whole c.args.s c.args.notes.now) c.args.ev.now c.args.er.now c.args.sc.now c.requires.1) (c.begin-s.ensures c.args.src.now c.args.notes.now)) (c.expect-s.ensures c.args.src.now)) c.jump_range-s.ensures) (c.expect-s-2.ensures c.args.src.now))
+end-requires-2 c = closes G.HEX_JUMP c.args.may c.args.x.now.entrypoint c.args.d (from c.args.x.now c.args.s c.args.lent.now c.requires) (c.begin-s.ensures c.args.lent.now.notes) (plus_e (plus (plus_e (begins G.HEX_JUMP c.args.may c.args.x.now.entrypoint c.args.d (from c.args.x.now c.args.s c.args.lent.now c.requires) (c.begin-s.ensures c.args.lent.now.notes)) c.expect-s.ensures.step) c.jump_range-s.ensures.read) c.expect-s-2.ensures.step)
 
-pub returns : goal.returns
+pub returns-clause-read : goal.returns-clause-read
 unfolding grammar kind names_of
-returns c = makes G.HEX_JUMP c.args.may c.args.ep c.args.d (from (source c.args.src.now c.args.ids.now c.args.ends.now) (whole c.args.s c.args.notes.now) c.args.ev.now c.args.er.now c.args.sc.now c.requires.1) (c.begin-s.ensures c.args.src.now c.args.notes.now) c.if-d-eq0.false (plus_e (plus (plus_e (begins G.HEX_JUMP c.args.may c.args.ep c.args.d (from (source c.args.src.now c.args.ids.now c.args.ends.now) (whole c.args.s c.args.notes.now) c.args.ev.now c.args.er.now c.args.sc.now c.requires.1) (c.begin-s.ensures c.args.src.now c.args.notes.now)) (c.expect-s.ensures c.args.src.now)) c.jump_range-s.ensures) (c.expect-s-2.ensures c.args.src.now)) (c.end-2.ensures _)
+returns-clause-read c = makes G.HEX_JUMP c.args.may c.args.x.now.entrypoint c.args.d (from c.args.x.now c.args.s c.args.lent.now c.requires) (c.begin-s.ensures c.args.lent.now.notes) c.if-d-eq0.false (plus_e (plus (plus_e (begins G.HEX_JUMP c.args.may c.args.x.now.entrypoint c.args.d (from c.args.x.now c.args.s c.args.lent.now c.requires) (c.begin-s.ensures c.args.lent.now.notes)) c.expect-s.ensures.step) c.jump_range-s.ensures.read) c.expect-s-2.ensures.step) (ended c.end-2.ensures.step)

@@ -1,62 +1,57 @@
 -- By its shape.
 use native.Mathlib.Omega.{arith}
 use mathlib.Core.Path.{ap, ◌∙◌}
-use mathlib.Core.Bool.{true}
-use Prim.Native.Nat.{◌-◌}
 use Rattle.definition.specs.Prog as G
 use Rattle.definition.specs.Grammar.{grammar, kind}
 use Rattle.notes.specs.Change.{with_mode}
-use Rattle.notes.specs.Means.{source, names_of}
-use Rattle.steps.specs.Steps.{whole}
-use Rattle.parts.proofs.Lines.{from, here, plus, plus_e, plus_t, asks_e, stops, tries, goes, else, at_last, lost_on, lost_back}
+use Rattle.notes.specs.Means.{names_of}
+use Rattle.parts.proofs.Lines.{from, plus, plus_e, plus_t, asks_e, stops, tries, goes, else, at_last, lost_on, lost_back}
+use Rattle.steps.proofs.Modes.{failed, fine, not_failed, not_fine}
 use Rattle.patterns.proofs.patterns.modifier.Goals as goal
 
-pub returns-then-s-ne-OK : goal.returns-then-s-ne-OK
+pub returns-then-ne-clause-read : goal.returns-then-ne-clause-read
 unfolding grammar kind names_of
-returns-then-s-ne-OK c = stops (from (source c.args.src.now c.args.ids.now c.args.ends.now) (whole c.args.s c.args.notes.now) c.args.ev.now c.args.er.now c.args.sc.now c.requires.1) c.args.ep c.args.d c.args.may (grammar c.args.ep G.PATTERN_MOD) tt c.if-s-ne-OK.true
-
-pub trivia-s-requires : goal.trivia-s-requires
-trivia-s-requires c = (c.requires.0.lines, ((tries c.args.ep c.args.d c.args.may (grammar c.args.ep G.PATTERN_MOD) (from (source c.args.src.now c.args.ids.now c.args.ends.now) (whole c.args.s c.args.notes.now) c.args.ev.now c.args.er.now c.args.sc.now c.requires.1) c.if-s-ne-OK.false (c.mark-m.ensures c.args.notes.now)).here.wf.0.2.events, (tries c.args.ep c.args.d c.args.may (grammar c.args.ep G.PATTERN_MOD) (from (source c.args.src.now c.args.ids.now c.args.ends.now) (whole c.args.s c.args.notes.now) c.args.ev.now c.args.er.now c.args.sc.now c.requires.1) c.if-s-ne-OK.false (c.mark-m.ensures c.args.notes.now)).here.wf.1.events))
+returns-then-ne-clause-read c = stops (from c.args.x.now c.args.s c.args.lent.now c.requires) c.args.x.now.entrypoint c.args.d c.args.may (grammar c.args.x.now.entrypoint G.PATTERN_MOD) tt (not_fine _ c.if-ne.ensures)
 
 pub expect-s-requires : goal.expect-s-requires
-expect-s-requires c = (asks_e (plus_t (tries c.args.ep c.args.d c.args.may (grammar c.args.ep G.PATTERN_MOD) (from (source c.args.src.now c.args.ids.now c.args.ends.now) (whole c.args.s c.args.notes.now) c.args.ev.now c.args.er.now c.args.sc.now c.requires.1) c.if-s-ne-OK.false (c.mark-m.ensures c.args.notes.now)).here (c.trivia-s.ensures.0 c.args.src.now c.args.notes.now)) c.requires.0, omega arith, c.requires.2)
+expect-s-requires c = (asks_e (plus_t (tries c.args.x.now.entrypoint c.args.d c.args.may (grammar c.args.x.now.entrypoint G.PATTERN_MOD) (from c.args.x.now c.args.s c.args.lent.now c.requires) (fine _ c.if-ne.ensures) (c.mark-m.ensures c.args.lent.now.notes)).here (c.trivia-s.ensures.0 c.args.lent.now.notes)), omega arith)
 
-pub returns-then-s-ne-FAILED : goal.returns-then-s-ne-FAILED
+pub returns-then-ne-2-clause-read : goal.returns-then-ne-2-clause-read
 unfolding grammar kind names_of
-returns-then-s-ne-FAILED c = goes (tries c.args.ep c.args.d c.args.may (grammar c.args.ep G.PATTERN_MOD) (from (source c.args.src.now c.args.ids.now c.args.ends.now) (whole c.args.s c.args.notes.now) c.args.ev.now c.args.er.now c.args.sc.now c.requires.1) c.if-s-ne-OK.false (c.mark-m.ensures c.args.notes.now)) (λ g h. (plus_e (plus_t h (c.trivia-s.ensures.0 c.args.src.now c.args.notes.now)) (c.expect-s.ensures c.args.src.now))) c.if-s-ne-FAILED.true
+returns-then-ne-2-clause-read c = goes (tries c.args.x.now.entrypoint c.args.d c.args.may (grammar c.args.x.now.entrypoint G.PATTERN_MOD) (from c.args.x.now c.args.s c.args.lent.now c.requires) (fine _ c.if-ne.ensures) (c.mark-m.ensures c.args.lent.now.notes)) (λ g h. (plus_e (plus_t h (c.trivia-s.ensures.0 c.args.lent.now.notes)) c.expect-s.ensures.step)) (not_failed _ c.if-ne-2.ensures)
 
 pub trivia-s-requires-2 : goal.trivia-s-requires-2
 unfolding grammar kind names_of
-trivia-s-requires-2 c = (c.requires.0.lines, ((else (tries c.args.ep c.args.d c.args.may (grammar c.args.ep G.PATTERN_MOD) (from (source c.args.src.now c.args.ids.now c.args.ends.now) (whole c.args.s c.args.notes.now) c.args.ev.now c.args.er.now c.args.sc.now c.requires.1) c.if-s-ne-OK.false (c.mark-m.ensures c.args.notes.now)) (λ g h. (plus_e (plus_t h (c.trivia-s.ensures.0 c.args.src.now c.args.notes.now)) (c.expect-s.ensures c.args.src.now))) c.if-s-ne-FAILED.false (ap (with_mode 0) (c.rewind-s.ensures c.expect-s.new.notes))).here.wf.0.2.events, (else (tries c.args.ep c.args.d c.args.may (grammar c.args.ep G.PATTERN_MOD) (from (source c.args.src.now c.args.ids.now c.args.ends.now) (whole c.args.s c.args.notes.now) c.args.ev.now c.args.er.now c.args.sc.now c.requires.1) c.if-s-ne-OK.false (c.mark-m.ensures c.args.notes.now)) (λ g h. (plus_e (plus_t h (c.trivia-s.ensures.0 c.args.src.now c.args.notes.now)) (c.expect-s.ensures c.args.src.now))) c.if-s-ne-FAILED.false (ap (with_mode 0) (c.rewind-s.ensures c.expect-s.new.notes))).here.wf.1.events))
+trivia-s-requires-2 c = ((else (tries c.args.x.now.entrypoint c.args.d c.args.may (grammar c.args.x.now.entrypoint G.PATTERN_MOD) (from c.args.x.now c.args.s c.args.lent.now c.requires) (fine _ c.if-ne.ensures) (c.mark-m.ensures c.args.lent.now.notes)) (λ g h. (plus_e (plus_t h (c.trivia-s.ensures.0 c.args.lent.now.notes)) c.expect-s.ensures.step)) (failed _ c.if-ne-2.ensures) (ap (with_mode 0) (c.rewind-s.ensures c.expect-s.new.lent.notes))).here.wf.0.2.events, (else (tries c.args.x.now.entrypoint c.args.d c.args.may (grammar c.args.x.now.entrypoint G.PATTERN_MOD) (from c.args.x.now c.args.s c.args.lent.now c.requires) (fine _ c.if-ne.ensures) (c.mark-m.ensures c.args.lent.now.notes)) (λ g h. (plus_e (plus_t h (c.trivia-s.ensures.0 c.args.lent.now.notes)) c.expect-s.ensures.step)) (failed _ c.if-ne-2.ensures) (ap (with_mode 0) (c.rewind-s.ensures c.expect-s.new.lent.notes))).here.wf.1.events)
 
 pub expect-s-requires-2 : goal.expect-s-requires-2
 unfolding grammar kind names_of
-expect-s-requires-2 c = (asks_e (plus_t (else (tries c.args.ep c.args.d c.args.may (grammar c.args.ep G.PATTERN_MOD) (from (source c.args.src.now c.args.ids.now c.args.ends.now) (whole c.args.s c.args.notes.now) c.args.ev.now c.args.er.now c.args.sc.now c.requires.1) c.if-s-ne-OK.false (c.mark-m.ensures c.args.notes.now)) (λ g h. (plus_e (plus_t h (c.trivia-s.ensures.0 c.args.src.now c.args.notes.now)) (c.expect-s.ensures c.args.src.now))) c.if-s-ne-FAILED.false (ap (with_mode 0) (c.rewind-s.ensures c.expect-s.new.notes))).here (c.trivia-s-2.ensures.0 c.args.src.now c.expect-s.new.notes)) c.requires.0, omega arith, c.requires.2)
+expect-s-requires-2 c = (asks_e (plus_t (else (tries c.args.x.now.entrypoint c.args.d c.args.may (grammar c.args.x.now.entrypoint G.PATTERN_MOD) (from c.args.x.now c.args.s c.args.lent.now c.requires) (fine _ c.if-ne.ensures) (c.mark-m.ensures c.args.lent.now.notes)) (λ g h. (plus_e (plus_t h (c.trivia-s.ensures.0 c.args.lent.now.notes)) c.expect-s.ensures.step)) (failed _ c.if-ne-2.ensures) (ap (with_mode 0) (c.rewind-s.ensures c.expect-s.new.lent.notes))).here (c.trivia-s-2.ensures.0 c.expect-s.new.lent.notes)), omega arith)
 
 pub alphabet-s-requires : goal.alphabet-s-requires
 unfolding grammar kind names_of
-alphabet-s-requires c = (c.requires.0, (plus_e (plus_t (else (tries c.args.ep c.args.d c.args.may (grammar c.args.ep G.PATTERN_MOD) (from (source c.args.src.now c.args.ids.now c.args.ends.now) (whole c.args.s c.args.notes.now) c.args.ev.now c.args.er.now c.args.sc.now c.requires.1) c.if-s-ne-OK.false (c.mark-m.ensures c.args.notes.now)) (λ g h. (plus_e (plus_t h (c.trivia-s.ensures.0 c.args.src.now c.args.notes.now)) (c.expect-s.ensures c.args.src.now))) c.if-s-ne-FAILED.false (ap (with_mode 0) (c.rewind-s.ensures c.expect-s.new.notes))).here (c.trivia-s-2.ensures.0 c.args.src.now c.expect-s.new.notes)) (c.expect-s-2.ensures c.args.src.now)).wf, c.requires.2)
+alphabet-s-requires c = (plus_e (plus_t (else (tries c.args.x.now.entrypoint c.args.d c.args.may (grammar c.args.x.now.entrypoint G.PATTERN_MOD) (from c.args.x.now c.args.s c.args.lent.now c.requires) (fine _ c.if-ne.ensures) (c.mark-m.ensures c.args.lent.now.notes)) (λ g h. (plus_e (plus_t h (c.trivia-s.ensures.0 c.args.lent.now.notes)) c.expect-s.ensures.step)) (failed _ c.if-ne-2.ensures) (ap (with_mode 0) (c.rewind-s.ensures c.expect-s.new.lent.notes))).here (c.trivia-s-2.ensures.0 c.expect-s.new.lent.notes)) c.expect-s-2.ensures.step).wf
 
-pub returns-then-s-ne-FAILED-2 : goal.returns-then-s-ne-FAILED-2
+pub returns-then-ne-3-clause-read : goal.returns-then-ne-3-clause-read
 unfolding grammar kind names_of
-returns-then-s-ne-FAILED-2 c = goes (else (tries c.args.ep c.args.d c.args.may (grammar c.args.ep G.PATTERN_MOD) (from (source c.args.src.now c.args.ids.now c.args.ends.now) (whole c.args.s c.args.notes.now) c.args.ev.now c.args.er.now c.args.sc.now c.requires.1) c.if-s-ne-OK.false (c.mark-m.ensures c.args.notes.now)) (λ g h. (plus_e (plus_t h (c.trivia-s.ensures.0 c.args.src.now c.args.notes.now)) (c.expect-s.ensures c.args.src.now))) c.if-s-ne-FAILED.false (ap (with_mode 0) (c.rewind-s.ensures c.expect-s.new.notes))) (λ g h. (plus (plus_e (plus_t h (c.trivia-s-2.ensures.0 c.args.src.now c.expect-s.new.notes)) (c.expect-s-2.ensures c.args.src.now)) c.alphabet-s.ensures)) c.if-s-ne-FAILED-2.true
+returns-then-ne-3-clause-read c = goes (else (tries c.args.x.now.entrypoint c.args.d c.args.may (grammar c.args.x.now.entrypoint G.PATTERN_MOD) (from c.args.x.now c.args.s c.args.lent.now c.requires) (fine _ c.if-ne.ensures) (c.mark-m.ensures c.args.lent.now.notes)) (λ g h. (plus_e (plus_t h (c.trivia-s.ensures.0 c.args.lent.now.notes)) c.expect-s.ensures.step)) (failed _ c.if-ne-2.ensures) (ap (with_mode 0) (c.rewind-s.ensures c.expect-s.new.lent.notes))) (λ g h. (plus (plus_e (plus_t h (c.trivia-s-2.ensures.0 c.expect-s.new.lent.notes)) c.expect-s-2.ensures.step) c.alphabet-s.ensures.read)) (not_failed _ c.if-ne-3.ensures)
 
 pub trivia-s-requires-3 : goal.trivia-s-requires-3
 unfolding grammar kind names_of
-trivia-s-requires-3 c = (c.requires.0.lines, ((else (else (tries c.args.ep c.args.d c.args.may (grammar c.args.ep G.PATTERN_MOD) (from (source c.args.src.now c.args.ids.now c.args.ends.now) (whole c.args.s c.args.notes.now) c.args.ev.now c.args.er.now c.args.sc.now c.requires.1) c.if-s-ne-OK.false (c.mark-m.ensures c.args.notes.now)) (λ g h. (plus_e (plus_t h (c.trivia-s.ensures.0 c.args.src.now c.args.notes.now)) (c.expect-s.ensures c.args.src.now))) c.if-s-ne-FAILED.false (ap (with_mode 0) (c.rewind-s.ensures c.expect-s.new.notes))) (λ g h. (plus (plus_e (plus_t h (c.trivia-s-2.ensures.0 c.args.src.now c.expect-s.new.notes)) (c.expect-s-2.ensures c.args.src.now)) c.alphabet-s.ensures)) c.if-s-ne-FAILED-2.false (ap (with_mode 0) (c.rewind-s-2.ensures c.alphabet-s.new.notes))).here.wf.0.2.events, (else (else (tries c.args.ep c.args.d c.args.may (grammar c.args.ep G.PATTERN_MOD) (from (source c.args.src.now c.args.ids.now c.args.ends.now) (whole c.args.s c.args.notes.now) c.args.ev.now c.args.er.now c.args.sc.now c.requires.1) c.if-s-ne-OK.false (c.mark-m.ensures c.args.notes.now)) (λ g h. (plus_e (plus_t h (c.trivia-s.ensures.0 c.args.src.now c.args.notes.now)) (c.expect-s.ensures c.args.src.now))) c.if-s-ne-FAILED.false (ap (with_mode 0) (c.rewind-s.ensures c.expect-s.new.notes))) (λ g h. (plus (plus_e (plus_t h (c.trivia-s-2.ensures.0 c.args.src.now c.expect-s.new.notes)) (c.expect-s-2.ensures c.args.src.now)) c.alphabet-s.ensures)) c.if-s-ne-FAILED-2.false (ap (with_mode 0) (c.rewind-s-2.ensures c.alphabet-s.new.notes))).here.wf.1.events))
+trivia-s-requires-3 c = ((else (else (tries c.args.x.now.entrypoint c.args.d c.args.may (grammar c.args.x.now.entrypoint G.PATTERN_MOD) (from c.args.x.now c.args.s c.args.lent.now c.requires) (fine _ c.if-ne.ensures) (c.mark-m.ensures c.args.lent.now.notes)) (λ g h. (plus_e (plus_t h (c.trivia-s.ensures.0 c.args.lent.now.notes)) c.expect-s.ensures.step)) (failed _ c.if-ne-2.ensures) (ap (with_mode 0) (c.rewind-s.ensures c.expect-s.new.lent.notes))) (λ g h. (plus (plus_e (plus_t h (c.trivia-s-2.ensures.0 c.expect-s.new.lent.notes)) c.expect-s-2.ensures.step) c.alphabet-s.ensures.read)) (failed _ c.if-ne-3.ensures) (ap (with_mode 0) (c.rewind-s-2.ensures c.alphabet-s.new.lent.notes))).here.wf.0.2.events, (else (else (tries c.args.x.now.entrypoint c.args.d c.args.may (grammar c.args.x.now.entrypoint G.PATTERN_MOD) (from c.args.x.now c.args.s c.args.lent.now c.requires) (fine _ c.if-ne.ensures) (c.mark-m.ensures c.args.lent.now.notes)) (λ g h. (plus_e (plus_t h (c.trivia-s.ensures.0 c.args.lent.now.notes)) c.expect-s.ensures.step)) (failed _ c.if-ne-2.ensures) (ap (with_mode 0) (c.rewind-s.ensures c.expect-s.new.lent.notes))) (λ g h. (plus (plus_e (plus_t h (c.trivia-s-2.ensures.0 c.expect-s.new.lent.notes)) c.expect-s-2.ensures.step) c.alphabet-s.ensures.read)) (failed _ c.if-ne-3.ensures) (ap (with_mode 0) (c.rewind-s-2.ensures c.alphabet-s.new.lent.notes))).here.wf.1.events)
 
 pub expect-s-requires-3 : goal.expect-s-requires-3
 unfolding grammar kind names_of
-expect-s-requires-3 c = (asks_e (plus_t (else (else (tries c.args.ep c.args.d c.args.may (grammar c.args.ep G.PATTERN_MOD) (from (source c.args.src.now c.args.ids.now c.args.ends.now) (whole c.args.s c.args.notes.now) c.args.ev.now c.args.er.now c.args.sc.now c.requires.1) c.if-s-ne-OK.false (c.mark-m.ensures c.args.notes.now)) (λ g h. (plus_e (plus_t h (c.trivia-s.ensures.0 c.args.src.now c.args.notes.now)) (c.expect-s.ensures c.args.src.now))) c.if-s-ne-FAILED.false (ap (with_mode 0) (c.rewind-s.ensures c.expect-s.new.notes))) (λ g h. (plus (plus_e (plus_t h (c.trivia-s-2.ensures.0 c.args.src.now c.expect-s.new.notes)) (c.expect-s-2.ensures c.args.src.now)) c.alphabet-s.ensures)) c.if-s-ne-FAILED-2.false (ap (with_mode 0) (c.rewind-s-2.ensures c.alphabet-s.new.notes))).here (c.trivia-s-3.ensures.0 c.args.src.now c.alphabet-s.new.notes)) c.requires.0, omega arith, c.requires.2)
+expect-s-requires-3 c = (asks_e (plus_t (else (else (tries c.args.x.now.entrypoint c.args.d c.args.may (grammar c.args.x.now.entrypoint G.PATTERN_MOD) (from c.args.x.now c.args.s c.args.lent.now c.requires) (fine _ c.if-ne.ensures) (c.mark-m.ensures c.args.lent.now.notes)) (λ g h. (plus_e (plus_t h (c.trivia-s.ensures.0 c.args.lent.now.notes)) c.expect-s.ensures.step)) (failed _ c.if-ne-2.ensures) (ap (with_mode 0) (c.rewind-s.ensures c.expect-s.new.lent.notes))) (λ g h. (plus (plus_e (plus_t h (c.trivia-s-2.ensures.0 c.expect-s.new.lent.notes)) c.expect-s-2.ensures.step) c.alphabet-s.ensures.read)) (failed _ c.if-ne-3.ensures) (ap (with_mode 0) (c.rewind-s-2.ensures c.alphabet-s.new.lent.notes))).here (c.trivia-s-3.ensures.0 c.alphabet-s.new.lent.notes)), omega arith)
 
 pub xor_range-s-requires : goal.xor_range-s-requires
 unfolding grammar kind names_of
-xor_range-s-requires c = (c.requires.0, (plus_e (plus_t (else (else (tries c.args.ep c.args.d c.args.may (grammar c.args.ep G.PATTERN_MOD) (from (source c.args.src.now c.args.ids.now c.args.ends.now) (whole c.args.s c.args.notes.now) c.args.ev.now c.args.er.now c.args.sc.now c.requires.1) c.if-s-ne-OK.false (c.mark-m.ensures c.args.notes.now)) (λ g h. (plus_e (plus_t h (c.trivia-s.ensures.0 c.args.src.now c.args.notes.now)) (c.expect-s.ensures c.args.src.now))) c.if-s-ne-FAILED.false (ap (with_mode 0) (c.rewind-s.ensures c.expect-s.new.notes))) (λ g h. (plus (plus_e (plus_t h (c.trivia-s-2.ensures.0 c.args.src.now c.expect-s.new.notes)) (c.expect-s-2.ensures c.args.src.now)) c.alphabet-s.ensures)) c.if-s-ne-FAILED-2.false (ap (with_mode 0) (c.rewind-s-2.ensures c.alphabet-s.new.notes))).here (c.trivia-s-3.ensures.0 c.args.src.now c.alphabet-s.new.notes)) (c.expect-s-3.ensures c.args.src.now)).wf, c.requires.2)
+xor_range-s-requires c = (plus_e (plus_t (else (else (tries c.args.x.now.entrypoint c.args.d c.args.may (grammar c.args.x.now.entrypoint G.PATTERN_MOD) (from c.args.x.now c.args.s c.args.lent.now c.requires) (fine _ c.if-ne.ensures) (c.mark-m.ensures c.args.lent.now.notes)) (λ g h. (plus_e (plus_t h (c.trivia-s.ensures.0 c.args.lent.now.notes)) c.expect-s.ensures.step)) (failed _ c.if-ne-2.ensures) (ap (with_mode 0) (c.rewind-s.ensures c.expect-s.new.lent.notes))) (λ g h. (plus (plus_e (plus_t h (c.trivia-s-2.ensures.0 c.expect-s.new.lent.notes)) c.expect-s-2.ensures.step) c.alphabet-s.ensures.read)) (failed _ c.if-ne-3.ensures) (ap (with_mode 0) (c.rewind-s-2.ensures c.alphabet-s.new.lent.notes))).here (c.trivia-s-3.ensures.0 c.alphabet-s.new.lent.notes)) c.expect-s-3.ensures.step).wf
 
-pub returns-then-s-ne-FAILED-3 : goal.returns-then-s-ne-FAILED-3
+pub returns-then-ne-4-clause-read : goal.returns-then-ne-4-clause-read
 unfolding grammar kind names_of
-returns-then-s-ne-FAILED-3 c = at_last (else (else (tries c.args.ep c.args.d c.args.may (grammar c.args.ep G.PATTERN_MOD) (from (source c.args.src.now c.args.ids.now c.args.ends.now) (whole c.args.s c.args.notes.now) c.args.ev.now c.args.er.now c.args.sc.now c.requires.1) c.if-s-ne-OK.false (c.mark-m.ensures c.args.notes.now)) (λ g h. (plus_e (plus_t h (c.trivia-s.ensures.0 c.args.src.now c.args.notes.now)) (c.expect-s.ensures c.args.src.now))) c.if-s-ne-FAILED.false (ap (with_mode 0) (c.rewind-s.ensures c.expect-s.new.notes))) (λ g h. (plus (plus_e (plus_t h (c.trivia-s-2.ensures.0 c.args.src.now c.expect-s.new.notes)) (c.expect-s-2.ensures c.args.src.now)) c.alphabet-s.ensures)) c.if-s-ne-FAILED-2.false (ap (with_mode 0) (c.rewind-s-2.ensures c.alphabet-s.new.notes))) (λ g h. (plus (plus_e (plus_t h (c.trivia-s-3.ensures.0 c.args.src.now c.alphabet-s.new.notes)) (c.expect-s-3.ensures c.args.src.now)) c.xor_range-s.ensures)) (lost_on _ _ c.if-s-ne-FAILED-3.true)
+returns-then-ne-4-clause-read c = at_last (else (else (tries c.args.x.now.entrypoint c.args.d c.args.may (grammar c.args.x.now.entrypoint G.PATTERN_MOD) (from c.args.x.now c.args.s c.args.lent.now c.requires) (fine _ c.if-ne.ensures) (c.mark-m.ensures c.args.lent.now.notes)) (λ g h. (plus_e (plus_t h (c.trivia-s.ensures.0 c.args.lent.now.notes)) c.expect-s.ensures.step)) (failed _ c.if-ne-2.ensures) (ap (with_mode 0) (c.rewind-s.ensures c.expect-s.new.lent.notes))) (λ g h. (plus (plus_e (plus_t h (c.trivia-s-2.ensures.0 c.expect-s.new.lent.notes)) c.expect-s-2.ensures.step) c.alphabet-s.ensures.read)) (failed _ c.if-ne-3.ensures) (ap (with_mode 0) (c.rewind-s-2.ensures c.alphabet-s.new.lent.notes))) (λ g h. (plus (plus_e (plus_t h (c.trivia-s-3.ensures.0 c.alphabet-s.new.lent.notes)) c.expect-s-3.ensures.step) c.xor_range-s.ensures.read)) (lost_on _ _ (not_failed _ c.if-ne-4.ensures))
 
-pub returns : goal.returns
+pub returns-clause-read : goal.returns-clause-read
 unfolding grammar kind names_of
-returns c = at_last (else (else (tries c.args.ep c.args.d c.args.may (grammar c.args.ep G.PATTERN_MOD) (from (source c.args.src.now c.args.ids.now c.args.ends.now) (whole c.args.s c.args.notes.now) c.args.ev.now c.args.er.now c.args.sc.now c.requires.1) c.if-s-ne-OK.false (c.mark-m.ensures c.args.notes.now)) (λ g h. (plus_e (plus_t h (c.trivia-s.ensures.0 c.args.src.now c.args.notes.now)) (c.expect-s.ensures c.args.src.now))) c.if-s-ne-FAILED.false (ap (with_mode 0) (c.rewind-s.ensures c.expect-s.new.notes))) (λ g h. (plus (plus_e (plus_t h (c.trivia-s-2.ensures.0 c.args.src.now c.expect-s.new.notes)) (c.expect-s-2.ensures c.args.src.now)) c.alphabet-s.ensures)) c.if-s-ne-FAILED-2.false (ap (with_mode 0) (c.rewind-s-2.ensures c.alphabet-s.new.notes))) (λ g h. (plus (plus_e (plus_t h (c.trivia-s-3.ensures.0 c.args.src.now c.alphabet-s.new.notes)) (c.expect-s-3.ensures c.args.src.now)) c.xor_range-s.ensures)) ((c.rewind-s-3.ensures c.xor_range-s.new.notes) ∙ lost_back _ _ c.if-s-ne-FAILED-3.false)
+returns-clause-read c = at_last (else (else (tries c.args.x.now.entrypoint c.args.d c.args.may (grammar c.args.x.now.entrypoint G.PATTERN_MOD) (from c.args.x.now c.args.s c.args.lent.now c.requires) (fine _ c.if-ne.ensures) (c.mark-m.ensures c.args.lent.now.notes)) (λ g h. (plus_e (plus_t h (c.trivia-s.ensures.0 c.args.lent.now.notes)) c.expect-s.ensures.step)) (failed _ c.if-ne-2.ensures) (ap (with_mode 0) (c.rewind-s.ensures c.expect-s.new.lent.notes))) (λ g h. (plus (plus_e (plus_t h (c.trivia-s-2.ensures.0 c.expect-s.new.lent.notes)) c.expect-s-2.ensures.step) c.alphabet-s.ensures.read)) (failed _ c.if-ne-3.ensures) (ap (with_mode 0) (c.rewind-s-2.ensures c.alphabet-s.new.lent.notes))) (λ g h. (plus (plus_e (plus_t h (c.trivia-s-3.ensures.0 c.alphabet-s.new.lent.notes)) c.expect-s-3.ensures.step) c.xor_range-s.ensures.read)) ((c.rewind-s-3.ensures c.xor_range-s.new.lent.notes) ∙ lost_back _ _ (failed _ c.if-ne-4.ensures))

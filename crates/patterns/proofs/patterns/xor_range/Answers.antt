@@ -1,50 +1,39 @@
 -- By its shape.
 use native.Mathlib.Omega.{arith}
 use mathlib.Core.Path.{sym, ◌∙◌}
-use mathlib.Core.Bool.{true}
 use mathlib.Core.List.{[], ◌∷◌}
-use Prim.Native.Nat.{◌-◌}
 use Rattle.kinds.specs.Kinds as k
 use Rattle.definition.specs.Prog.{then, ◌⨟◌}
 use Rattle.definition.specs.Grammar.{grammar, kind, one}
-use Rattle.notes.specs.Means.{source, names_of}
-use Rattle.steps.specs.Steps.{whole}
+use Rattle.notes.specs.Means.{names_of}
 use Rattle.patterns.specs.Parts.{xor_end}
 use Rattle.parts.proofs.Lines.{from, here, plus, plus_e, plus_p, plus_t, asks_e, then_past, stops, enters, passes}
+use Rattle.steps.proofs.Modes.{fine, not_fine}
 use Rattle.patterns.proofs.patterns.xor_range.Goals as goal
 
-pub sees-requires : goal.sees-requires
-sees-requires c = ((from (source c.args.src.now c.args.ids.now c.args.ends.now) (whole c.args.s c.args.notes.now) c.args.ev.now c.args.er.now c.args.sc.now c.requires.1).wf.0.0.here, c.requires.2)
-
-pub pass-requires : goal.pass-requires
-pass-requires c = (c.requires.0.lines.few, (from (source c.args.src.now c.args.ids.now c.args.ends.now) (whole c.args.s c.args.notes.now) c.args.ev.now c.args.er.now c.args.sc.now c.requires.1).wf.0.0.here, (from (source c.args.src.now c.args.ids.now c.args.ends.now) (whole c.args.s c.args.notes.now) c.args.ev.now c.args.er.now c.args.sc.now c.requires.1).wf.0.1, omega arith)
-
-pub returns-then-not-sees : goal.returns-then-not-sees
+pub returns-then-not-sees-clause-read : goal.returns-then-not-sees-clause-read
 unfolding grammar kind names_of
-returns-then-not-sees c = passes (from (source c.args.src.now c.args.ids.now c.args.ends.now) (whole c.args.s c.args.notes.now) c.args.ev.now c.args.er.now c.args.sc.now c.requires.1) c.args.ep c.args.d c.args.may (k.L_PAREN ∷ []) (one k.L_PAREN ⨟ then (one k.INTEGER_LIT ⨟ xor_end ⨟ one k.R_PAREN)) c.sees.ensures (c.if-not-sees.true) (plus_p (from (source c.args.src.now c.args.ids.now c.args.ends.now) (whole c.args.s c.args.notes.now) c.args.ev.now c.args.er.now c.args.sc.now c.requires.1) (c.pass.ensures c.args.src.now c.args.ends.now (from (source c.args.src.now c.args.ids.now c.args.ends.now) (whole c.args.s c.args.notes.now) c.args.ev.now c.args.er.now c.args.sc.now c.requires.1).wf.0 (sym c.sees.ensures ∙ (c.if-not-sees.true))))
-
-pub trivia-s-requires : goal.trivia-s-requires
-trivia-s-requires c = (c.requires.0.lines, ((from (source c.args.src.now c.args.ids.now c.args.ends.now) (whole c.args.s c.args.notes.now) c.args.ev.now c.args.er.now c.args.sc.now c.requires.1).wf.0.2.events, (from (source c.args.src.now c.args.ids.now c.args.ends.now) (whole c.args.s c.args.notes.now) c.args.ev.now c.args.er.now c.args.sc.now c.requires.1).wf.1.events))
+returns-then-not-sees-clause-read c = passes (from c.args.x.now c.args.s c.args.lent.now c.requires) c.args.x.now.entrypoint c.args.d c.args.may (k.L_PAREN ∷ []) (one k.L_PAREN ⨟ then (one k.INTEGER_LIT ⨟ xor_end ⨟ one k.R_PAREN)) c.sees.ensures (c.if-not-sees.true) (plus_p (from c.args.x.now c.args.s c.args.lent.now c.requires) (c.pass.ensures (from c.args.x.now c.args.s c.args.lent.now c.requires).wf.0 (sym c.sees.ensures ∙ (c.if-not-sees.true))))
 
 pub expect-s-requires : goal.expect-s-requires
-expect-s-requires c = (asks_e (plus_t (from (source c.args.src.now c.args.ids.now c.args.ends.now) (whole c.args.s c.args.notes.now) c.args.ev.now c.args.er.now c.args.sc.now c.requires.1) (c.trivia-s.ensures.0 c.args.src.now c.args.notes.now)) c.requires.0, omega arith, c.requires.2)
+expect-s-requires c = (asks_e (plus_t (from c.args.x.now c.args.s c.args.lent.now c.requires) (c.trivia-s.ensures.0 c.args.lent.now.notes)), omega arith)
 
-pub returns-then-s-ne-OK : goal.returns-then-s-ne-OK
+pub returns-then-ne-clause-read : goal.returns-then-ne-clause-read
 unfolding grammar kind names_of
-returns-then-s-ne-OK c = enters (from (source c.args.src.now c.args.ids.now c.args.ends.now) (whole c.args.s c.args.notes.now) c.args.ev.now c.args.er.now c.args.sc.now c.requires.1) c.args.ep c.args.d c.args.may (k.L_PAREN ∷ []) (one k.L_PAREN ⨟ then (one k.INTEGER_LIT ⨟ xor_end ⨟ one k.R_PAREN)) c.sees.ensures (c.if-not-sees.false) (stops (plus_e (plus_t (from (source c.args.src.now c.args.ids.now c.args.ends.now) (whole c.args.s c.args.notes.now) c.args.ev.now c.args.er.now c.args.sc.now c.requires.1) (c.trivia-s.ensures.0 c.args.src.now c.args.notes.now)) (c.expect-s.ensures c.args.src.now)) c.args.ep c.args.d c.args.may (then (one k.INTEGER_LIT ⨟ xor_end ⨟ one k.R_PAREN)) tt c.if-s-ne-OK.true)
+returns-then-ne-clause-read c = enters (from c.args.x.now c.args.s c.args.lent.now c.requires) c.args.x.now.entrypoint c.args.d c.args.may (k.L_PAREN ∷ []) (one k.L_PAREN ⨟ then (one k.INTEGER_LIT ⨟ xor_end ⨟ one k.R_PAREN)) c.sees.ensures (c.if-not-sees.false) (stops (plus_e (plus_t (from c.args.x.now c.args.s c.args.lent.now c.requires) (c.trivia-s.ensures.0 c.args.lent.now.notes)) c.expect-s.ensures.step) c.args.x.now.entrypoint c.args.d c.args.may (then (one k.INTEGER_LIT ⨟ xor_end ⨟ one k.R_PAREN)) tt (not_fine _ c.if-ne.ensures))
 
 pub trivia-s-requires-2 : goal.trivia-s-requires-2
-trivia-s-requires-2 c = (c.requires.0.lines, ((here (plus_e (plus_t (from (source c.args.src.now c.args.ids.now c.args.ends.now) (whole c.args.s c.args.notes.now) c.args.ev.now c.args.er.now c.args.sc.now c.requires.1) (c.trivia-s.ensures.0 c.args.src.now c.args.notes.now)) (c.expect-s.ensures c.args.src.now))).wf.0.2.events, (here (plus_e (plus_t (from (source c.args.src.now c.args.ids.now c.args.ends.now) (whole c.args.s c.args.notes.now) c.args.ev.now c.args.er.now c.args.sc.now c.requires.1) (c.trivia-s.ensures.0 c.args.src.now c.args.notes.now)) (c.expect-s.ensures c.args.src.now))).wf.1.events))
+trivia-s-requires-2 c = ((here (plus_e (plus_t (from c.args.x.now c.args.s c.args.lent.now c.requires) (c.trivia-s.ensures.0 c.args.lent.now.notes)) c.expect-s.ensures.step)).wf.0.2.events, (here (plus_e (plus_t (from c.args.x.now c.args.s c.args.lent.now c.requires) (c.trivia-s.ensures.0 c.args.lent.now.notes)) c.expect-s.ensures.step)).wf.1.events)
 
 pub expect-s-requires-2 : goal.expect-s-requires-2
-expect-s-requires-2 c = (asks_e (plus_t (here (plus_e (plus_t (from (source c.args.src.now c.args.ids.now c.args.ends.now) (whole c.args.s c.args.notes.now) c.args.ev.now c.args.er.now c.args.sc.now c.requires.1) (c.trivia-s.ensures.0 c.args.src.now c.args.notes.now)) (c.expect-s.ensures c.args.src.now))) (c.trivia-s-2.ensures.0 c.args.src.now c.expect-s.new.notes)) c.requires.0, omega arith, c.requires.2)
+expect-s-requires-2 c = (asks_e (plus_t (here (plus_e (plus_t (from c.args.x.now c.args.s c.args.lent.now c.requires) (c.trivia-s.ensures.0 c.args.lent.now.notes)) c.expect-s.ensures.step)) (c.trivia-s-2.ensures.0 c.expect-s.new.lent.notes)), omega arith)
 
 pub xor_end-s-requires : goal.xor_end-s-requires
-xor_end-s-requires c = (c.requires.0, (plus_e (plus_t (here (plus_e (plus_t (from (source c.args.src.now c.args.ids.now c.args.ends.now) (whole c.args.s c.args.notes.now) c.args.ev.now c.args.er.now c.args.sc.now c.requires.1) (c.trivia-s.ensures.0 c.args.src.now c.args.notes.now)) (c.expect-s.ensures c.args.src.now))) (c.trivia-s-2.ensures.0 c.args.src.now c.expect-s.new.notes)) (c.expect-s-2.ensures c.args.src.now)).wf, c.requires.2)
+xor_end-s-requires c = (plus_e (plus_t (here (plus_e (plus_t (from c.args.x.now c.args.s c.args.lent.now c.requires) (c.trivia-s.ensures.0 c.args.lent.now.notes)) c.expect-s.ensures.step)) (c.trivia-s-2.ensures.0 c.expect-s.new.lent.notes)) c.expect-s-2.ensures.step).wf
 
 pub expect-s-requires-3 : goal.expect-s-requires-3
-expect-s-requires-3 c = (asks_e (plus (plus_e (plus_t (here (plus_e (plus_t (from (source c.args.src.now c.args.ids.now c.args.ends.now) (whole c.args.s c.args.notes.now) c.args.ev.now c.args.er.now c.args.sc.now c.requires.1) (c.trivia-s.ensures.0 c.args.src.now c.args.notes.now)) (c.expect-s.ensures c.args.src.now))) (c.trivia-s-2.ensures.0 c.args.src.now c.expect-s.new.notes)) (c.expect-s-2.ensures c.args.src.now)) c.xor_end-s.ensures) c.requires.0, omega arith, c.requires.2)
+expect-s-requires-3 c = (asks_e (plus (plus_e (plus_t (here (plus_e (plus_t (from c.args.x.now c.args.s c.args.lent.now c.requires) (c.trivia-s.ensures.0 c.args.lent.now.notes)) c.expect-s.ensures.step)) (c.trivia-s-2.ensures.0 c.expect-s.new.lent.notes)) c.expect-s-2.ensures.step) c.xor_end-s.ensures.read), omega arith)
 
-pub returns : goal.returns
+pub returns-clause-read : goal.returns-clause-read
 unfolding grammar kind names_of
-returns c = enters (from (source c.args.src.now c.args.ids.now c.args.ends.now) (whole c.args.s c.args.notes.now) c.args.ev.now c.args.er.now c.args.sc.now c.requires.1) c.args.ep c.args.d c.args.may (k.L_PAREN ∷ []) (one k.L_PAREN ⨟ then (one k.INTEGER_LIT ⨟ xor_end ⨟ one k.R_PAREN)) c.sees.ensures (c.if-not-sees.false) ((plus (plus_e (plus_t (from (source c.args.src.now c.args.ids.now c.args.ends.now) (whole c.args.s c.args.notes.now) c.args.ev.now c.args.er.now c.args.sc.now c.requires.1) (c.trivia-s.ensures.0 c.args.src.now c.args.notes.now)) (c.expect-s.ensures c.args.src.now)) (then_past c.args.ep c.args.d c.args.may (one k.INTEGER_LIT ⨟ xor_end ⨟ one k.R_PAREN) c.if-s-ne-OK.false (plus_e (plus (plus_e (plus_t (here (plus_e (plus_t (from (source c.args.src.now c.args.ids.now c.args.ends.now) (whole c.args.s c.args.notes.now) c.args.ev.now c.args.er.now c.args.sc.now c.requires.1) (c.trivia-s.ensures.0 c.args.src.now c.args.notes.now)) (c.expect-s.ensures c.args.src.now))) (c.trivia-s-2.ensures.0 c.args.src.now c.expect-s.new.notes)) (c.expect-s-2.ensures c.args.src.now)) c.xor_end-s.ensures) (c.expect-s-3.ensures c.args.src.now)))))
+returns-clause-read c = enters (from c.args.x.now c.args.s c.args.lent.now c.requires) c.args.x.now.entrypoint c.args.d c.args.may (k.L_PAREN ∷ []) (one k.L_PAREN ⨟ then (one k.INTEGER_LIT ⨟ xor_end ⨟ one k.R_PAREN)) c.sees.ensures (c.if-not-sees.false) ((plus (plus_e (plus_t (from c.args.x.now c.args.s c.args.lent.now c.requires) (c.trivia-s.ensures.0 c.args.lent.now.notes)) c.expect-s.ensures.step) (then_past c.args.x.now.entrypoint c.args.d c.args.may (one k.INTEGER_LIT ⨟ xor_end ⨟ one k.R_PAREN) (fine _ c.if-ne.ensures) (plus_e (plus (plus_e (plus_t (here (plus_e (plus_t (from c.args.x.now c.args.s c.args.lent.now c.requires) (c.trivia-s.ensures.0 c.args.lent.now.notes)) c.expect-s.ensures.step)) (c.trivia-s-2.ensures.0 c.expect-s.new.lent.notes)) c.expect-s-2.ensures.step) c.xor_end-s.ensures.read) c.expect-s-3.ensures.step))))

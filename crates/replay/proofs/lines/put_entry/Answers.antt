@@ -1,8 +1,14 @@
 -- `replay::lines::put_entry` meets its contract: the pieces of the line are joined.
-use Rattle.listing.proofs.Written.{joins, put_as, spelled}
-use Rattle.replay.specs.Day.{entry}
+use mathlib.Core.Path.{refl}
+use Rattle.std.proofs.Common.{rules}
+use Rattle.listing.proofs.Written.{spelled_by, wrote_as, then}
+use Rattle.replay.specs.Answer.{meant}
 use Rattle.replay.proofs.Shown.{entry_text}
 use Rattle.replay.proofs.lines.put_entry.Goals as goal
 
 pub returns : goal.returns
-returns c = spelled (put_as (entry_text (entry c.args.name.now c.args.size c.args.edition c.args.answer) c.show.ensures) (joins c.put-name_end.ensures (joins c.put_numbers-numbers_end.ensures.put (joins c.put_shown-answer_end.ensures.put c.put_byte.ensures))))
+returns c =
+    spelled_by
+    (wrote_as (entry_text (meant c.args.e) c.from.ensures)
+    (then c.put.ensures (then c.put_numbers.ensures.put (then c.put_shown.ensures.put c.put_byte.ensures))))
+    refl (λ e. search rules)

@@ -1,7 +1,15 @@
 -- `replay::lines::put_file` meets its contract: the pieces of the line are joined.
-use Rattle.listing.proofs.Written.{joins, put_as, spelled}
+use mathlib.Core.Path.{refl}
+use Rattle.std.proofs.Common.{rules}
+use Rattle.listing.proofs.Written.{spelled_by, wrote_as, then}
 use Rattle.replay.proofs.Shown.{file_text}
+use Rattle.replay.proofs.Tallying.{as_one}
 use Rattle.replay.proofs.lines.put_file.Goals as goal
 
 pub returns : goal.returns
-returns c = spelled (put_as (file_text c.args.name.now c.args.file c.show.ensures c.show_fate.ensures c.mark.ensures) (joins c.put_byte-letter_end.ensures (joins c.put_byte-tab_end.ensures (joins c.put-name_end.ensures (joins c.put_shown-recorded_end.ensures.put (joins c.put_shown-new_end.ensures.put (joins c.put_numbers-mark_end.ensures.put c.put_byte.ensures)))))))
+returns c =
+    spelled_by
+    (wrote_as (file_text c.args.name.now c.args.file c.from.ensures c.from-2.ensures (as_one c.from-3.ensures c.is_marked.ensures))
+    (then c.put_byte.ensures (then c.put_byte-2.ensures (then c.put.ensures
+    (then c.put_shown.ensures.put (then c.put_shown-2.ensures.put (then c.put_numbers.ensures.put c.put_byte-3.ensures)))))))
+    refl (λ e. search rules)

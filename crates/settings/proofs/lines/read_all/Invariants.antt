@@ -1,11 +1,6 @@
--- `settings::lines::read_all` meets its contract: the lines before a place read.
-use Prim.Native.Nat.{◌-◌}
-use lib.ListN.{length}
+-- `settings::lines::read_all` meets its contract: the lines before the rest of the text read.
 use Rattle.settings.proofs.Scanning.{Scanned}
 use Rattle.settings.proofs.lines.read_all.Given as goal
 
-abbrev pub invariant-loop-at : goal.invariant-loop-at
-invariant-loop-at l = Scanned l.text l.edition l.initial.values l.values l.last l.at
-
-abbrev pub decreases-loop-at : goal.decreases-loop-at
-decreases-loop-at l = length l.text - l.at
+abbrev pub invariant-loop-part : goal.invariant-loop-part
+invariant-loop-part l = Scanned l.text l.edition l.initial.values l.values l.last l.part-iterator.rest.now

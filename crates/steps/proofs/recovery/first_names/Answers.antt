@@ -10,7 +10,7 @@ use Rattle.steps.proofs.Ends.{names_first, names_pending}
 use Rattle.steps.proofs.recovery.first_names.Goals as goal
 
 pub returns-then-notes : goal.returns-then-notes
-returns-then-notes c = λ x s w k. names_first (set_of c.args.set) c.if-notes.true (subst (λ (N : List ℕ). Plain (P.expected N) x (beside c.args.notes.now s) (beside c.expected.new.notes s)) (set_names c.args.set c.requires.1) (c.expected.ensures x s w k))
+returns-then-notes c = λ x s w k. names_first (set_of c.args.set) c.if-notes.true (subst (λ (N : List ℕ). Plain (P.expected N) x (beside c.args.notes.now s) (beside c.expected.new.self s)) (set_names c.args.set c.requires.1) (c.expected.ensures x s w k))
 
 pub returns-else-notes : goal.returns-else-notes
 returns-else-notes c = λ x s w k. names_pending (set_of c.args.set) c.if-notes.false w

@@ -1,79 +1,64 @@
 -- `longest_from` meets its contract.
-use Prim.Native.Nat.{ℕ, ◌+◌, ◌*◌}
+use Prim.Native.Nat.{◌+◌}
 use mathlib.Core.Path.{◌≡◌, sym, ap, ◌∙◌}
-use mathlib.Core.List.{List}
 use native.Mathlib.Omega.{arith}
-use lib.ListN.{length, get_or, drop}
+use lib.ListN.{length, drop}
 use Rattle.tokens.specs.Glyph.{glyph}
-use Rattle.tokens.specs.Lent.{best, glyph_of}
-use Rattle.tokens.specs.Table.{next_table, end_table}
-use Rattle.tokens.proofs.Tests.{next_count, end_count}
+use Rattle.tokens.specs.Modes.{mode}
+use Rattle.tokens.specs.States.{label, glyph_of}
 use Rattle.tokens.proofs.Walks as w
 use Rattle.tokens.proofs.matcher.longest_from.Goals as goal
+use Rattle.tokens.proofs.matcher.longest_from.Goals.{After-glyph_at-g}
 
--- the entry of a state and a class, and the id that a state ends, in the tables as they are lent
-at_table : (states : List ℕ) (st k : ℕ) → states ≡ next_table → get_or states (st * 45 + k) 0 ≡ get_or next_table (st * 45 + k) 0
-at_table states st k e = ap (λ l. get_or l (st * 45 + k) 0) e
-
-at_end : (finals : List ℕ) (n : ℕ) → finals ≡ end_table → get_or finals n 0 ≡ get_or end_table n 0
-at_end finals n e = ap (λ l. get_or l n 0) e
+here : (c : After-glyph_at-g) → glyph_of c.glyph_at-g.result ≡ glyph (mode c.args.start) (drop c.loop-i.i c.args.s.now)
+here c = c.glyph_at-g.ensures.0 ∙ ap (glyph (mode c.args.start)) (w.tail c.args.s.now c.loop-i.i)
 
 pub loop-i-init : goal.loop-i-init
-loop-i-init c = (c.requires.0, omega arith, omega arith, w.begun _ _ _)
+loop-i-init c =
+    let m = mode c.args.start in
+    (c.args.start.low, omega arith, tt, w.begun m _ _)
 
-pub bounds-states-state : goal.bounds-states-state
-bounds-states-state c = omega (arith, ap length c.requires.2.state, next_count, c.glyph_at-g.ensures.1)
+pub next_of-state-requires-clause-state_low : goal.next_of-state-requires-clause-state_low
+next_of-state-requires-clause-state_low c = c.loop-i.invariant.0
 
-pub returns-then-to-eq0 : goal.returns-then-to-eq0
-returns-then-to-eq0 c =
-    let l = c.loop-i in
-    let m = c.args.mode in
-    let s = c.args.s.now in
-    let g = glyph_of c.glyph_at-g.result in
-    let e : g ≡ glyph m (drop l.i s) = c.glyph_at-g.ensures.0 ∙ ap (glyph m) (w.tail s l.i) in (
-      c.matched.ensures
-          ∙ sym (w.dead m s l.i l.state (best l.id l.len) g c.loop-i-test.true l.invariant.0 e (sym (at_table c.args.states.now l.state g.0 c.requires.2.state) ∙ c.if-to-eq0.true))
+pub returns-then-state-eq0 : goal.returns-then-state-eq0
+returns-then-state-eq0 c =
+    let l = c.loop-i in (
+      sym (w.dead (mode c.args.start) c.args.s.now l.i l.state l.best (glyph_of c.glyph_at-g.result) c.loop-i-test.true l.invariant.0
+          (here (goal.at.returns-then-state-eq0 c).After-glyph_at-g) (sym c.next_of-state.ensures.value ∙ c.if-state-eq0.true))
           ∙ l.invariant.3,
-      w.inside c.matched.result l.id l.len s (omega arith) c.matched.ensures,
+      w.inside l.best l.i (length c.args.s.now) l.invariant.1 l.invariant.2,
     )
 
-pub bounds-finals-state : goal.bounds-finals-state
-bounds-finals-state c =
+pub loop-i-preserved-in-Some : goal.loop-i-preserved-in-Some
+loop-i-preserved-in-Some c =
     let l = c.loop-i in
-    let m = c.args.mode in
+    let m = mode c.args.start in
     let s = c.args.s.now in
     let g = glyph_of c.glyph_at-g.result in
-    let e : g ≡ glyph m (drop l.i s) = c.glyph_at-g.ensures.0 ∙ ap (glyph m) (w.tail s l.i) in
-    omega (arith, ap length c.requires.2.end, end_count, at_table c.args.states.now l.state g.0 c.requires.2.state, w.to_small m s l.i l.state (best l.id l.len) g c.loop-i-test.true l.invariant.0 e)
-
-pub loop-i-preserved-then-end-ne-NONE : goal.loop-i-preserved-then-end-ne-NONE
-loop-i-preserved-then-end-ne-NONE c =
-    let l = c.loop-i in
-    let m = c.args.mode in
-    let s = c.args.s.now in
-    let b = best l.id l.len in
-    let g = glyph_of c.glyph_at-g.result in
-    let e : g ≡ glyph m (drop l.i s) = c.glyph_at-g.ensures.0 ∙ ap (glyph m) (w.tail s l.i) in
-    let p = at_table c.args.states.now l.state g.0 c.requires.2.state in
-    let q = at_end c.args.finals.now (get_or c.args.states.now (l.state * 45 + g.0) 0) c.requires.2.end in (
-      w.small' m s l.i l.state b g c.loop-i-test.true l.invariant.0 e _ _ p q,
-      w.wide_within m s l.i l.state b g c.loop-i-test.true l.invariant.0 e,
-      omega arith,
-      w.ending' m s l.i l.state b g c.loop-i-test.true l.invariant.0 e _ _ p q c.if-end-ne-NONE.true ∙ l.invariant.3,
+    let e = here (goal.at.loop-i-preserved-in-Some c).After-glyph_at-g in (
+      c.next_of-state.ensures.low,
+      w.wide_within m s l.i l.state l.best g c.loop-i-test.true l.invariant.0 e,
+      (omega (arith, w.wide_some m s l.i l.state l.best g c.loop-i-test.true l.invariant.0 e), omega arith),
+      w.ending m s l.i l.state l.best g c.loop-i-test.true l.invariant.0 e _ c.next_of-state.ensures.value c.in-Some.id (sym c.end_of.ensures ∙ c.in-Some.is) ∙ l.invariant.3,
     )
 
 pub loop-i-preserved : goal.loop-i-preserved
 loop-i-preserved c =
     let l = c.loop-i in
-    let m = c.args.mode in
+    let m = mode c.args.start in
     let s = c.args.s.now in
-    let b = best l.id l.len in
     let g = glyph_of c.glyph_at-g.result in
-    let e : g ≡ glyph m (drop l.i s) = c.glyph_at-g.ensures.0 ∙ ap (glyph m) (w.tail s l.i) in
-    let p = at_table c.args.states.now l.state g.0 c.requires.2.state in
-    let q = at_end c.args.finals.now (get_or c.args.states.now (l.state * 45 + g.0) 0) c.requires.2.end in (
-      w.small' m s l.i l.state b g c.loop-i-test.true l.invariant.0 e _ _ p q,
-      w.wide_within m s l.i l.state b g c.loop-i-test.true l.invariant.0 e,
-      omega arith,
-      w.unended' m s l.i l.state b g c.loop-i-test.true l.invariant.0 e _ _ p q c.if-end-ne-NONE.false ∙ l.invariant.3,
+    let e = here (goal.at.loop-i-preserved c).After-glyph_at-g in (
+      c.next_of-state.ensures.low,
+      w.wide_within m s l.i l.state l.best g c.loop-i-test.true l.invariant.0 e,
+      w.inside l.best l.i (l.i + c.glyph_at-g.result.width) (omega arith) l.invariant.2,
+      w.unended m s l.i l.state l.best g c.loop-i-test.true l.invariant.0 e _ c.next_of-state.ensures.value (sym c.end_of.ensures ∙ c.in_default.is) ∙ l.invariant.3,
+    )
+
+pub returns : goal.returns
+returns c =
+    let l = c.loop-i in (
+      sym (w.over (mode c.args.start) l.i (label l.state) l.best c.args.s.now c.loop-i-test.false) ∙ l.invariant.3,
+      w.inside l.best l.i (length c.args.s.now) l.invariant.1 l.invariant.2,
     )

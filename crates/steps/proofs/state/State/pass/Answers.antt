@@ -3,21 +3,22 @@ use mathlib.Core.Path.{refl, subst}
 use Prim.Native.Nat.{ℕ}
 use Rattle.kinds.specs.Sets.{set_of}
 use Rattle.definition.specs.Run as P
-use Rattle.notes.specs.Means.{source}
+use Rattle.notes.specs.Reading.{source_of}
 use Rattle.notes.specs.Did.{Plain}
 use Rattle.notes.proofs.Naming.{set_names}
 use Rattle.notes.proofs.Sticky.{sticky}
 use Rattle.steps.specs.Steps.{whole}
+use Rattle.steps.proofs.Modes.{fine, not_fine}
 use Rattle.steps.proofs.Next.{next_end}
 use Rattle.steps.proofs.Eating.{not_ok_p}
 use Rattle.steps.proofs.Branch.{pass_names, pass_end, next_other_of}
 use Rattle.steps.proofs.state.State.pass.Goals as goal
 
-pub returns-then-self-ne-OK : goal.returns-then-self-ne-OK
-returns-then-self-ne-OK c = λ bytes ends w e. not_ok_p _ (λ p. (sticky p (source bytes c.args.ids.now ends)).at_ifnext (set_of c.args.set) (λ a. a) (λ a n. refl)) w c.if-self-ne-OK.true
+pub returns-then-ne : goal.returns-then-ne
+returns-then-ne c = λ w e. not_ok_p _ (λ p. (sticky p (source_of c.args.x.now)).at_ifnext (set_of c.args.set) (λ a. a) (λ a n. refl)) w (not_fine _ c.if-ne.ensures)
 
-pub returns-then-at-ids : goal.returns-then-at-ids
-returns-then-at-ids c = λ bytes ends w e. pass_end (set_of c.args.set) w c.if-self-ne-OK.false (next_end (set_of c.args.set) c.peek-at.ensures c.if-at-ids.true)
+pub returns-then-at-x : goal.returns-then-at-x
+returns-then-at-x c = λ w e. pass_end (set_of c.args.set) w (fine _ c.if-ne.ensures) (next_end (set_of c.args.set) c.peek-at.ensures c.if-at-x.true)
 
 pub returns : goal.returns
-returns c = λ bytes ends w e. pass_names (set_of c.args.set) w c.if-self-ne-OK.false (next_other_of (set_of c.args.set) c.args.ids.now (whole c.args.self c.args.notes.now) c.if-self-ne-OK.false c.peek-at.ensures c.if-at-ids.false e) (subst (λ (N : List ℕ). Plain (P.expected N) (source bytes c.args.ids.now ends) (whole c.args.self c.args.notes.now) (whole c.args.self c.expected.new.notes)) (set_names c.args.set c.requires.3) (c.expected.ensures (source bytes c.args.ids.now ends) (whole c.args.self c.args.notes.now) w c.peek-at.ensures))
+returns c = λ w e. pass_names (set_of c.args.set) w (fine _ c.if-ne.ensures) (next_other_of (set_of c.args.set) c.args.x.now.ids.now (whole c.args.self c.args.notes.now) (fine _ c.if-ne.ensures) c.peek-at.ensures c.if-at-x.false e) (subst (λ (N : List ℕ). Plain (P.expected N) (source_of c.args.x.now) (whole c.args.self c.args.notes.now) (whole c.args.self c.expected.new.self)) (set_names c.args.set c.requires.2) (c.expected.ensures (source_of c.args.x.now) (whole c.args.self c.args.notes.now) w c.peek-at.ensures))

@@ -1,32 +1,32 @@
 use native.Mathlib.Omega.{arith}
 use mathlib.Core.Path.{◌∙◌, sym, refl}
 use Rattle.kinds.specs.Sets.{set_of}
-use Rattle.kinds.proofs.Words.{lent_right}
 use Rattle.notes.specs.Change.{with_mode}
-use Rattle.notes.specs.Means.{source}
+use Rattle.notes.specs.Reading.{source_of}
 use Rattle.notes.proofs.Core.{sound}
 use Rattle.steps.specs.Steps.{whole}
+use Rattle.steps.proofs.Modes.{is_fine, isnt_fine, stopped, not_stopped}
 use Rattle.steps.proofs.Next.{next_has, next_lacks, next_end}
 use Rattle.steps.proofs.Ends.{recover_stopped, recover_end, recover_found, recover_failed, recover_skips}
 use Rattle.steps.proofs.state.State.recover.Goals as goal
 
-pub returns-then-self-gt-FAILED : goal.returns-then-self-gt-FAILED
-returns-then-self-gt-FAILED c = recover_stopped c.args.d c.args.optional (set_of c.args.set) c.requires.0.1 c.requires.0.2 c.requires.0.3 (omega arith)
+pub returns-then-is_stopped-clause-step : goal.returns-then-is_stopped-clause-step
+returns-then-is_stopped-clause-step c = record { both = recover_stopped c.args.d c.args.optional (set_of c.args.set) c.requires.0.0 c.requires.0.1 c.requires.0.2 (stopped _ c.if-is_stopped.ensures); scratch = refl }
 
-pub returns-then-at-ids : goal.returns-then-at-ids
-returns-then-at-ids c = recover_end c.args.d c.args.optional (set_of c.args.set) c.requires.0.1 c.requires.0.2 c.requires.0.3 (omega arith) (next_end (set_of c.args.set) c.peek-at.ensures c.if-at-ids.true)
+pub returns-then-at-x-clause-step : goal.returns-then-at-x-clause-step
+returns-then-at-x-clause-step c = record { both = recover_end c.args.d c.args.optional (set_of c.args.set) c.requires.0.0 c.requires.0.1 c.requires.0.2 (not_stopped _ c.if-is_stopped.ensures) (next_end (set_of c.args.set) c.peek-at.ensures c.if-at-x.true); scratch = refl }
 
-pub choose-requires : goal.choose-requires
-choose-requires c = (c.requires.0.0, sound c.first_names.new.notes (with_mode 0 (whole c.args.self c.args.notes.now)) (c.first_names.ensures (source c.args.src.now c.args.ids.now c.args.ends.now) (with_mode 0 (whole c.args.self c.args.notes.now)) c.requires.0.1 c.peek-at.ensures).ok, omega (arith, (c.first_names.ensures (source c.args.src.now c.args.ids.now c.args.ends.now) (with_mode 0 (whole c.args.self c.args.notes.now)) c.requires.0.1 c.peek-at.ensures).ercap, c.requires.0.3))
+pub choose-self-requires : goal.choose-self-requires
+choose-self-requires c = (sound c.first_names.new.notes (with_mode 0 (whole c.args.self c.args.lent.now.notes)) (c.first_names.ensures (source_of c.args.x.now) (with_mode 0 (whole c.args.self c.args.lent.now.notes)) c.requires.0.0 c.peek-at.ensures).ok, omega (arith, (c.first_names.ensures (source_of c.args.x.now) (with_mode 0 (whole c.args.self c.args.lent.now.notes)) c.requires.0.0 c.peek-at.ensures).ercap, c.requires.0.2))
 
 pub swallow-requires : goal.swallow-requires
-swallow-requires c = ((c.requires.0.0, (c.choose.ensures (with_mode 0 (whole c.args.self c.args.notes.now)) refl (c.first_names.ensures (source c.args.src.now c.args.ids.now c.args.ends.now) (with_mode 0 (whole c.args.self c.args.notes.now)) c.requires.0.1 c.peek-at.ensures).ok).ok, omega (arith, (c.choose.ensures (with_mode 0 (whole c.args.self c.args.notes.now)) refl (c.first_names.ensures (source c.args.src.now c.args.ids.now c.args.ends.now) (with_mode 0 (whole c.args.self c.args.notes.now)) c.requires.0.1 c.peek-at.ensures).ok).evcap, (c.first_names.ensures (source c.args.src.now c.args.ids.now c.args.ends.now) (with_mode 0 (whole c.args.self c.args.notes.now)) c.requires.0.1 c.peek-at.ensures).evcap, c.requires.0.2), (c.choose.ensures (with_mode 0 (whole c.args.self c.args.notes.now)) refl (c.first_names.ensures (source c.args.src.now c.args.ids.now c.args.ends.now) (with_mode 0 (whole c.args.self c.args.notes.now)) c.requires.0.1 c.peek-at.ensures).ok).fits), c.requires.2)
+swallow-requires c = ((c.choose-self.ensures (with_mode 0 (whole c.args.self c.args.lent.now.notes)) refl (c.first_names.ensures (source_of c.args.x.now) (with_mode 0 (whole c.args.self c.args.lent.now.notes)) c.requires.0.0 c.peek-at.ensures).ok).ok, omega (arith, (c.choose-self.ensures (with_mode 0 (whole c.args.self c.args.lent.now.notes)) refl (c.first_names.ensures (source_of c.args.x.now) (with_mode 0 (whole c.args.self c.args.lent.now.notes)) c.requires.0.0 c.peek-at.ensures).ok).evcap, (c.first_names.ensures (source_of c.args.x.now) (with_mode 0 (whole c.args.self c.args.lent.now.notes)) c.requires.0.0 c.peek-at.ensures).evcap, c.requires.0.1), (c.choose-self.ensures (with_mode 0 (whole c.args.self c.args.lent.now.notes)) refl (c.first_names.ensures (source_of c.args.x.now) (with_mode 0 (whole c.args.self c.args.lent.now.notes)) c.requires.0.0 c.peek-at.ensures).ok).fits)
 
-pub returns-then-not-within : goal.returns-then-not-within
-returns-then-not-within c = recover_skips c.args.d c.args.optional (set_of c.args.set) c.requires.0.1 c.requires.0.2 c.requires.0.3 (omega arith) (next_lacks (set_of c.args.set) c.peek-at.ensures c.if-at-ids.false (sym (c.if-not-within.true) ∙ c.within.ensures ∙ lent_right c.args.sets.now c.requires.2 c.args.set _)) (c.first_names.ensures (source c.args.src.now c.args.ids.now c.args.ends.now) (with_mode 0 (whole c.args.self c.args.notes.now)) c.requires.0.1 c.peek-at.ensures) (c.choose.ensures (with_mode 0 (whole c.args.self c.args.notes.now)) refl (c.first_names.ensures (source c.args.src.now c.args.ids.now c.args.ends.now) (with_mode 0 (whole c.args.self c.args.notes.now)) c.requires.0.1 c.peek-at.ensures).ok) c.swallow.ensures
+pub returns-then-not-has-clause-step : goal.returns-then-not-has-clause-step
+returns-then-not-has-clause-step c = record { both = recover_skips c.args.d c.args.optional (set_of c.args.set) c.requires.0.0 c.requires.0.1 c.requires.0.2 (not_stopped _ c.if-is_stopped.ensures) (next_lacks (set_of c.args.set) c.peek-at.ensures c.if-at-x.false (sym (c.if-not-has.true) ∙ c.has.ensures)) (c.first_names.ensures (source_of c.args.x.now) (with_mode 0 (whole c.args.self c.args.lent.now.notes)) c.requires.0.0 c.peek-at.ensures) (c.choose-self.ensures (with_mode 0 (whole c.args.self c.args.lent.now.notes)) refl (c.first_names.ensures (source_of c.args.x.now) (with_mode 0 (whole c.args.self c.args.lent.now.notes)) c.requires.0.0 c.peek-at.ensures).ok) c.swallow.ensures.step.both; scratch = c.swallow.ensures.step.scratch }
 
-pub returns-then-mode-eq-OK : goal.returns-then-mode-eq-OK
-returns-then-mode-eq-OK c = recover_found c.args.d c.args.optional (set_of c.args.set) c.requires.0.1 c.requires.0.2 c.requires.0.3 c.if-mode-eq-OK.true (next_has (set_of c.args.set) c.peek-at.ensures c.if-at-ids.false (sym (c.if-not-within.false) ∙ c.within.ensures ∙ lent_right c.args.sets.now c.requires.2 c.args.set _))
+pub returns-then-eq-clause-step : goal.returns-then-eq-clause-step
+returns-then-eq-clause-step c = record { both = recover_found c.args.d c.args.optional (set_of c.args.set) c.requires.0.0 c.requires.0.1 c.requires.0.2 (is_fine _ c.if-eq.ensures) (next_has (set_of c.args.set) c.peek-at.ensures c.if-at-x.false (sym (c.if-not-has.false) ∙ c.has.ensures)); scratch = refl }
 
-pub returns : goal.returns
-returns c = recover_failed c.args.d c.args.optional (set_of c.args.set) c.requires.0.1 c.requires.0.2 c.requires.0.3 (omega arith) c.if-mode-eq-OK.false (next_has (set_of c.args.set) c.peek-at.ensures c.if-at-ids.false (sym (c.if-not-within.false) ∙ c.within.ensures ∙ lent_right c.args.sets.now c.requires.2 c.args.set _)) (c.choose-2.ensures (with_mode 0 (whole c.args.self c.args.notes.now)) refl c.requires.0.1)
+pub returns-clause-step : goal.returns-clause-step
+returns-clause-step c = record { both = recover_failed c.args.d c.args.optional (set_of c.args.set) c.requires.0.0 c.requires.0.1 c.requires.0.2 (not_stopped _ c.if-is_stopped.ensures) (isnt_fine _ c.if-eq.ensures) (next_has (set_of c.args.set) c.peek-at.ensures c.if-at-x.false (sym (c.if-not-has.false) ∙ c.has.ensures)) (c.choose-self-2.ensures (with_mode 0 (whole c.args.self c.args.lent.now.notes)) refl c.requires.0.0); scratch = refl }
