@@ -1,6 +1,9 @@
 // The failures that are followed at one time. Only where a string, a regexp or a comment may begin are they asked, and only there do they go on to that place:
 // all other rows leave the memo as it is.
-ghost use Rattle.std.specs.Prelude.{◌≡◌, ℕ, ◌≤◌, List, true, length, drop};
+ghost use Rattle.std.specs.Prelude.{◌≡◌, ℕ, ◌≤◌, List, true, length, drop, None};
+ghost use Rattle.tokens.specs.Expr.{longest};
+ghost use Rattle.tokens.specs.Modes.{mode, tokens};
+ghost use Rattle.tokens.specs.States.{Run};
 ghost use Rattle.cutter.specs.Made.{Holds, Stands, Known, Lost};
 
 use tokens::mode::{Mode, Start};
@@ -83,6 +86,14 @@ fn gone_on(s: &[u8], memo: Memo, len: usize, at: usize) -> Memo
     }
 }
 
+// A match that failed here is followed from the start that it had.
+fn renewed_from(s: &[u8], old: Runner, fresh: bool, start: Start) -> Runner
+    requires { Run (mode start) old s.now × (fresh ≡ true → longest (mode start) (tokens start) s.now ≡ None) }
+    ensures { Run (mode start) result s.now }
+{
+    renewed(s, old, fresh, start.state, start.mode.number())
+}
+
 // What failed here is followed from now on.
 fn begun(s: &[u8], mut memo: Memo, misses: Misses) -> Memo
     requires { Holds memo s.now × Known misses s.now }
@@ -90,14 +101,14 @@ fn begun(s: &[u8], mut memo: Memo, misses: Misses) -> Memo
 {
     match opening_of(s) {
         Some(Opening::Quote) => {
-            memo.quote = renewed(s, memo.quote, misses.normal, Start::NORMAL);
+            memo.quote = renewed_from(s, memo.quote, misses.normal, Start::NORMAL);
         }
         Some(Opening::Slash) => {
-            memo.slash = renewed(s, memo.slash, misses.normal, Start::NORMAL);
+            memo.slash = renewed_from(s, memo.slash, misses.normal, Start::NORMAL);
         }
         Some(Opening::Star) => {
-            memo.star = renewed(s, memo.star, misses.normal, Start::NORMAL);
-            memo.hex = renewed(s, memo.hex, misses.hex, Start::HEX);
+            memo.star = renewed_from(s, memo.star, misses.normal, Start::NORMAL);
+            memo.hex = renewed_from(s, memo.hex, misses.hex, Start::HEX);
         }
         None => {}
     }

@@ -12,7 +12,7 @@ impl Mode {
     ghost use Rattle.tokens.specs.Modes.{number};
 
     // Which 256 entries of the table of classes are the mode's.
-    pub(crate) fn number(self) -> usize
+    pub fn number(self) -> usize
         ensures value { result ≡ number self }
         ensures low { result < 3 }
     {

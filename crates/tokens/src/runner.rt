@@ -2,7 +2,7 @@
 ghost use Rattle.std.specs.Prelude.{◌≡◌, ◌≤◌, ◌<◌, true, length, drop, None};
 ghost use Rattle.tokens.specs.Expr.{longest};
 ghost use Rattle.tokens.specs.Modes.{number, mode, tokens};
-ghost use Rattle.tokens.specs.States.{Run, quiet, covers};
+ghost use Rattle.tokens.specs.States.{label, Run, quiet, covers};
 
 use crate::glyph::glyph_at;
 use crate::lookup::{end_of, is_pair, next_of};
@@ -78,13 +78,13 @@ pub fn follow(s: &[u8], old: Runner, len: usize, mode: Mode) -> Runner
 }
 
 // A match that failed here is followed from now on.
-pub fn renewed(s: &[u8], old: Runner, fresh: bool, start: Start) -> Runner
-    requires { Run (mode start) old s.now × (fresh ≡ true → longest (mode start) (tokens start) s.now ≡ None) }
-    ensures { Run (mode start) result s.now }
+pub fn renewed(s: &[u8], old: Runner, fresh: bool, start: usize, mode: usize) -> Runner
+    requires { (start < 88) × Run mode old s.now × (fresh ≡ true → longest mode (label start) s.now ≡ None) }
+    ensures { Run mode result s.now }
 {
     if fresh {
         return Runner {
-            state: start.state,
+            state: start,
             skip: 0,
         };
     }
