@@ -8,4 +8,4 @@ mod lookup;
 pub mod matcher;
 pub mod mode;
 pub mod runner;
-mod table;
+pub mod table;

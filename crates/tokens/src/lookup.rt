@@ -11,10 +11,10 @@ use crate::mode::Mode;
 use crate::table::{CLASSES, FINALS, NEXT, PAIRS, WIDES};
 
 // How many classes a state's row of the table has.
-const COLUMNS: usize = 45;
+pub const COLUMNS: usize = 45;
 
 // Stands for the id of a state in which no row may end.
-const NONE: u32 = 255;
+pub const NONE: u32 = 255;
 
 // The class of a byte in a mode.
 pub fn class_of(mode: Mode, b: u8) -> usize

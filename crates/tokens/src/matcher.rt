@@ -5,6 +5,7 @@ ghost use Rattle.tokens.specs.Modes.{mode, tokens};
 ghost use Rattle.tokens.specs.States.{Inside};
 
 use crate::glyph::glyph_at;
+pub use crate::lookup::{COLUMNS, NONE};
 use crate::lookup::{end_of, next_of};
 use crate::mode::Start;
 
