@@ -33,6 +33,9 @@ pub enum Refusal {
     Day,
 }
 
+// The number of an import or include row's refusal, which none has any more.
+pub const IMPORT: u32 = 5;
+
 impl From<Refusal> for u32 {
     ghost from_gives = { λ refusal n. n ≡ number refusal };
 
