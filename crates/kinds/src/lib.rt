@@ -108,7 +108,7 @@ fn matched(set: usize, id: u32) -> Option<u32>
 pub fn kind_in(set: usize, id: u32) -> u32
     ensures { result ≡ kind_in set id }
 {
-    if set == set::MINUS || set == set::ARITHMETIC {
+    if set == set::ARITHMETIC || set == set::MINUS {
         return matched(set, id).unwrap_or(id);
     }
     id
