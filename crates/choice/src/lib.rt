@@ -20,8 +20,8 @@ ghost use Rattle.choice.specs.Choice.{choice_of, scan, Noted, Chose, Spelt, Spel
 use kinds::{Kind, name_at};
 use notes::names::Notes;
 use notes::reading::Given;
+use shapes::full::Full;
 use shapes::record::{END, FORM, HEAD, next_record};
-use shapes::refusal::Refusal;
 
 // The form of what was found where something else was expected: nothing, or a text that is too long to quote or not.
 fn found(text: &[u8], quote: usize) -> u32
@@ -194,7 +194,7 @@ pub fn record(
     names: &[u8],
     errors: &mut [u32],
     notes: &mut Notes,
-) -> Option<Refusal>
+) -> Full
     requires { (notes.old.er ≤ notes.old.ercap)
         × (notes.old.ercap ≤ length errors.old)
         × (length names.now ≤ 85)
@@ -206,7 +206,7 @@ pub fn record(
 {
     let at = notes.er;
     if notes.ercap - at < names.len() + HEAD {
-        return Some(Refusal::Errors);
+        return Full::ERRORS;
     }
     errors[at] = start;
     errors[at + END] = end;
@@ -215,17 +215,11 @@ pub fn record(
     errors[at + shapes::record::COUNT] = names.len() as u32;
     spell(names, at + HEAD, errors);
     notes.er = at + HEAD + names.len();
-    None
+    Full::NONE
 }
 
 // Writes a record of form 9, with the place of the bad byte; or there is no room.
-fn record_bad(
-    start: u32,
-    end: u32,
-    place: u32,
-    errors: &mut [u32],
-    notes: &mut Notes,
-) -> Option<Refusal>
+fn record_bad(start: u32, end: u32, place: u32, errors: &mut [u32], notes: &mut Notes) -> Full
     requires { (notes.old.er ≤ notes.old.ercap)
         × (notes.old.ercap ≤ length errors.old)
         × (notes.old.number ≤ 65536) }
@@ -235,7 +229,7 @@ fn record_bad(
 {
     let at = notes.er;
     if notes.ercap - at < HEAD + 1 {
-        return Some(Refusal::Errors);
+        return Full::ERRORS;
     }
     errors[at] = start;
     errors[at + END] = end;
@@ -244,7 +238,7 @@ fn record_bad(
     errors[at + shapes::record::COUNT] = 0;
     errors[at + HEAD] = place;
     notes.er = at + HEAD + 1;
-    None
+    Full::NONE
 }
 
 // Where in the source the bad byte is of a text that starts at the given place.
@@ -262,23 +256,23 @@ fn choose_at(
     x: &Given<'_>,
     errors: &mut [u32],
     notes: &mut Notes,
-) -> Option<Refusal>
-    requires { Sound (length x.now.ids.now) notes.old
+) -> Full
+    requires { Sound (length x.now.rows.ids.now) notes.old
         × (notes.old.ercap ≤ length errors.old)
         × (notes.old.first ≤ at)
-        × (at ≤ length x.now.ids.now) }
-    ensures { (s : Whole) → s.full ≡ 0 → Ok (length x.now.ids.now) (beside notes.old s)
-        → Chose (P.add (length x.now.ids.now - at) (choice_of expected (names_in (beside notes.old s))))
+        × (at ≤ length x.now.rows.ids.now) }
+    ensures { (s : Whole) → s.full ≡ 0 → Ok (length x.now.rows.ids.now) (beside notes.old s)
+        → Chose (P.add (length x.now.rows.ids.now - at) (choice_of expected (names_in (beside notes.old s))))
         (source_of x.now) (beside notes.old s)
         (with_full (exceeded result) (beside notes.new s)) errors.old errors.new }
 {
-    let start = x.start_of(at);
-    let end = x.end_of(at);
+    let start = x.rows.start_of(at);
+    let end = x.rows.end_of(at);
     if pending(start, end, &errors[notes.item..notes.er]) {
-        return None;
+        return Full::NONE;
     }
     let text = &x.src[start as usize..end as usize];
-    let form = form_of(x.id_at(at), text, expected, notes.quote);
+    let form = form_of(x.rows.id_at(at), text, expected, notes.quote);
     if form == 9 {
         let place = place_of(start, text);
         return record_bad(start, end, place, errors, notes);
@@ -290,14 +284,9 @@ fn choose_at(
 
 // Chooses an error at the furthest row that was expected or unexpected, and empties both. Expected wins a tie. It takes and gives which room was
 // exceeded.
-pub fn choose(
-    full: Option<Refusal>,
-    x: &Given<'_>,
-    errors: &mut [u32],
-    notes: &mut Notes,
-) -> Option<Refusal>
-    requires { Sound (length x.now.ids.now) notes.old × (notes.old.ercap ≤ length errors.old) }
-    ensures { (s : Whole) → s.full ≡ exceeded full → Ok (length x.now.ids.now) (beside notes.old s)
+pub fn choose(full: Full, x: &Given<'_>, errors: &mut [u32], notes: &mut Notes) -> Full
+    requires { Sound (length x.now.rows.ids.now) notes.old × (notes.old.ercap ≤ length errors.old) }
+    ensures { (s : Whole) → s.full ≡ exceeded full → Ok (length x.now.rows.ids.now) (beside notes.old s)
         → Errors P.choose (source_of x.now) (beside notes.old s)
         (with_full (exceeded result) (beside notes.new s)) errors.old errors.new }
 {
@@ -305,13 +294,13 @@ pub fn choose(
     let unwant = notes.unwant;
     notes.want = 0;
     notes.unwant = 0;
-    if full.is_some() {
+    if full.isnt(Full::NONE) {
         return full;
     }
     let expected = unwant <= want;
     let row = if expected { want } else { unwant };
     if row == 0 {
-        return None;
+        return Full::NONE;
     }
     choose_at(row - 1, expected, x, errors, notes)
 }

@@ -9,27 +9,40 @@ use borrow.Author.Tests.{lt-ltb, le-ltb}
 use lib.Dec.{ltb}
 use lib.ListN.{length, take, replicate}
 use lib.Seq.{length-take-le}
-use Rattle.std.specs.Prelude.{Option, None, Some}
 use Rattle.shapes.specs.declared.refusal.Refusal.{Refusal}
+use Rattle.shapes.specs.declared.refusal.Refusal.TheVariants as V
+use Rattle.shapes.specs.Refusal as Number
 use Rattle.shapes.specs.Shapes.{EVENT}
 use Rattle.definition.specs.Run as P
 use Rattle.definition.specs.Render.{Source, item_numbers, rendered, used, moments, exceeds, over}
 use Rattle.definition.specs.Answer.{Desk, After, Answer, refused, given, first_of, grounds, refusal, exceeded, refusing, blank, left_by, after, source_of}
 use Rattle.notes.proofs.Rooms.{exceeds_events}
 use Rattle.notes.proofs.Rooms as rooms
-use Rattle.notes.proofs.Core.{exceeded_some}
 use Rattle.notes.specs.Whole as spent
 use Rattle.items.specs.declared.Desk as D
 use Rattle.desk.specs.Framing.{answering, reading, Framed, Finished}
 
 -- no refusal has the number 0
-pub numbered : (r : Refusal) → spent.exceeded (Some r) ≡ 0 → ⊥
-numbered r = exceeded_some (Some r) refl
-
--- no room was exceeded
-pub none_full : (o : Option Refusal) → ((room : Refusal) → o ≡ Some room → ⊥) → spent.exceeded o ≡ 0
-none_full None h = refl
-none_full (Some room) h = absurd (h room refl)
+pub numbered : (r : Refusal) → Number.number r ≡ 0 → ⊥
+numbered V.Long e = omega arith
+numbered V.Unequal e = omega arith
+numbered V.Id e = omega arith
+numbered V.Tiles e = omega arith
+numbered V.Scratch e = omega arith
+numbered V.Events e = omega arith
+numbered V.Errors e = omega arith
+numbered V.Malformed e = omega arith
+numbered V.Unpaired e = omega arith
+numbered V.Record e = omega arith
+numbered V.Text e = omega arith
+numbered V.Rows e = omega arith
+numbered V.Rules e = omega arith
+numbered V.Nesting e = omega arith
+numbered V.Listing e = omega arith
+numbered V.Output e = omega arith
+numbered V.Edition e = omega arith
+numbered V.Settings e = omega arith
+numbered V.Day e = omega arith
 
 -- the first number that is not 0, or an answer
 abbrev pick : ℕ → Answer → Answer
@@ -120,6 +133,23 @@ module _ (L : P.Limits) (d : Desk) where
       go (suc v) (inl z) = absurd (omega (arith, z))
       go (suc v) (inr z) = inr z
 
+  -- a room that is exceeded is that of events or that of records
+  either_exceeds : (e r : ℕ) (m : ℕ × ℕ) → (exceeds e r m ≡ 0 → ⊥) → (exceeds e r m ≡ 7) ⊎ (exceeds e r m ≡ 8)
+  either_exceeds e r m = go (ltb e m.0) (ltb r m.1)
+    where
+      go : (b c : Bool) → (worst b c ≡ 0 → ⊥) → (worst b c ≡ 7) ⊎ (worst b c ≡ 8)
+      go true c n = inl refl
+      go false true n = inr refl
+      go false false n = absurd (n refl)
+
+  either_room : (e r : ℕ) (ms : List (ℕ × ℕ)) → (over e r ms ≡ 0 → ⊥) → (over e r ms ≡ 7) ⊎ (over e r ms ≡ 8)
+  either_room e r [] n = absurd (n refl)
+  either_room e r (m ∷ ms) n = go (over e r ms) (either_room e r ms) n
+    where
+      go : (v : ℕ) → ((v ≡ 0 → ⊥) → (v ≡ 7) ⊎ (v ≡ 8)) → (rooms.first_of v (exceeds e r m) ≡ 0 → ⊥) → (rooms.first_of v (exceeds e r m) ≡ 7) ⊎ (rooms.first_of v (exceeds e r m) ≡ 8)
+      go zero h n = either_exceeds e r m n
+      go (suc v) h n = h n
+
   -- r is what the reading left, with so many numbers of error records
   module _ (r : D.Desk) (written : ℕ) {ev er : List ℕ} (z : 0 ≡ refusal d) (f : Framed L (source_of d) d.fuel (length d.events) (length d.errors) r written ev er) where
     pub room_so : (spent.exceeded r.state.full ≡ 0 → ⊥) → zeros (spent.exceeded r.state.full) ≡ after L d
@@ -128,6 +158,13 @@ module _ (L : P.Limits) (d : Desk) where
         go : (number ≡ 0) ⊎ (7 ≤ number) → 7 ≤ spent.exceeded r.state.full
         go (inl e) = absurd (n (f.full ∙ e))
         go (inr h) = omega (arith, h, f.full)
+
+    pub room_is : (spent.exceeded r.state.full ≡ 0 → ⊥) → (spent.exceeded r.state.full ≡ 7) ⊎ (spent.exceeded r.state.full ≡ 8)
+    room_is n = go (either_room (length d.events) (length d.errors) (moments L (source_of d) (reading L (source_of d) d.fuel)) (λ z. n (f.full ∙ z)))
+      where
+        go : (number ≡ 7) ⊎ (number ≡ 8) → (spent.exceeded r.state.full ≡ 7) ⊎ (spent.exceeded r.state.full ≡ 8)
+        go (inl e) = inl (f.full ∙ e)
+        go (inr e) = inr (f.full ∙ e)
 
     -- the finished list in the buffer, with zeros behind it
     laid : (w l : List ℕ) (n : ℕ) (lent : List ℕ) → take n l ≡ w → n ≤ length l → length l ≡ length lent → take n l ++ replicate (length l - n) 0 ≡ w ++ replicate (length lent - length w) 0

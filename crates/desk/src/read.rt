@@ -1,5 +1,5 @@
 // The public reader: the refusals in their order, the reading inside SOURCE_FILE, and zeros where they belong.
-ghost use Rattle.std.specs.Prelude.{◌≡◌, ◌+◌, ◌*◌, ◌≤◌, Ok, Err, length, replicate};
+ghost use Rattle.std.specs.Prelude.{◌≡◌, ◌⊎◌, ◌+◌, ◌*◌, ◌≤◌, Ok, Err, length, replicate};
 ghost use Rattle.shapes.specs.Shapes.{EVENT};
 ghost use Rattle.shapes.specs.Refusal.{number};
 ghost use Rattle.shapes.specs.Mode as modes;
@@ -8,6 +8,7 @@ ghost use Rattle.definition.specs.Run as P;
 ghost use Rattle.definition.specs.Answer.{refusing, after};
 ghost use Rattle.refusals.specs.Judge.{desk};
 ghost use Rattle.notes.specs.declared.names.Notes as names;
+ghost use Rattle.notes.specs.Whole.{exceeded};
 ghost use Rattle.notes.specs.Means.{bufs};
 ghost use Rattle.notes.specs.Reading.{source_of};
 ghost use Rattle.notes.specs.Did.{Wf};
@@ -20,9 +21,10 @@ use cells::fill;
 use items::{Desk, items};
 use kinds::Kind;
 use notes::names::Notes;
-use notes::reading::{Given, Lent};
+use notes::reading::{Given, Lent, RowList};
 use refusals::judged;
 use shapes::event::{DEPTH, END, EVENT, KIND, START};
+use shapes::full::Full;
 use shapes::mode::Mode;
 use shapes::outcome::Outcome;
 use shapes::refusal::Refusal;
@@ -76,8 +78,8 @@ fn blank(fuel: u32, evcap: usize) -> Desk
             ev: 0,
             evcap,
             fuel,
-            mode: Mode::Fine,
-            full: None,
+            mode: Mode::FINE,
+            full: Full::NONE,
         },
         before: 0,
     }
@@ -87,11 +89,13 @@ fn blank(fuel: u32, evcap: usize) -> Desk
 fn outcome(mode: Mode) -> Outcome
     ensures { outcomes.number result ≡ outcome_of (modes.number mode) }
 {
-    match mode {
-        Mode::Fine | Mode::Failed => Outcome::Done,
-        Mode::Spent => Outcome::Spent,
-        Mode::Deep => Outcome::Deep,
+    if mode.number < Mode::SPENT.number {
+        return Outcome::Done;
     }
+    if mode.is(Mode::SPENT) {
+        return Outcome::Spent;
+    }
+    Outcome::Deep
 }
 
 // All items, by what is noted and lent. They are lent here, where each list is whole: what was written into a part of one is not known behind such a loan.
@@ -107,7 +111,7 @@ fn all_items(
     requires { Wf (source_of x.now) (bufs events.old errors.old scratch.old) (steps.whole d.state notes)
         × Settled (steps.whole d.state notes) }
     ensures { (n : names.Notes) × (n.er ≡ result.er)
-        × Goes (depth, x.now.entrypoint) 1 (length x.now.ids.now) (source_of x.now) (tally d notes) (tally result.desk n)
+        × Goes (depth, x.now.entrypoint) 1 (length x.now.rows.ids.now) (source_of x.now) (tally d notes) (tally result.desk n)
         (bufs events.old errors.old scratch.old) (bufs events.new errors.new scratch.new) }
 {
     let mut lent = Lent {
@@ -134,7 +138,7 @@ fn whole(
 ) -> Ended
     requires { (x.now.entrypoint ≡ limits.entrypoint)
         × (scratch.old ≡ replicate (length scratch.old) 0)
-        × (2 * (length x.now.ids.now + 1) ≤ 64 * length scratch.old)
+        × (2 * (length x.now.rows.ids.now + 1) ≤ 64 * length scratch.old)
         × (EVENT ≤ length events.old) }
     ensures { Framed (limits_of limits) (source_of x.now) fuel (length events.old)
         (length errors.old) result.desk result.er events.new errors.new }
@@ -152,7 +156,7 @@ fn whole(
     let inner = &mut events[EVENT..];
     let r = all_items(d, limits.depth as usize, notes, x, scratch, inner, errors);
     let s = r.desk.state;
-    let t = s.write(Sort::End, Kind::SourceFile as u32, 0, size, 0, inner);
+    let t = s.write(Sort::End as u32, Kind::SourceFile as u32, 0, size, 0, inner);
     Ended {
         desk: Desk {
             state: t,
@@ -160,6 +164,17 @@ fn whole(
         },
         er: r.er,
     }
+}
+
+// Which room it was, where one was exceeded.
+fn room_of(full: Full) -> Refusal
+    requires { (exceeded full ≡ 7) ⊎ (exceeded full ≡ 8) }
+    ensures { number result ≡ exceeded full }
+{
+    if full.is(Full::EVENTS) {
+        return Refusal::Events;
+    }
+    Refusal::Errors
 }
 
 // A room was exceeded: everything is zero.
@@ -224,13 +239,13 @@ pub fn read(
     fill(scratch, 0);
     let x = Given {
         src,
-        ids,
-        ends,
+        rows: RowList { ids, ends },
         entrypoint: limits.entrypoint,
     };
     let ended = whole(&x, fuel, limits, scratch, events, errors);
-    if let Some(room) = ended.desk.state.full {
-        return Err(spoilt(room, scratch, events, errors));
+    let full = ended.desk.state.full;
+    if full.isnt(Full::NONE) {
+        return Err(spoilt(room_of(full), scratch, events, errors));
     }
     Ok(finished(ended.desk, ended.er, scratch, events, errors))
 }

@@ -9,7 +9,7 @@ use Rattle.definition.specs.Render.{Source}
 use Rattle.notes.specs.Whole.{Whole}
 use Rattle.notes.specs.Means.{Bufs}
 use Rattle.notes.specs.Did.{Did}
-use Rattle.notes.specs.declared.reading.Given.{Given}
+use Rattle.notes.specs.declared.reading.RowList.{RowList}
 use Rattle.notes.specs.declared.reading.Lent.{Lent}
 use Rattle.steps.specs.declared.state.State.{State}
 use Rattle.steps.specs.Steps.{Eats}
@@ -20,8 +20,8 @@ use Rattle.expr.specs.declared.Item.{Item}
 use Rattle.expr.specs.declared.Item.TheVariants.{Ident, Term, Expr, PrimaryExpr, BooleanTerm, BooleanExpr}
 
 -- a row of a set by another name of the set
-pub as_set : {S S' : List ℕ} (N : List ℕ) → S ≡ S' → {x : Given} {s r : State} {l m : Lent} → Eats (P.eats S N) x s l r m → Eats (P.eats S' N) x s l r m
-as_set N e {x} {s} {r} {l} {m} y = subst (λ (S : List ℕ). Eats (P.eats S N) x s l r m) e y
+pub as_set : {S S' : List ℕ} (N : List ℕ) → S ≡ S' → {rows : RowList} {s r : State} {l m : Lent} → Eats (P.eats S N) rows s l r m → Eats (P.eats S' N) rows s l r m
+as_set N e {rows} {s} {r} {l} {m} y = subst (λ (S : List ℕ). Eats (P.eats S N) rows s l r m) e y
 
 -- an item by which it is
 pub told : (E : Bool) (d : ℕ) {x : Source} {s r : Whole} {b b' : Bufs} {i v : Item} → i ≡ v → Did (reads E d true (item_of v)) x s r b b' → Did (reads E d true (item_of i)) x s r b b'

@@ -26,16 +26,16 @@ fn rule_decl(mut s: State, d: usize, may: bool, x: &Given<'_>, lent: &mut Lent<'
     ensures read { Reads d may (node G.RULE_DECL) x.now s lent.old result lent.new }
     ensures lists { SameLists lent.old lent.new }
 {
-    s = s.begin(d, x, lent.events);
+    s = s.begin(d, &x.rows, lent.events);
     let from = s.pos;
     let at = s.ev;
     if d == 0 {
-        return s.end(Kind::RuleDecl, from, at, may, x, lent);
+        return s.end(Kind::RuleDecl as u32, from, at, may, x, lent);
     }
     let below = d - 1;
     s = head(s, below, may, x, lent);
     s = sections(s, below, may, x, lent);
-    s.end(Kind::RuleDecl, from, at, may, x, lent)
+    s.end(Kind::RuleDecl as u32, from, at, may, x, lent)
 }
 
 // RULE_MODS? RULE_KW IDENT if COLON (RULE_TAGS recover L_BRACE) L_BRACE
@@ -45,10 +45,10 @@ fn head(mut s: State, d: usize, may: bool, x: &Given<'_>, lent: &mut Lent<'_>) -
     ensures lists { SameLists lent.old lent.new }
 {
     s = any_rule_mods(s, d, may, x, lent);
-    s = s.expect(set::RULE_KW, set::RULE_KW, x, lent);
-    s = s.expect(set::IDENT, set::IDENT, x, lent);
+    s = s.expect(set::RULE_KW, set::RULE_KW, &x.rows, lent);
+    s = s.expect(set::IDENT, set::IDENT, &x.rows, lent);
     s = tags(s, d, may, x, lent);
-    s = s.expect(set::L_BRACE, set::L_BRACE, x, lent);
+    s = s.expect(set::L_BRACE, set::L_BRACE, &x.rows, lent);
     s
 }
 
@@ -61,7 +61,7 @@ fn sections(mut s: State, d: usize, may: bool, x: &Given<'_>, lent: &mut Lent<'_
     s = metas(s, d, may, x, lent);
     s = patterns(s, d, may, x, lent);
     s = condition(s, d, may, x, lent);
-    s = s.expect(set::R_BRACE, set::R_BRACE, x, lent);
+    s = s.expect(set::R_BRACE, set::R_BRACE, &x.rows, lent);
     s
 }
 
@@ -71,11 +71,11 @@ fn patterns(mut s: State, d: usize, may: bool, x: &Given<'_>, lent: &mut Lent<'_
     ensures read { Reads d may patterns x.now s lent.old result lent.new }
     ensures lists { SameLists lent.old lent.new }
 {
-    if !s.sees(set::STRINGS_KW, x) {
-        s.pass(set::STRINGS_KW, x, &mut lent.notes);
+    if !s.sees(set::STRINGS_KW, &x.rows) {
+        s.pass(set::STRINGS_KW, &x.rows, &mut lent.notes);
         return s;
     }
-    s = s.trivia(x, lent.events);
+    s = s.trivia(&x.rows, lent.events);
     s = patterns_blk(s, d, may, x, lent);
     s = s.recover(d, may, set::CONDITION_KW, x, lent);
     s
@@ -87,10 +87,10 @@ fn condition(mut s: State, d: usize, may: bool, x: &Given<'_>, lent: &mut Lent<'
     ensures read { Reads d may condition x.now s lent.old result lent.new }
     ensures lists { SameLists lent.old lent.new }
 {
-    if s.mode != Mode::Fine {
+    if s.mode.isnt(Mode::FINE) {
         return s;
     }
-    s = s.trivia(x, lent.events);
+    s = s.trivia(&x.rows, lent.events);
     s = condition_blk(s, d, may, x, lent);
     s = s.recover(d, may, set::R_BRACE, x, lent);
     s
@@ -102,17 +102,17 @@ fn condition_blk(mut s: State, d: usize, may: bool, x: &Given<'_>, lent: &mut Le
     ensures read { Reads d may (node G.CONDITION_BLK) x.now s lent.old result lent.new }
     ensures lists { SameLists lent.old lent.new }
 {
-    s = s.begin(d, x, lent.events);
+    s = s.begin(d, &x.rows, lent.events);
     let from = s.pos;
     let at = s.ev;
     if d == 0 {
-        return s.end(Kind::ConditionBlk, from, at, may, x, lent);
+        return s.end(Kind::ConditionBlk as u32, from, at, may, x, lent);
     }
     let below = d - 1;
-    s = s.expect(set::CONDITION_KW, set::CONDITION_KW, x, lent);
-    s = s.expect(set::COLON, set::COLON, x, lent);
+    s = s.expect(set::CONDITION_KW, set::CONDITION_KW, &x.rows, lent);
+    s = s.expect(set::COLON, set::COLON, &x.rows, lent);
     s = boolean(s, below, may, x, lent);
-    s.end(Kind::ConditionBlk, from, at, may, x, lent)
+    s.end(Kind::ConditionBlk as u32, from, at, may, x, lent)
 }
 
 // BOOLEAN_EXPR recover R_BRACE
@@ -121,7 +121,7 @@ fn boolean(mut s: State, d: usize, may: bool, x: &Given<'_>, lent: &mut Lent<'_>
     ensures read { Reads d may boolean x.now s lent.old result lent.new }
     ensures lists { SameLists lent.old lent.new }
 {
-    if s.mode != Mode::Fine {
+    if s.mode.isnt(Mode::FINE) {
         return s;
     }
     s = bool_expr(s, d, may, x, lent);

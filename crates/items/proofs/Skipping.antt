@@ -67,8 +67,8 @@ module _ (x : Source) {s s₁ : Whole} {ev ev₁ : List ℕ} (st : ℕ) (l : Lin
     on : Did skips x s₁ s₂ (bufs ev₁ (replicate s₁.ercap 0) (enough x)) (bufs ev₂ (replicate s₁.ercap 0) (enough x))
     on = y.did (replicate s₁.ercap 0) (enough x) (any x s₁ ev₁ junk_skip.0 junk_skip.1)
 
-    pub junk_shut : ((s₂.ev ≤ s₂.evcap) × (s₂.evcap ≤ length ev₂)) × (s₂.pos ≤ length x.ids) × (s.pos ≤ s₂.pos) × (s₂.full ≡ 0 → (EVENT ≤ s₁.ev) × (s₁.ev ≤ s₂.ev))
-    junk_shut = ((y.ok.2.events, y.fits), y.ok.0.here, omega (arith, on.ahead, place), λ z. (omega (arith, u.more (on.room z)), y.grows))
+    pub junk_shut : ((s₂.ev ≤ s₂.evcap) × (s₂.evcap ≤ length ev₂)) × (s₂.pos ≤ length x.ends) × (s.pos ≤ s₂.pos) × (s₂.full ≡ 0 → (EVENT ≤ s₁.ev) × (s₁.ev ≤ s₂.ev))
+    junk_shut = ((y.ok.2.events, y.fits), omega (arith, y.ok.0.here, l.level), omega (arith, on.ahead, place), λ z. (omega (arith, u.more (on.room z)), y.grows))
 
     module _ {kind : ℕ} {r : Whole} {ev₃ : List ℕ} (named : kind ≡ k.ERROR) (e : (er sc : List ℕ) → Wf x (bufs ev₂ er sc) s₂ → Shuts (shut_a kind (length x.ids - s.pos)) s₁.ev x s₂ r (bufs ev₂ er sc) (bufs ev₃ er sc)) where
       junk_did : (er sc : List ℕ) → Wf x (bufs ev er sc) s → Did junk_node x s r (bufs ev er sc) (bufs ev₃ er sc)

@@ -1,5 +1,5 @@
 -- Items: error events out of records, and the state between two items.
-use Rattle.std.specs.Prelude.{None, ℕ, zero, suc, ◌+◌, ◌-◌, ◌*◌, ◌≤◌, ◌<◌, ◌≡◌, List, [], ◌∷◌, ◌++◌, Bool, true, false, eqb, leb, ltb, length, take, replicate}
+use Rattle.std.specs.Prelude.{ℕ, zero, suc, ◌+◌, ◌-◌, ◌*◌, ◌≤◌, ◌<◌, ◌≡◌, List, [], ◌∷◌, ◌++◌, Bool, true, false, eqb, leb, ltb, length, take, replicate}
 use Rattle.kinds.specs.Kinds as k
 use Rattle.shapes.specs.Sort as Sort
 use Rattle.shapes.specs.Shapes.{EVENT, event, Owned, of_item, items_in, behind}
@@ -15,7 +15,6 @@ use Rattle.notes.specs.Means.{Bufs, Past, Stands, recorded}
 use Rattle.notes.specs.Did.{Wf}
 use Rattle.steps.specs.Steps.{whole}
 use Rattle.items.specs.declared.Desk.{Desk}
-use Rattle.shapes.specs.declared.mode.Mode.TheVariants.{Fine}
 use Rattle.grammar.specs.Parts.{reach}
 
 -- the state as a whole, and how many error events stand written
@@ -167,7 +166,7 @@ pub record Goes (bounds : ℕ × Bool) (i n : ℕ) (x : Source) (d r : Tally) (b
 
 -- before the first item
 abbrev pub blank : ℕ → ℕ → Desk
-blank fuel evcap = record { state = record { pos = 0; ev = 0; evcap = evcap; fuel = fuel; mode = Fine; full = None }; before = 0 }
+blank fuel evcap = record { state = record { pos = 0; ev = 0; evcap = evcap; fuel = fuel; mode = record { number = 0 }; full = record { number = 0 } }; before = 0 }
 
 -- where nothing is noted but how many numbers of error records may be written, and how long a text may be to be quoted
 abbrev pub clean : ℕ → ℕ → Notes

@@ -1,12 +1,12 @@
 // Items, one after another.
 #![tactic(auto)]
 
-ghost use Rattle.std.specs.Prelude.{◌≡◌, None, List, ℕ, ◌-◌, ◌*◌, ◌≤◌, ◌<◌, length, take, drop};
+ghost use Rattle.std.specs.Prelude.{◌≡◌, List, ℕ, ◌-◌, ◌*◌, ◌≤◌, ◌<◌, length, take, drop};
 ghost use Rattle.definition.specs.Render.{Source};
 ghost use Rattle.notes.specs.declared.names.Notes.{Notes};
-ghost use Rattle.notes.specs.Whole.{fresh};
+ghost use Rattle.notes.specs.Whole.{exceeded, fresh};
 ghost use Rattle.notes.specs.Bits.{Forgot};
-ghost use Rattle.notes.specs.Means.{bufs};
+ghost use Rattle.notes.specs.Means.{source, bufs, Lines};
 ghost use Rattle.notes.specs.Reading.{source_of, bufs_of, SameLists};
 ghost use Rattle.notes.specs.Did.{Wf, Coded};
 ghost use Rattle.steps.specs.Steps.{whole, Fits, Ready, Writes};
@@ -18,7 +18,8 @@ use grammar::rules::read_item;
 use kinds::{Kind, has, set};
 use notes::cache::forget;
 use notes::names::Notes;
-use notes::reading::{Given, Lent};
+use notes::reading::{Given, Lent, RowList};
+use shapes::full::Full;
 use shapes::mode::Mode;
 use shapes::record::{END, HEAD, next_record};
 use shapes::sort::Sort;
@@ -49,7 +50,7 @@ pub fn flush(mut s: State, before: u32, records: &[u32], events: &mut [u32]) -> 
         }
         let start = records[at];
         let end = records[at + END];
-        s = s.write(Sort::Error, index, start, end, depth, events);
+        s = s.write(Sort::Error as u32, index, start, end, depth, events);
         index += 1;
         at = next_record(records, at);
     }
@@ -95,38 +96,39 @@ pub fn tell(s: State, before: u32, lent: &mut Lent<'_>) -> Desk
 }
 
 // An ERROR node up to the next rule, without fuel.
-pub fn junk(mut s: State, x: &Given<'_>, events: &mut [u32]) -> State
-    requires { Fits s events.old × (s.pos ≤ length x.now.ids.now) }
-    ensures { Writes junk_node x.now s result events.old events.new }
+pub fn junk(mut s: State, rows: &RowList<'_>, events: &mut [u32]) -> State
+    requires { Lines rows.now.ids.now rows.now.ends.now × Fits s events.old × (s.pos ≤ length rows.now.ids.now) }
+    ensures { Writes junk_node rows.now s result events.old events.new }
 {
     let from = s.pos;
-    let start = x.start_of(from);
-    s = s.put(Sort::Begin, 0, start, start, events);
+    let start = rows.start_of(from);
+    s = s.put(Sort::Begin as u32, 0, start, start, events);
     let at = s.ev;
-    s = s.skip_to(set::RULE_KEYWORDS, x, events);
-    s.shut(u32::from(Kind::Error), from, at, x, events)
+    s = s.skip_to(set::RULE_KEYWORDS, rows, events);
+    s.shut(Kind::Error as u32, from, at, rows, events)
 }
 
 // A row that begins no item: error form 10 on it, its record before its event, and an ERROR node.
-pub fn stray(mut s: State, before: u32, x: &Given<'_>, lent: &mut Lent<'_>) -> Desk
-    requires { Ready x.now s lent.old
+pub fn stray(mut s: State, before: u32, rows: &RowList<'_>, lent: &mut Lent<'_>) -> Desk
+    requires { Ready rows.now s lent.old
         × (lent.old.notes.ercap ≤ length lent.old.errors.now)
-        × (s.pos < length x.now.ids.now)
-        × (s.full ≡ None) }
-    ensures written { (sc : List ℕ) → Wf (source_of x.now) (bufs lent.old.events.now lent.old.errors.now sc) (whole s lent.old.notes)
-        → Strays (source_of x.now) (whole s lent.old.notes) before (tally result lent.new.notes)
+        × (s.pos < length rows.now.ids.now)
+        × (exceeded s.full ≡ 0) }
+    ensures written { (bytes sc : List ℕ)
+        → Wf (source bytes rows.now.ids.now rows.now.ends.now) (bufs lent.old.events.now lent.old.errors.now sc) (whole s lent.old.notes)
+        → Strays (source bytes rows.now.ids.now rows.now.ends.now) (whole s lent.old.notes) before (tally result lent.new.notes)
         (bufs lent.old.events.now lent.old.errors.now sc)
         (bufs lent.new.events.now lent.new.errors.now sc) }
     ensures scratch { lent.new.scratch ≡ lent.old.scratch }
     ensures lists { SameLists lent.old lent.new }
 {
     let at = s.pos;
-    let start = x.start_of(at);
-    let end = x.ends[at];
+    let start = rows.start_of(at);
+    let end = rows.ends[at];
     s.full = record(start, end, 10, &[], lent.errors, &mut lent.notes);
     let d = tell(s, before, lent);
     Desk {
-        state: junk(d.state, x, lent.events),
+        state: junk(d.state, rows, lent.events),
         before: d.before,
     }
 }
@@ -138,21 +140,21 @@ pub fn at_hand(s: State, before: u32, depth: usize, x: &Given<'_>, lent: &mut Le
         (tally result lent.new.notes) (bufs_of lent.old) (bufs_of lent.new) }
     ensures lists { SameLists lent.old lent.new }
 {
-    if s.full.is_some() {
+    if s.full.isnt(Full::NONE) {
         return Desk { state: s, before };
     }
     let at = s.pos;
-    if at >= x.ids.len() {
+    if at >= x.rows.ids.len() {
         return Desk { state: s, before };
     }
-    let id = x.ids[at];
+    let id = x.rows.ids[at];
     if has(set::RULE_OR_IMPORT, id) {
         return Desk {
             state: read_item(id, s, depth, x, lent),
             before,
         };
     }
-    stray(s, before, x, lent)
+    stray(s, before, &x.rows, lent)
 }
 
 // What an item leaves behind is given up, but for place, fuel and outputs.
@@ -168,8 +170,8 @@ pub fn settle(d: Desk, scratch: &mut [u64], notes: &mut Notes) -> Desk
     notes.far = s.pos;
     notes.want = 0;
     notes.unwant = 0;
-    if s.mode == Mode::Failed {
-        s.mode = Mode::Fine;
+    if s.mode.is(Mode::FAILED) {
+        s.mode = Mode::FINE;
     }
     Desk {
         state: s,
@@ -178,33 +180,33 @@ pub fn settle(d: Desk, scratch: &mut [u64], notes: &mut Notes) -> Desk
 }
 
 // Whether no item is to be read: a room was exceeded, the reader stopped, or no row is left.
-pub fn over(s: State, x: &Given<'_>) -> bool
-    ensures { result ≡ Items.over (length x.now.ids.now) (whole s fresh) }
+pub fn over(s: State, rows: &RowList<'_>) -> bool
+    ensures { result ≡ Items.over (length rows.now.ids.now) (whole s fresh) }
 {
-    if s.full.is_some() {
+    if s.full.isnt(Full::NONE) {
         return true;
     }
-    if s.mode != Mode::Fine {
+    if s.mode.isnt(Mode::FINE) {
         return true;
     }
-    s.pos >= x.ids.len()
+    s.pos >= rows.ids.len()
 }
 
 // One item with its number, if the state is in good order and rows are left.
 pub fn item(d: Desk, number: usize, depth: usize, x: &Given<'_>, lent: &mut Lent<'_>) -> Desk
     requires { Wf (source_of x.now) (bufs_of lent.old) (whole d.state lent.old.notes)
         × Settled (whole d.state lent.old.notes)
-        × (number ≤ length x.now.ids.now) }
+        × (number ≤ length x.now.rows.ids.now) }
     ensures read { Goes (depth, x.now.entrypoint) number 1 (source_of x.now) (tally d lent.old.notes)
         (tally result lent.new.notes) (bufs_of lent.old) (bufs_of lent.new) }
     ensures lists { SameLists lent.old lent.new }
 {
     let s = d.state;
-    if over(s, x) {
+    if over(s, &x.rows) {
         return d;
     }
     lent.notes.number = number;
-    let t = s.trivia(x, lent.events);
+    let t = s.trivia(&x.rows, lent.events);
     let h = at_hand(t, d.before, depth, x, lent);
     let u = tell(h.state, h.before, lent);
     settle(u, lent.scratch, &mut lent.notes)
@@ -214,12 +216,12 @@ pub fn item(d: Desk, number: usize, depth: usize, x: &Given<'_>, lent: &mut Lent
 pub fn items(mut d: Desk, depth: usize, x: &Given<'_>, lent: &mut Lent<'_>) -> Desk
     requires { Wf (source_of x.now) (bufs_of lent.old) (whole d.state lent.old.notes)
         × Settled (whole d.state lent.old.notes) }
-    ensures read { Goes (depth, x.now.entrypoint) 1 (length x.now.ids.now) (source_of x.now)
+    ensures read { Goes (depth, x.now.entrypoint) 1 (length x.now.rows.ids.now) (source_of x.now)
         (tally d lent.old.notes) (tally result lent.new.notes) (bufs_of lent.old) (bufs_of lent.new) }
     ensures lists { SameLists lent.old lent.new }
 {
-    for number in 0..x.ids.len() {
-        if over(d.state, x) {
+    for number in 0..x.rows.ids.len() {
+        if over(d.state, &x.rows) {
             return d;
         }
         d = item(d, number + 1, depth, x, lent);

@@ -42,15 +42,15 @@ fn rule_mods(mut s: State, d: usize, may: bool, x: &Given<'_>, lent: &mut Lent<'
     ensures read { Reads d may (node G.RULE_MODS) x.now s lent.old result lent.new }
     ensures lists { SameLists lent.old lent.new }
 {
-    s = s.begin(d, x, lent.events);
+    s = s.begin(d, &x.rows, lent.events);
     let from = s.pos;
     let at = s.ev;
     if d == 0 {
-        return s.end(Kind::RuleMods, from, at, may, x, lent);
+        return s.end(Kind::RuleMods as u32, from, at, may, x, lent);
     }
     let below = d - 1;
     s = modifiers(s, below, may, x, lent);
-    s.end(Kind::RuleMods, from, at, may, x, lent)
+    s.end(Kind::RuleMods as u32, from, at, may, x, lent)
 }
 
 // The alternatives of RULE_MODS.
@@ -59,22 +59,22 @@ fn modifiers(mut s: State, d: usize, may: bool, x: &Given<'_>, lent: &mut Lent<'
     ensures read { Reads d may (grammar x.now.entrypoint G.RULE_MODS) x.now s lent.old result lent.new }
     ensures lists { SameLists lent.old lent.new }
 {
-    if s.mode != Mode::Fine {
+    if s.mode.isnt(Mode::FINE) {
         return s;
     }
     let m = s.mark();
-    s = s.trivia(x, lent.events);
-    s = s.expect(set::PRIVATE_KW, set::PRIVATE_KW, x, lent);
+    s = s.trivia(&x.rows, lent.events);
+    s = s.expect(set::PRIVATE_KW, set::PRIVATE_KW, &x.rows, lent);
     s = maybe(set::GLOBAL_KW, s, d, true, x, lent);
-    if s.mode != Mode::Failed {
+    if s.mode.isnt(Mode::FAILED) {
         return s;
     }
     s = s.rewind(m);
-    s.mode = Mode::Fine;
-    s = s.trivia(x, lent.events);
-    s = s.expect(set::GLOBAL_KW, set::GLOBAL_KW, x, lent);
+    s.mode = Mode::FINE;
+    s = s.trivia(&x.rows, lent.events);
+    s = s.expect(set::GLOBAL_KW, set::GLOBAL_KW, &x.rows, lent);
     s = maybe(set::PRIVATE_KW, s, d, true, x, lent);
-    if s.mode != Mode::Failed {
+    if s.mode.isnt(Mode::FAILED) {
         return s;
     }
     s = s.rewind(m);
@@ -87,11 +87,11 @@ pub fn tags(mut s: State, d: usize, may: bool, x: &Given<'_>, lent: &mut Lent<'_
     ensures read { Reads d may tags x.now s lent.old result lent.new }
     ensures lists { SameLists lent.old lent.new }
 {
-    if !s.sees(set::COLON, x) {
-        s.pass(set::COLON, x, &mut lent.notes);
+    if !s.sees(set::COLON, &x.rows) {
+        s.pass(set::COLON, &x.rows, &mut lent.notes);
         return s;
     }
-    s = s.trivia(x, lent.events);
+    s = s.trivia(&x.rows, lent.events);
     s = rule_tags(s, d, may, x, lent);
     s = s.recover(d, may, set::L_BRACE, x, lent);
     s
@@ -103,16 +103,16 @@ fn rule_tags(mut s: State, d: usize, may: bool, x: &Given<'_>, lent: &mut Lent<'
     ensures read { Reads d may (node G.RULE_TAGS) x.now s lent.old result lent.new }
     ensures lists { SameLists lent.old lent.new }
 {
-    s = s.begin(d, x, lent.events);
+    s = s.begin(d, &x.rows, lent.events);
     let from = s.pos;
     let at = s.ev;
     if d == 0 {
-        return s.end(Kind::RuleTags, from, at, may, x, lent);
+        return s.end(Kind::RuleTags as u32, from, at, may, x, lent);
     }
     let below = d - 1;
-    s = s.expect(set::COLON, set::COLON, x, lent);
+    s = s.expect(set::COLON, set::COLON, &x.rows, lent);
     s = idents(s, below, may, x, lent);
-    s.end(Kind::RuleTags, from, at, may, x, lent)
+    s.end(Kind::RuleTags as u32, from, at, may, x, lent)
 }
 
 // IDENT IDENT*
@@ -131,7 +131,7 @@ impl Part for Ident {
     ghost prog = { one k.IDENT };
 
     fn read(s: State, d: usize, may: bool, x: &Given<'_>, lent: &mut Lent<'_>) -> State {
-        s.expect(set::IDENT, set::IDENT, x, lent)
+        s.expect(set::IDENT, set::IDENT, &x.rows, lent)
     }
 }
 
@@ -141,11 +141,11 @@ pub fn metas(mut s: State, d: usize, may: bool, x: &Given<'_>, lent: &mut Lent<'
     ensures read { Reads d may metas x.now s lent.old result lent.new }
     ensures lists { SameLists lent.old lent.new }
 {
-    if !s.sees(set::META_KW, x) {
-        s.pass(set::META_KW, x, &mut lent.notes);
+    if !s.sees(set::META_KW, &x.rows) {
+        s.pass(set::META_KW, &x.rows, &mut lent.notes);
         return s;
     }
-    s = s.trivia(x, lent.events);
+    s = s.trivia(&x.rows, lent.events);
     s = meta_blk(s, d, may, x, lent);
     s = s.recover(d, may, set::STRINGS_OR_CONDITION, x, lent);
     s
@@ -157,17 +157,17 @@ fn meta_blk(mut s: State, d: usize, may: bool, x: &Given<'_>, lent: &mut Lent<'_
     ensures read { Reads d may (node G.META_BLK) x.now s lent.old result lent.new }
     ensures lists { SameLists lent.old lent.new }
 {
-    s = s.begin(d, x, lent.events);
+    s = s.begin(d, &x.rows, lent.events);
     let from = s.pos;
     let at = s.ev;
     if d == 0 {
-        return s.end(Kind::MetaBlk, from, at, may, x, lent);
+        return s.end(Kind::MetaBlk as u32, from, at, may, x, lent);
     }
     let below = d - 1;
-    s = s.expect(set::META_KW, set::META_KW, x, lent);
-    s = s.expect(set::COLON, set::COLON, x, lent);
+    s = s.expect(set::META_KW, set::META_KW, &x.rows, lent);
+    s = s.expect(set::COLON, set::COLON, &x.rows, lent);
     s = meta_defs(s, below, may, x, lent);
-    s.end(Kind::MetaBlk, from, at, may, x, lent)
+    s.end(Kind::MetaBlk as u32, from, at, may, x, lent)
 }
 
 // META_DEF META_DEF*
@@ -196,17 +196,17 @@ fn meta_def(mut s: State, d: usize, may: bool, x: &Given<'_>, lent: &mut Lent<'_
     ensures read { Reads d may (node G.META_DEF) x.now s lent.old result lent.new }
     ensures lists { SameLists lent.old lent.new }
 {
-    s = s.begin(d, x, lent.events);
+    s = s.begin(d, &x.rows, lent.events);
     let from = s.pos;
     let at = s.ev;
     if d == 0 {
-        return s.end(Kind::MetaDef, from, at, may, x, lent);
+        return s.end(Kind::MetaDef as u32, from, at, may, x, lent);
     }
     let below = d - 1;
-    s = s.expect(set::IDENT, set::IDENT, x, lent);
-    s = s.expect(set::EQUAL, set::EQUAL, x, lent);
+    s = s.expect(set::IDENT, set::IDENT, &x.rows, lent);
+    s = s.expect(set::EQUAL, set::EQUAL, &x.rows, lent);
     s = meta_value(s, below, may, x, lent);
-    s.end(Kind::MetaDef, from, at, may, x, lent)
+    s.end(Kind::MetaDef as u32, from, at, may, x, lent)
 }
 
 // MINUS? (INTEGER_LIT | FLOAT_LIT) / (STRING_LIT | TRUE_KW | FALSE_KW)
@@ -215,21 +215,21 @@ fn meta_value(mut s: State, d: usize, may: bool, x: &Given<'_>, lent: &mut Lent<
     ensures read { Reads d may meta_value x.now s lent.old result lent.new }
     ensures lists { SameLists lent.old lent.new }
 {
-    if s.mode != Mode::Fine {
+    if s.mode.isnt(Mode::FINE) {
         return s;
     }
     let m = s.mark();
-    s = s.trivia(x, lent.events);
+    s = s.trivia(&x.rows, lent.events);
     s = maybe(set::MINUS, s, d, true, x, lent);
-    s = s.expect(set::NUMBER, set::NUMBER, x, lent);
-    if s.mode != Mode::Failed {
+    s = s.expect(set::NUMBER, set::NUMBER, &x.rows, lent);
+    if s.mode.isnt(Mode::FAILED) {
         return s;
     }
     s = s.rewind(m);
-    s.mode = Mode::Fine;
-    s = s.trivia(x, lent.events);
-    s = s.expect(set::META_VALUE, set::META_VALUE, x, lent);
-    if s.mode != Mode::Failed {
+    s.mode = Mode::FINE;
+    s = s.trivia(&x.rows, lent.events);
+    s = s.expect(set::META_VALUE, set::META_VALUE, &x.rows, lent);
+    if s.mode.isnt(Mode::FAILED) {
         return s;
     }
     s = s.rewind(m);

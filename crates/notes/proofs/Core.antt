@@ -2,18 +2,15 @@
 use Prim.Native.Nat.{ℕ, ◌+◌, ◌*◌, ◌≤◌, ◌<◌}
 use mathlib.Core.Path.{◌≡◌, refl, sym, ap, subst, ◌∙◌}
 use mathlib.Core.List.{List, [], ◌∷◌, ◌++◌, map}
-use mathlib.Core.Bool.{Bool, true, false}
+use mathlib.Core.Bool.{Bool, true, false, not}
 use native.Mathlib.Nat.{le_refl, le_trans}
 use native.Mathlib.Omega.{arith}
 use native.Mathlib.Decide.{ℕ_discrete}
-use borrow.Author.Tests.{le-ltb, lt-ltb, ltb-true, ltb-false}
-use lib.Dec.{ltb}
+use borrow.Author.Tests.{le-ltb, lt-ltb, ltb-true, ltb-false, eqb-true, eqb-false}
+use lib.Dec.{T, ltb, eqb}
 use lib.ListN.{length, take, drop, replicate}
 use lib.Seq.{take-take}
-use Rattle.std.specs.Prelude.{Option, None, Some, is_some}
-use Rattle.shapes.specs.declared.refusal.Refusal.{Refusal}
-use Rattle.shapes.specs.declared.refusal.Refusal.TheVariants as R
-use Rattle.shapes.specs.Refusal.{number}
+use Rattle.shapes.specs.declared.full.Full.{Full}
 use Rattle.shapes.specs.Shapes.{EVENT, event, Rec}
 use Rattle.definition.specs.Run as P
 use Rattle.definition.specs.Run.{Event, opened, leaf, closed, bad, Limits}
@@ -227,33 +224,18 @@ pub moved : (i : ℕ) {p : Past} {x : Source} {s : Whole} {b : Bufs} {a : P.Stat
 unfolding over_of
 moved i t = record { over = t.over; means = λ z. let m = t.means z in record { rest = refl; mode = m.mode; fuel = m.fuel; written = m.written; want = m.want; unwant = m.unwant; chosen = m.chosen; cache = m.cache } }
 
--- a refusal's number is not 0
-numbered : (r : Refusal) → number r ≡ 0 → ⊥
-numbered R.Long e = omega arith
-numbered R.Unequal e = omega arith
-numbered R.Id e = omega arith
-numbered R.Tiles e = omega arith
-numbered R.Scratch e = omega arith
-numbered R.Events e = omega arith
-numbered R.Errors e = omega arith
-numbered R.Malformed e = omega arith
-numbered R.Unpaired e = omega arith
-numbered R.Record e = omega arith
-numbered R.Text e = omega arith
-numbered R.Rows e = omega arith
-numbered R.Rules e = omega arith
-numbered R.Nesting e = omega arith
-numbered R.Listing e = omega arith
-numbered R.Output e = omega arith
-numbered R.Edition e = omega arith
-numbered R.Settings e = omega arith
-numbered R.Day e = omega arith
+-- what a test that is turned round tells
+pub off : (b : Bool) → true ≡ not b → b ≡ false
+off true e = absurd (subst T e tt)
+off false e = refl
 
--- which room was exceeded, if one was
-pub exceeded_none : (o : Option Refusal) → false ≡ is_some o → exceeded o ≡ 0
-exceeded_none None h = refl
-exceeded_none (Some room) h = let z : ◌≡◌ {A = ℕ} 0 1 = cc in absurd (omega arith)
+pub on : (b : Bool) → false ≡ not b → b ≡ true
+on true e = refl
+on false e = absurd (subst T (sym e) tt)
 
-pub exceeded_some : (o : Option Refusal) → true ≡ is_some o → exceeded o ≡ 0 → ⊥
-exceeded_some None h e = let z : ◌≡◌ {A = ℕ} 0 1 = cc in omega arith
-exceeded_some (Some room) h e = numbered room e
+-- `!= Full::NONE`: which room was exceeded, if one was
+pub exceeded_none : (f : Full) → false ≡ not (eqb f.number 0) → exceeded f ≡ 0
+exceeded_none f e = eqb-true f.number 0 (on (eqb f.number 0) e)
+
+pub exceeded_some : (f : Full) → true ≡ not (eqb f.number 0) → exceeded f ≡ 0 → ⊥
+exceeded_some f e = eqb-false f.number 0 (off (eqb f.number 0) e)

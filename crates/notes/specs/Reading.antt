@@ -7,7 +7,7 @@ use Rattle.notes.specs.Means.{Bufs, source, bufs}
 
 -- the source with its rows
 abbrev pub source_of : Given → Source
-source_of x = source x.src.now x.ids.now x.ends.now
+source_of x = source x.src.now x.rows.ids.now x.rows.ends.now
 
 -- what stands in the lists
 abbrev pub bufs_of : Lent → Bufs

@@ -1,8 +1,6 @@
 -- The reader's state as a whole: the few numbers that every step hands on, and what is noted beside them.
 use Rattle.std.specs.Prelude.{ℕ, List, [], replicate}
-use Rattle.std.specs.Prelude.{Option, None, Some}
-use Rattle.shapes.specs.declared.refusal.Refusal.{Refusal}
-use Rattle.shapes.specs.Refusal.{number}
+use Rattle.shapes.specs.declared.full.Full.{Full}
 use Rattle.notes.specs.declared.names.Notes.{Notes}
 
 pub record Whole : Type 0 where
@@ -64,9 +62,8 @@ abbrev pub fresh : Notes
 fresh = record { want = 0; unwant = 0; count = 0; mask = 0; er = 0; ercap = 0; item = 0; first = 0; far = 0; quote = 0; number = 0; codes = replicate 58 0 }
 
 -- which room was exceeded, as a number: 0 for none
-abbrev pub exceeded : Option Refusal → ℕ
-exceeded None = 0
-exceeded (Some room) = number room
+abbrev pub exceeded : Full → ℕ
+exceeded f = f.number
 
 -- a state that rests at a row, where only what is noted counts
 abbrev pub resting : ℕ → Whole

@@ -7,14 +7,22 @@ ghost use Rattle.notes.specs.Change.{with_far};
 use crate::names::Notes;
 use crate::reading::Lent;
 
+// Whether a failure is remembered by its bit.
+pub fn seen(bit: usize, scratch: &[u64]) -> bool
+    requires { bit / 64 < length scratch.now }
+    ensures { result ≡ bit_at scratch.now bit }
+{
+    let word = scratch[bit / 64];
+    (word >> (bit % 64)) & 1 == 1
+}
+
 impl Lent<'_> {
-    // Whether a failure is remembered by its bit.
+    // The same of what is lent.
     pub fn seen(&self, bit: usize) -> bool
         requires { bit / 64 < length self.now.scratch.now }
         ensures { result ≡ bit_at self.now.scratch.now bit }
     {
-        let word = self.scratch[bit / 64];
-        (word >> (bit % 64)) & 1 == 1
+        seen(bit, self.scratch)
     }
 }
 

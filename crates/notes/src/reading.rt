@@ -6,16 +6,21 @@ ghost use Rattle.notes.specs.Means.{source, Rows};
 use crate::names::Notes;
 use kinds::{Kind, is_trivia};
 
-// The source and its rows.
+// Rows by their ids and by where they end: a row begins where the one before it ends. A step is handed these alone, and asks of them what it needs.
 #[derive(Drop)]
-pub struct Given<'a> {
-    // The rows stand by their ids and by where they end: a row begins where the one before it ends.
-    pub src: &'a [u8],
+pub struct RowList<'a> {
     pub ids: &'a [u32],
     pub ends: &'a [u32],
+}
+
+// The source and its rows, which tile it.
+#[derive(Drop)]
+pub struct Given<'a> {
+    pub src: &'a [u8],
+    pub rows: RowList<'a>,
     // Whether entrypoint is a term.
     pub entrypoint: bool,
-    ghost tiled: { Rows (source src.now ids.now ends.now) },
+    ghost tiled: { Rows (source src.now rows.ids.now rows.ends.now) },
 }
 
 // Lists to write into, and what is noted beside them.
@@ -27,7 +32,7 @@ pub struct Lent<'a> {
     pub notes: Notes,
 }
 
-impl Given<'_> {
+impl RowList<'_> {
     ghost use Rattle.notes.specs.Did.{Peeked};
 
     // Where a row begins; behind the last one, where the source ends.

@@ -13,6 +13,7 @@ use Rattle.definition.specs.Run as P
 use Rattle.definition.specs.Run.{Mode, ok, failed, stopped, spent, deep}
 use Rattle.definition.specs.Render.{Source}
 use Rattle.shapes.specs.Mode.{number}
+use Rattle.notes.specs.declared.reading.RowList.{RowList}
 use Rattle.notes.specs.declared.reading.Given.{Given}
 use Rattle.notes.specs.declared.reading.Lent.{Lent}
 use Rattle.notes.specs.Reading.{source_of, bufs_of, SameLists}
@@ -21,7 +22,7 @@ use Rattle.steps.specs.Steps.{whole, Eats, Mends, Ends}
 use Rattle.notes.specs.Whole.{Whole}
 use Rattle.notes.specs.Bits.{ifb}
 use Rattle.notes.specs.Change.{with_mode, mark_of, gone, undone_to}
-use Rattle.notes.specs.Means.{Bufs, bufs, Past, mode_of}
+use Rattle.notes.specs.Means.{Bufs, bufs, source, Past, Lines, mode_of}
 use Rattle.notes.specs.Did.{Ok, Wf, Did, Events, Plain, Shuts, ahead}
 use Rattle.notes.proofs.Core.{like_same, like_at, idle, does_as}
 use Rattle.notes.proofs.Core as core
@@ -69,8 +70,8 @@ module _ {f : P.Reader} {x : Source} {s r : Whole} {b : Bufs} {ev er sc : List �
   plus_p z = core.then y (z.did (bufs ev er sc) y.wf)
 
   -- what `expect` asks, and what `recover` asks
-  pub asks_e : Ok (length x.ids) r × (r.evcap ≤ length ev)
-  asks_e = (y.wf.0, y.wf.1.events)
+  pub asks_e : Lines x.ids x.ends → Lines x.ids x.ends × Ok (length x.ids) r × (r.evcap ≤ length ev)
+  asks_e l = (l, y.wf.0, y.wf.1.events)
 
   pub asks_s : Ok (length x.ids) r × (r.evcap ≤ length ev) × (r.ercap ≤ length er)
   asks_s = (y.wf.0, y.wf.1.events, y.wf.1.errors)
@@ -88,10 +89,11 @@ pub plus_t : {f g : P.Reader} {x : Source} {s r q : Whole} {b : Bufs} {ev er sc 
 plus_t {er = er} {sc} y z = core.then y ((z y.wf.0).did er sc y.wf)
 
 -- a step that leaves records and scratch as they were
-pub plus_e : {f g : P.Reader} {x : Given} {s r : State} {l m : Lent} {s₀ : Whole} {b : Bufs} → Did f (source_of x) s₀ (whole s l.notes) b (bufs_of l) → Eats g x s l r m → Did (λ a. g (f a)) (source_of x) s₀ (whole r m.notes) b (bufs_of m)
-plus_e {f} {g} {x} {s} {r} {l} {m} {s₀} {b} y z =
-    subst (λ (er : List ℕ). Did (λ a. g (f a)) (source_of x) s₀ (whole r m.notes) b (bufs m.events.now er m.scratch.now)) (λ i. (sym z.errors i).now)
-    (subst (λ (sc : List ℕ). Did (λ a. g (f a)) (source_of x) s₀ (whole r m.notes) b (bufs m.events.now l.errors.now sc)) (λ i. (sym z.scratch i).now) (core.then y (z.events.did l.errors.now l.scratch.now y.wf)))
+pub plus_e : {f g : P.Reader} {bytes : List ℕ} {rows : RowList} {s r : State} {l m : Lent} {s₀ : Whole} {b : Bufs} → Did f (source bytes rows.ids.now rows.ends.now) s₀ (whole s l.notes) b (bufs_of l) → Eats g rows s l r m → Did (λ a. g (f a)) (source bytes rows.ids.now rows.ends.now) s₀ (whole r m.notes) b (bufs_of m)
+plus_e {f} {g} {bytes} {rows} {s} {r} {l} {m} {s₀} {b} y z =
+    let x = source bytes rows.ids.now rows.ends.now in
+    subst (λ (er : List ℕ). Did (λ a. g (f a)) x s₀ (whole r m.notes) b (bufs m.events.now er m.scratch.now)) (λ i. (sym z.errors i).now)
+    (subst (λ (sc : List ℕ). Did (λ a. g (f a)) x s₀ (whole r m.notes) b (bufs m.events.now l.errors.now sc)) (λ i. (sym z.scratch i).now) (core.then y ((z.events bytes).did l.errors.now l.scratch.now y.wf)))
 
 -- a step that leaves scratch as it was
 pub plus_b : {f g : P.Reader} {x : Given} {s r : State} {l m : Lent} {s₀ : Whole} {b : Bufs} → Did f (source_of x) s₀ (whole s l.notes) b (bufs_of l) → Mends g x s l r m → Did (λ a. g (f a)) (source_of x) s₀ (whole r m.notes) b (bufs_of m)
@@ -200,11 +202,11 @@ pub record Turns (f : P.Reader) (x : Given) (s₀ s : State) (l₀ l : Lent) (n 
   pub here : Did (λ a. a) (source_of x) (whole s l.notes) (whole s l.notes) (bufs_of l) (bufs_of l)
   pub wf : Wf (source_of x) (bufs_of l₀) (whole s₀ l₀.notes)
   pub start : number s₀.mode ≡ 0
-  pub many : n ≡ length x.ids.now - s₀.pos + 1
+  pub many : n ≡ length x.rows.ids.now - s₀.pos + 1
   pub sticks : (p : Past) → Sticks p (source_of x) f
   pub lists : SameLists l₀ l
 
-pub turns : (f : P.Reader) (x : Given) (s : State) (l : Lent) (n : ℕ) → ((p : Past) → Sticks p (source_of x) f) → Asks x s l → number s.mode ≡ 0 → n ≡ length x.ids.now - s.pos + 1 → Turns f x s s l l n 0
+pub turns : (f : P.Reader) (x : Given) (s : State) (l : Lent) (n : ℕ) → ((p : Past) → Sticks p (source_of x) f) → Asks x s l → number s.mode ≡ 0 → n ≡ length x.rows.ids.now - s.pos + 1 → Turns f x s s l l n 0
 turns f x s l n F w m q = record { each = subst (λ (k : ℕ). Turning f (source_of x) (whole s l.notes) (whole s l.notes) n k (bufs_of l) (bufs_of l)) (omega arith) (turning f n F w m); here = from x s l w; wf = w; start = m; many = q; sticks = F; lists = (refl, refl, refl) }
 
 -- the same lists behind one step more

@@ -25,10 +25,10 @@ pub fn some<P: Part>(mut s: State, d: usize, may: bool, x: &Given<'_>, lent: &mu
     ensures read { Reads d may (some P.prog) x.now s lent.old result lent.new }
     ensures lists { SameLists lent.old lent.new }
 {
-    if s.mode != Mode::Fine {
+    if s.mode.isnt(Mode::FINE) {
         return s;
     }
-    s = s.trivia(x, lent.events);
+    s = s.trivia(&x.rows, lent.events);
     s = P::read(s, d, may, x, lent);
     s = many::<P>(s, d, may, x, lent);
     s
@@ -40,15 +40,15 @@ pub fn many<P: Part>(mut s: State, d: usize, may: bool, x: &Given<'_>, lent: &mu
     ensures read { Reads d may (many P.prog) x.now s lent.old result lent.new }
     ensures lists { SameLists lent.old lent.new }
 {
-    if s.mode != Mode::Fine {
+    if s.mode.isnt(Mode::FINE) {
         return s;
     }
-    let turns = x.ids.len() - s.pos + 1;
+    let turns = x.rows.ids.len() - s.pos + 1;
     for turn in 0..turns {
         let m = s.mark();
-        s = s.trivia(x, lent.events);
+        s = s.trivia(&x.rows, lent.events);
         s = P::read(s, d, true, x, lent);
-        if s.mode != Mode::Fine {
+        if s.mode.isnt(Mode::FINE) {
             return s.undone(m);
         }
     }
@@ -61,16 +61,16 @@ pub fn opt<P: Part>(mut s: State, d: usize, may: bool, x: &Given<'_>, lent: &mut
     ensures read { Reads d may (opt P.prog) x.now s lent.old result lent.new }
     ensures lists { SameLists lent.old lent.new }
 {
-    if s.mode != Mode::Fine {
+    if s.mode.isnt(Mode::FINE) {
         return s;
     }
     let m = s.mark();
-    s = s.trivia(x, lent.events);
+    s = s.trivia(&x.rows, lent.events);
     s = P::read(s, d, true, x, lent);
-    if s.mode != Mode::Failed {
+    if s.mode.isnt(Mode::FAILED) {
         return s;
     }
     s = s.rewind(m);
-    s.mode = Mode::Fine;
+    s.mode = Mode::FINE;
     s
 }

@@ -20,19 +20,19 @@ pub fn them(mut s: State, d: usize, may: bool, x: &Given<'_>, lent: &mut Lent<'_
     ensures read { Reads d may them x.now s lent.old result lent.new }
     ensures lists { SameLists lent.old lent.new }
 {
-    if s.mode != Mode::Fine {
+    if s.mode.isnt(Mode::FINE) {
         return s;
     }
     let m = s.mark();
-    s = s.trivia(x, lent.events);
-    s = s.expect(set::THEM_KW, set::THEM_KW, x, lent);
-    if s.mode != Mode::Failed {
+    s = s.trivia(&x.rows, lent.events);
+    s = s.expect(set::THEM_KW, set::THEM_KW, &x.rows, lent);
+    if s.mode.isnt(Mode::FAILED) {
         return s;
     }
     s = s.rewind(m);
-    s.mode = Mode::Fine;
+    s.mode = Mode::FINE;
     s = pattern_ident_tuple(s, d, true, x, lent);
-    if s.mode != Mode::Failed {
+    if s.mode.isnt(Mode::FAILED) {
         return s;
     }
     s = s.rewind(m);
@@ -51,23 +51,23 @@ fn pattern_ident_tuple(
     ensures read { Reads d may (then (node G.PATTERN_IDENT_TUPLE)) x.now s lent.old result lent.new }
     ensures lists { SameLists lent.old lent.new }
 {
-    if s.mode != Mode::Fine {
+    if s.mode.isnt(Mode::FINE) {
         return s;
     }
-    s = s.trivia(x, lent.events);
-    s = s.begin(d, x, lent.events);
+    s = s.trivia(&x.rows, lent.events);
+    s = s.begin(d, &x.rows, lent.events);
     let from = s.pos;
     let at = s.ev;
     if d == 0 {
-        return s.end(Kind::PatternIdentTuple, from, at, may, x, lent);
+        return s.end(Kind::PatternIdentTuple as u32, from, at, may, x, lent);
     }
     let below = d - 1;
-    s = s.expect(set::L_PAREN, set::L_PAREN, x, lent);
-    s = s.expect(set::PATTERN_IDENT, set::PATTERN_IDENT, x, lent);
+    s = s.expect(set::L_PAREN, set::L_PAREN, &x.rows, lent);
+    s = s.expect(set::PATTERN_IDENT, set::PATTERN_IDENT, &x.rows, lent);
     s = maybe(set::ASTERISK, s, below, may, x, lent);
     s = pattern_idents(s, below, may, x, lent);
-    s = s.expect(set::R_PAREN, set::R_PAREN, x, lent);
-    s.end(Kind::PatternIdentTuple, from, at, may, x, lent)
+    s = s.expect(set::R_PAREN, set::R_PAREN, &x.rows, lent);
+    s.end(Kind::PatternIdentTuple as u32, from, at, may, x, lent)
 }
 
 // (COMMA PATTERN_IDENT ASTERISK?)*
@@ -86,8 +86,8 @@ impl Part for NextIdent {
     ghost prog = { one k.COMMA ⨟ one k.PATTERN_IDENT ⨟ opt (one k.ASTERISK) };
 
     fn read(mut s: State, d: usize, may: bool, x: &Given<'_>, lent: &mut Lent<'_>) -> State {
-        s = s.expect(set::COMMA, set::COMMA, x, lent);
-        s = s.expect(set::PATTERN_IDENT, set::PATTERN_IDENT, x, lent);
+        s = s.expect(set::COMMA, set::COMMA, &x.rows, lent);
+        s = s.expect(set::PATTERN_IDENT, set::PATTERN_IDENT, &x.rows, lent);
         maybe(set::ASTERISK, s, d, may, x, lent)
     }
 }
@@ -105,16 +105,16 @@ pub fn maybe(
     ensures read { Reads d may (optionally set) x.now s lent.old result lent.new }
     ensures lists { SameLists lent.old lent.new }
 {
-    if s.mode != Mode::Fine {
+    if s.mode.isnt(Mode::FINE) {
         return s;
     }
     let m = s.mark();
-    s = s.trivia(x, lent.events);
-    s = s.expect(set, set, x, lent);
-    if s.mode != Mode::Failed {
+    s = s.trivia(&x.rows, lent.events);
+    s = s.expect(set, set, &x.rows, lent);
+    if s.mode.isnt(Mode::FAILED) {
         return s;
     }
     s = s.rewind(m);
-    s.mode = Mode::Fine;
+    s.mode = Mode::FINE;
     s
 }

@@ -19,17 +19,17 @@ pub fn hex_pattern(mut s: State, d: usize, may: bool, x: &Given<'_>, lent: &mut 
     ensures read { Reads d may (node G.HEX_PATTERN) x.now s lent.old result lent.new }
     ensures lists { SameLists lent.old lent.new }
 {
-    s = s.begin(d, x, lent.events);
+    s = s.begin(d, &x.rows, lent.events);
     let from = s.pos;
     let at = s.ev;
     if d == 0 {
-        return s.end(Kind::HexPattern, from, at, may, x, lent);
+        return s.end(Kind::HexPattern as u32, from, at, may, x, lent);
     }
     let below = d - 1;
-    s = s.expect(set::L_BRACE, set::L_BRACE, x, lent);
+    s = s.expect(set::L_BRACE, set::L_BRACE, &x.rows, lent);
     s = hex_sub_pattern(s, below, may, x, lent);
-    s = s.expect(set::R_BRACE, set::R_BRACE, x, lent);
-    s.end(Kind::HexPattern, from, at, may, x, lent)
+    s = s.expect(set::R_BRACE, set::R_BRACE, &x.rows, lent);
+    s.end(Kind::HexPattern as u32, from, at, may, x, lent)
 }
 
 // HEX_SUB_PATTERN <- (HEX_BYTE / HEX_ALTERNATIVE) (HEX_JUMP* (HEX_BYTE / HEX_ALTERNATIVE))*
@@ -39,20 +39,20 @@ fn hex_sub_pattern(mut s: State, d: usize, may: bool, x: &Given<'_>, lent: &mut 
     ensures read { Reads d may (then (node G.HEX_SUB_PATTERN)) x.now s lent.old result lent.new }
     ensures lists { SameLists lent.old lent.new }
 {
-    if s.mode != Mode::Fine {
+    if s.mode.isnt(Mode::FINE) {
         return s;
     }
-    s = s.trivia(x, lent.events);
-    s = s.begin(d, x, lent.events);
+    s = s.trivia(&x.rows, lent.events);
+    s = s.begin(d, &x.rows, lent.events);
     let from = s.pos;
     let at = s.ev;
     if d == 0 {
-        return s.end(Kind::HexSubPattern, from, at, may, x, lent);
+        return s.end(Kind::HexSubPattern as u32, from, at, may, x, lent);
     }
     let below = d - 1;
     s = hex_unit(s, below, may, x, lent);
     s = hex_units(s, below, may, x, lent);
-    s.end(Kind::HexSubPattern, from, at, may, x, lent)
+    s.end(Kind::HexSubPattern as u32, from, at, may, x, lent)
 }
 
 // HEX_BYTE / HEX_ALTERNATIVE
@@ -62,20 +62,20 @@ fn hex_unit(mut s: State, d: usize, may: bool, x: &Given<'_>, lent: &mut Lent<'_
     ensures read { Reads d may hex_unit x.now s lent.old result lent.new }
     ensures lists { SameLists lent.old lent.new }
 {
-    if s.mode != Mode::Fine {
+    if s.mode.isnt(Mode::FINE) {
         return s;
     }
     let m = s.mark();
-    s = s.trivia(x, lent.events);
-    s = s.expect(set::HEX_BYTE, set::HEX_BYTE, x, lent);
-    if s.mode != Mode::Failed {
+    s = s.trivia(&x.rows, lent.events);
+    s = s.expect(set::HEX_BYTE, set::HEX_BYTE, &x.rows, lent);
+    if s.mode.isnt(Mode::FAILED) {
         return s;
     }
     s = s.rewind(m);
-    s.mode = Mode::Fine;
-    s = s.trivia(x, lent.events);
+    s.mode = Mode::FINE;
+    s = s.trivia(&x.rows, lent.events);
     s = hex_alternative(s, d, true, x, lent);
-    if s.mode != Mode::Failed {
+    if s.mode.isnt(Mode::FAILED) {
         return s;
     }
     s = s.rewind(m);
@@ -89,16 +89,16 @@ fn hex_units(mut s: State, d: usize, may: bool, x: &Given<'_>, lent: &mut Lent<'
     ensures read { Reads d may hex_units x.now s lent.old result lent.new }
     ensures lists { SameLists lent.old lent.new }
 {
-    if s.mode != Mode::Fine {
+    if s.mode.isnt(Mode::FINE) {
         return s;
     }
-    let turns = x.ids.len() - s.pos + 1;
+    let turns = x.rows.ids.len() - s.pos + 1;
     for turn in 0..turns {
         let m = s.mark();
-        s = s.trivia(x, lent.events);
+        s = s.trivia(&x.rows, lent.events);
         s = hex_jumps(s, d, true, x, lent);
         s = hex_unit(s, d, true, x, lent);
-        if s.mode != Mode::Fine {
+        if s.mode.isnt(Mode::FINE) {
             return s.undone(m);
         }
     }
@@ -112,18 +112,18 @@ fn hex_alternative(mut s: State, d: usize, may: bool, x: &Given<'_>, lent: &mut 
     ensures read { Reads d may (node G.HEX_ALTERNATIVE) x.now s lent.old result lent.new }
     ensures lists { SameLists lent.old lent.new }
 {
-    s = s.begin(d, x, lent.events);
+    s = s.begin(d, &x.rows, lent.events);
     let from = s.pos;
     let at = s.ev;
     if d == 0 {
-        return s.end(Kind::HexAlternative, from, at, may, x, lent);
+        return s.end(Kind::HexAlternative as u32, from, at, may, x, lent);
     }
     let below = d - 1;
-    s = s.expect(set::L_PAREN, set::L_PAREN, x, lent);
+    s = s.expect(set::L_PAREN, set::L_PAREN, &x.rows, lent);
     s = hex_sub_pattern(s, below, may, x, lent);
     s = hex_choices(s, below, may, x, lent);
-    s = s.expect(set::R_PAREN, set::R_PAREN, x, lent);
-    s.end(Kind::HexAlternative, from, at, may, x, lent)
+    s = s.expect(set::R_PAREN, set::R_PAREN, &x.rows, lent);
+    s.end(Kind::HexAlternative as u32, from, at, may, x, lent)
 }
 
 // (PIPE HEX_SUB_PATTERN)*
@@ -133,16 +133,16 @@ fn hex_choices(mut s: State, d: usize, may: bool, x: &Given<'_>, lent: &mut Lent
     ensures read { Reads d may hex_choices x.now s lent.old result lent.new }
     ensures lists { SameLists lent.old lent.new }
 {
-    if s.mode != Mode::Fine {
+    if s.mode.isnt(Mode::FINE) {
         return s;
     }
-    let turns = x.ids.len() - s.pos + 1;
+    let turns = x.rows.ids.len() - s.pos + 1;
     for turn in 0..turns {
         let m = s.mark();
-        s = s.trivia(x, lent.events);
-        s = s.expect(set::PIPE, set::PIPE, x, lent);
+        s = s.trivia(&x.rows, lent.events);
+        s = s.expect(set::PIPE, set::PIPE, &x.rows, lent);
         s = hex_sub_pattern(s, d, true, x, lent);
-        if s.mode != Mode::Fine {
+        if s.mode.isnt(Mode::FINE) {
             return s.undone(m);
         }
     }
@@ -175,17 +175,17 @@ fn hex_jump(mut s: State, d: usize, may: bool, x: &Given<'_>, lent: &mut Lent<'_
     ensures read { Reads d may (node G.HEX_JUMP) x.now s lent.old result lent.new }
     ensures lists { SameLists lent.old lent.new }
 {
-    s = s.begin(d, x, lent.events);
+    s = s.begin(d, &x.rows, lent.events);
     let from = s.pos;
     let at = s.ev;
     if d == 0 {
-        return s.end(Kind::HexJump, from, at, may, x, lent);
+        return s.end(Kind::HexJump as u32, from, at, may, x, lent);
     }
     let below = d - 1;
-    s = s.expect(set::L_BRACKET, set::L_BRACKET, x, lent);
+    s = s.expect(set::L_BRACKET, set::L_BRACKET, &x.rows, lent);
     s = jump_range(s, below, may, x, lent);
-    s = s.expect(set::R_BRACKET, set::R_BRACKET, x, lent);
-    s.end(Kind::HexJump, from, at, may, x, lent)
+    s = s.expect(set::R_BRACKET, set::R_BRACKET, &x.rows, lent);
+    s.end(Kind::HexJump as u32, from, at, may, x, lent)
 }
 
 // INTEGER_LIT? HYPHEN INTEGER_LIT? / INTEGER_LIT
@@ -194,22 +194,22 @@ fn jump_range(mut s: State, d: usize, may: bool, x: &Given<'_>, lent: &mut Lent<
     ensures read { Reads d may jump_range x.now s lent.old result lent.new }
     ensures lists { SameLists lent.old lent.new }
 {
-    if s.mode != Mode::Fine {
+    if s.mode.isnt(Mode::FINE) {
         return s;
     }
     let m = s.mark();
-    s = s.trivia(x, lent.events);
+    s = s.trivia(&x.rows, lent.events);
     s = maybe(set::INTEGER_LIT, s, d, true, x, lent);
-    s = s.expect(set::HYPHEN, set::HYPHEN, x, lent);
+    s = s.expect(set::HYPHEN, set::HYPHEN, &x.rows, lent);
     s = maybe(set::INTEGER_LIT, s, d, true, x, lent);
-    if s.mode != Mode::Failed {
+    if s.mode.isnt(Mode::FAILED) {
         return s;
     }
     s = s.rewind(m);
-    s.mode = Mode::Fine;
-    s = s.trivia(x, lent.events);
-    s = s.expect(set::INTEGER_LIT, set::INTEGER_LIT, x, lent);
-    if s.mode != Mode::Failed {
+    s.mode = Mode::FINE;
+    s = s.trivia(&x.rows, lent.events);
+    s = s.expect(set::INTEGER_LIT, set::INTEGER_LIT, &x.rows, lent);
+    if s.mode.isnt(Mode::FAILED) {
         return s;
     }
     s = s.rewind(m);

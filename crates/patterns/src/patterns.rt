@@ -22,17 +22,17 @@ pub fn patterns_blk(mut s: State, d: usize, may: bool, x: &Given<'_>, lent: &mut
     ensures read { Reads d may (node G.PATTERNS_BLK) x.now s lent.old result lent.new }
     ensures lists { SameLists lent.old lent.new }
 {
-    s = s.begin(d, x, lent.events);
+    s = s.begin(d, &x.rows, lent.events);
     let from = s.pos;
     let at = s.ev;
     if d == 0 {
-        return s.end(Kind::PatternsBlk, from, at, may, x, lent);
+        return s.end(Kind::PatternsBlk as u32, from, at, may, x, lent);
     }
     let below = d - 1;
-    s = s.expect(set::STRINGS_KW, set::STRINGS_KW, x, lent);
-    s = s.expect(set::COLON, set::COLON, x, lent);
+    s = s.expect(set::STRINGS_KW, set::STRINGS_KW, &x.rows, lent);
+    s = s.expect(set::COLON, set::COLON, &x.rows, lent);
     s = pattern_defs(s, below, may, x, lent);
-    s.end(Kind::PatternsBlk, from, at, may, x, lent)
+    s.end(Kind::PatternsBlk as u32, from, at, may, x, lent)
 }
 
 // PATTERN_DEF PATTERN_DEF*
@@ -61,18 +61,18 @@ fn pattern_def(mut s: State, d: usize, may: bool, x: &Given<'_>, lent: &mut Lent
     ensures read { Reads d may (node G.PATTERN_DEF) x.now s lent.old result lent.new }
     ensures lists { SameLists lent.old lent.new }
 {
-    s = s.begin(d, x, lent.events);
+    s = s.begin(d, &x.rows, lent.events);
     let from = s.pos;
     let at = s.ev;
     if d == 0 {
-        return s.end(Kind::PatternDef, from, at, may, x, lent);
+        return s.end(Kind::PatternDef as u32, from, at, may, x, lent);
     }
     let below = d - 1;
-    s = s.expect(set::PATTERN_IDENT, set::PATTERN_IDENT, x, lent);
-    s = s.expect(set::EQUAL, set::EQUAL, x, lent);
+    s = s.expect(set::PATTERN_IDENT, set::PATTERN_IDENT, &x.rows, lent);
+    s = s.expect(set::EQUAL, set::EQUAL, &x.rows, lent);
     s = pattern_value(s, below, may, x, lent);
     s = any_mods(s, below, may, x, lent);
-    s.end(Kind::PatternDef, from, at, may, x, lent)
+    s.end(Kind::PatternDef as u32, from, at, may, x, lent)
 }
 
 // STRING_LIT / REGEXP / HEX_PATTERN
@@ -81,27 +81,27 @@ fn pattern_value(mut s: State, d: usize, may: bool, x: &Given<'_>, lent: &mut Le
     ensures read { Reads d may pattern_value x.now s lent.old result lent.new }
     ensures lists { SameLists lent.old lent.new }
 {
-    if s.mode != Mode::Fine {
+    if s.mode.isnt(Mode::FINE) {
         return s;
     }
     let m = s.mark();
-    s = s.trivia(x, lent.events);
-    s = s.expect(set::STRING_LIT, set::STRING_LIT, x, lent);
-    if s.mode != Mode::Failed {
+    s = s.trivia(&x.rows, lent.events);
+    s = s.expect(set::STRING_LIT, set::STRING_LIT, &x.rows, lent);
+    if s.mode.isnt(Mode::FAILED) {
         return s;
     }
     s = s.rewind(m);
-    s.mode = Mode::Fine;
-    s = s.trivia(x, lent.events);
-    s = s.expect(set::REGEXP, set::REGEXP, x, lent);
-    if s.mode != Mode::Failed {
+    s.mode = Mode::FINE;
+    s = s.trivia(&x.rows, lent.events);
+    s = s.expect(set::REGEXP, set::REGEXP, &x.rows, lent);
+    if s.mode.isnt(Mode::FAILED) {
         return s;
     }
     s = s.rewind(m);
-    s.mode = Mode::Fine;
-    s = s.trivia(x, lent.events);
+    s.mode = Mode::FINE;
+    s = s.trivia(&x.rows, lent.events);
     s = hex_pattern(s, d, true, x, lent);
-    if s.mode != Mode::Failed {
+    if s.mode.isnt(Mode::FAILED) {
         return s;
     }
     s = s.rewind(m);
@@ -134,15 +134,15 @@ fn pattern_mods(mut s: State, d: usize, may: bool, x: &Given<'_>, lent: &mut Len
     ensures read { Reads d may (node G.PATTERN_MODS) x.now s lent.old result lent.new }
     ensures lists { SameLists lent.old lent.new }
 {
-    s = s.begin(d, x, lent.events);
+    s = s.begin(d, &x.rows, lent.events);
     let from = s.pos;
     let at = s.ev;
     if d == 0 {
-        return s.end(Kind::PatternMods, from, at, may, x, lent);
+        return s.end(Kind::PatternMods as u32, from, at, may, x, lent);
     }
     let below = d - 1;
     s = some_mods(s, below, may, x, lent);
-    s.end(Kind::PatternMods, from, at, may, x, lent)
+    s.end(Kind::PatternMods as u32, from, at, may, x, lent)
 }
 
 // PATTERN_MOD PATTERN_MOD*
@@ -172,15 +172,15 @@ fn pattern_mod(mut s: State, d: usize, may: bool, x: &Given<'_>, lent: &mut Lent
     ensures read { Reads d may (node G.PATTERN_MOD) x.now s lent.old result lent.new }
     ensures lists { SameLists lent.old lent.new }
 {
-    s = s.begin(d, x, lent.events);
+    s = s.begin(d, &x.rows, lent.events);
     let from = s.pos;
     let at = s.ev;
     if d == 0 {
-        return s.end(Kind::PatternMod, from, at, may, x, lent);
+        return s.end(Kind::PatternMod as u32, from, at, may, x, lent);
     }
     let below = d - 1;
     s = modifier(s, below, may, x, lent);
-    s.end(Kind::PatternMod, from, at, may, x, lent)
+    s.end(Kind::PatternMod as u32, from, at, may, x, lent)
 }
 
 // The alternatives of PATTERN_MOD.
@@ -189,29 +189,29 @@ fn modifier(mut s: State, d: usize, may: bool, x: &Given<'_>, lent: &mut Lent<'_
     ensures read { Reads d may (grammar x.now.entrypoint G.PATTERN_MOD) x.now s lent.old result lent.new }
     ensures lists { SameLists lent.old lent.new }
 {
-    if s.mode != Mode::Fine {
+    if s.mode.isnt(Mode::FINE) {
         return s;
     }
     let m = s.mark();
-    s = s.trivia(x, lent.events);
-    s = s.expect(set::PLAIN_MODIFIER, MODIFIER, x, lent);
-    if s.mode != Mode::Failed {
+    s = s.trivia(&x.rows, lent.events);
+    s = s.expect(set::PLAIN_MODIFIER, MODIFIER, &x.rows, lent);
+    if s.mode.isnt(Mode::FAILED) {
         return s;
     }
     s = s.rewind(m);
-    s.mode = Mode::Fine;
-    s = s.trivia(x, lent.events);
-    s = s.expect(set::BASE64, MODIFIER, x, lent);
+    s.mode = Mode::FINE;
+    s = s.trivia(&x.rows, lent.events);
+    s = s.expect(set::BASE64, MODIFIER, &x.rows, lent);
     s = alphabet(s, d, true, x, lent);
-    if s.mode != Mode::Failed {
+    if s.mode.isnt(Mode::FAILED) {
         return s;
     }
     s = s.rewind(m);
-    s.mode = Mode::Fine;
-    s = s.trivia(x, lent.events);
-    s = s.expect(set::XOR_KW, MODIFIER, x, lent);
+    s.mode = Mode::FINE;
+    s = s.trivia(&x.rows, lent.events);
+    s = s.expect(set::XOR_KW, MODIFIER, &x.rows, lent);
     s = xor_range(s, d, true, x, lent);
-    if s.mode != Mode::Failed {
+    if s.mode.isnt(Mode::FAILED) {
         return s;
     }
     s = s.rewind(m);
@@ -224,18 +224,18 @@ fn alphabet(mut s: State, d: usize, may: bool, x: &Given<'_>, lent: &mut Lent<'_
     ensures read { Reads d may alphabet x.now s lent.old result lent.new }
     ensures lists { SameLists lent.old lent.new }
 {
-    if !s.sees(set::L_PAREN, x) {
-        s.pass(set::L_PAREN, x, &mut lent.notes);
+    if !s.sees(set::L_PAREN, &x.rows) {
+        s.pass(set::L_PAREN, &x.rows, &mut lent.notes);
         return s;
     }
-    s = s.trivia(x, lent.events);
-    s = s.expect(set::L_PAREN, set::L_PAREN, x, lent);
-    if s.mode != Mode::Fine {
+    s = s.trivia(&x.rows, lent.events);
+    s = s.expect(set::L_PAREN, set::L_PAREN, &x.rows, lent);
+    if s.mode.isnt(Mode::FINE) {
         return s;
     }
-    s = s.trivia(x, lent.events);
-    s = s.expect(set::STRING_LIT, set::STRING_LIT, x, lent);
-    s = s.expect(set::R_PAREN, set::R_PAREN, x, lent);
+    s = s.trivia(&x.rows, lent.events);
+    s = s.expect(set::STRING_LIT, set::STRING_LIT, &x.rows, lent);
+    s = s.expect(set::R_PAREN, set::R_PAREN, &x.rows, lent);
     s
 }
 
@@ -245,19 +245,19 @@ fn xor_range(mut s: State, d: usize, may: bool, x: &Given<'_>, lent: &mut Lent<'
     ensures read { Reads d may xor_range x.now s lent.old result lent.new }
     ensures lists { SameLists lent.old lent.new }
 {
-    if !s.sees(set::L_PAREN, x) {
-        s.pass(set::L_PAREN, x, &mut lent.notes);
+    if !s.sees(set::L_PAREN, &x.rows) {
+        s.pass(set::L_PAREN, &x.rows, &mut lent.notes);
         return s;
     }
-    s = s.trivia(x, lent.events);
-    s = s.expect(set::L_PAREN, set::L_PAREN, x, lent);
-    if s.mode != Mode::Fine {
+    s = s.trivia(&x.rows, lent.events);
+    s = s.expect(set::L_PAREN, set::L_PAREN, &x.rows, lent);
+    if s.mode.isnt(Mode::FINE) {
         return s;
     }
-    s = s.trivia(x, lent.events);
-    s = s.expect(set::INTEGER_LIT, set::INTEGER_LIT, x, lent);
+    s = s.trivia(&x.rows, lent.events);
+    s = s.expect(set::INTEGER_LIT, set::INTEGER_LIT, &x.rows, lent);
     s = xor_end(s, d, may, x, lent);
-    s = s.expect(set::R_PAREN, set::R_PAREN, x, lent);
+    s = s.expect(set::R_PAREN, set::R_PAREN, &x.rows, lent);
     s
 }
 
@@ -267,16 +267,16 @@ fn xor_end(mut s: State, d: usize, may: bool, x: &Given<'_>, lent: &mut Lent<'_>
     ensures read { Reads d may xor_end x.now s lent.old result lent.new }
     ensures lists { SameLists lent.old lent.new }
 {
-    if !s.sees(set::HYPHEN, x) {
-        s.pass(set::HYPHEN, x, &mut lent.notes);
+    if !s.sees(set::HYPHEN, &x.rows) {
+        s.pass(set::HYPHEN, &x.rows, &mut lent.notes);
         return s;
     }
-    s = s.trivia(x, lent.events);
-    s = s.expect(set::HYPHEN, set::HYPHEN, x, lent);
-    if s.mode != Mode::Fine {
+    s = s.trivia(&x.rows, lent.events);
+    s = s.expect(set::HYPHEN, set::HYPHEN, &x.rows, lent);
+    if s.mode.isnt(Mode::FINE) {
         return s;
     }
-    s = s.trivia(x, lent.events);
-    s = s.expect(set::INTEGER_LIT, set::INTEGER_LIT, x, lent);
+    s = s.trivia(&x.rows, lent.events);
+    s = s.expect(set::INTEGER_LIT, set::INTEGER_LIT, &x.rows, lent);
     s
 }

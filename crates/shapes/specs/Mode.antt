@@ -1,7 +1,6 @@
 -- How a state stands, as the code counts it: in good order, failed, out of fuel, too deep.
 use Rattle.std.specs.Prelude.{ℕ}
 use Rattle.shapes.specs.declared.mode.Mode.{Mode}
-use Rattle.shapes.specs.declared.mode.Mode.TheVariants as V
 
 abbrev pub OK : ℕ
 OK = 0
@@ -15,9 +14,6 @@ SPENT = 2
 abbrev pub DEEP : ℕ
 DEEP = 3
 
--- the number of each
+-- the number of one
 abbrev pub number : Mode → ℕ
-number V.Fine = OK
-number V.Failed = FAILED
-number V.Spent = SPENT
-number V.Deep = DEEP
+number m = m.number

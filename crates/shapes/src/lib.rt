@@ -2,6 +2,7 @@
 #![tactic(auto)]
 
 pub mod event;
+pub mod full;
 pub mod mode;
 pub mod outcome;
 pub mod record;

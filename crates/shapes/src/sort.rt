@@ -4,7 +4,7 @@ ghost use Rattle.shapes.specs.Sort.{number, Decodes};
 
 #[derive(Clone, Copy, PartialEq, Eq)]
 pub enum Sort {
-    Begin,
+    Begin = 1,
     Token,
     End,
     Error,

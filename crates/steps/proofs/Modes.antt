@@ -1,57 +1,45 @@
 -- A mode and its number: what tests of a mode tell. Assumes nothing.
-use Prim.Native.Nat.{ℕ, zero, suc, ◌≤◌, ◌<◌}
-use mathlib.Core.Path.{◌≡◌, refl, sym, ap, ◌∙◌}
+use Prim.Native.Nat.{ℕ, ◌≤◌, ◌<◌}
+use mathlib.Core.Path.{◌≡◌, sym, ap}
 use mathlib.Core.Bool.{true, false, not}
-use borrow.Author.Tests.{leb-true, leb-false}
-use denote.Enum.Bare.{sameb, same_true, same_false, differs_true, differs_false}
-use lib.Dec.{leb}
+use borrow.Author.Tests.{leb-true, leb-false, eqb-true, eqb-false}
+use lib.Dec.{leb, eqb}
 use Rattle.shapes.specs.declared.mode.Mode.{Mode}
-use Rattle.shapes.specs.declared.mode.Mode.TheVariants as V
-use Rattle.shapes.specs.contracts.mode.Mode.{the_type}
 use Rattle.shapes.specs.Mode.{number}
+use Rattle.notes.proofs.Core.{off, on}
 
-mode_at : ℕ → Mode
-mode_at zero = V.Fine
-mode_at (suc zero) = V.Failed
-mode_at (suc (suc zero)) = V.Spent
-mode_at (suc (suc (suc n))) = V.Deep
-
-back : (m : Mode) → mode_at (number m) ≡ m
-unfolding mode_at
-back V.Fine = refl
-back V.Failed = refl
-back V.Spent = refl
-back V.Deep = refl
+abbrev mode_at : ℕ → Mode
+mode_at n = record { number = n }
 
 pub same_mode : {m k : Mode} → number m ≡ number k → m ≡ k
-same_mode {m} {k} e = sym (back m) ∙ ap mode_at e ∙ back k
+same_mode e = ap mode_at e
 
 module _ (m : Mode) where
-  -- `!= Mode::Fine` and `== Mode::Fine`
-  pub not_fine : true ≡ not (sameb the_type m V.Fine) → number m ≡ 0 → ⊥
-  not_fine e f = differs_true the_type m V.Fine (sym e) (same_mode f)
+  -- `!= Mode::FINE` and `== Mode::FINE`
+  pub not_fine : true ≡ not (eqb (number m) 0) → number m ≡ 0 → ⊥
+  not_fine e = eqb-false (number m) 0 (off (eqb (number m) 0) e)
 
-  pub fine : false ≡ not (sameb the_type m V.Fine) → number m ≡ 0
-  fine e = ap number (differs_false the_type tt m V.Fine (sym e))
+  pub fine : false ≡ not (eqb (number m) 0) → number m ≡ 0
+  fine e = eqb-true (number m) 0 (on (eqb (number m) 0) e)
 
-  pub is_fine : true ≡ sameb the_type m V.Fine → number m ≡ 0
-  is_fine e = ap number (same_true the_type tt m V.Fine (sym e))
+  pub is_fine : true ≡ eqb (number m) 0 → number m ≡ 0
+  is_fine e = eqb-true (number m) 0 (sym e)
 
-  pub isnt_fine : false ≡ sameb the_type m V.Fine → number m ≡ 0 → ⊥
-  isnt_fine e f = same_false the_type m V.Fine (sym e) (same_mode f)
+  pub isnt_fine : false ≡ eqb (number m) 0 → number m ≡ 0 → ⊥
+  isnt_fine e = eqb-false (number m) 0 (sym e)
 
-  -- `!= Mode::Failed` and `== Mode::Failed`
-  pub not_failed : true ≡ not (sameb the_type m V.Failed) → number m ≡ 1 → ⊥
-  not_failed e f = differs_true the_type m V.Failed (sym e) (same_mode f)
+  -- `!= Mode::FAILED` and `== Mode::FAILED`
+  pub not_failed : true ≡ not (eqb (number m) 1) → number m ≡ 1 → ⊥
+  not_failed e = eqb-false (number m) 1 (off (eqb (number m) 1) e)
 
-  pub failed : false ≡ not (sameb the_type m V.Failed) → number m ≡ 1
-  failed e = ap number (differs_false the_type tt m V.Failed (sym e))
+  pub failed : false ≡ not (eqb (number m) 1) → number m ≡ 1
+  failed e = eqb-true (number m) 1 (on (eqb (number m) 1) e)
 
-  pub is_failed : true ≡ sameb the_type m V.Failed → number m ≡ 1
-  is_failed e = ap number (same_true the_type tt m V.Failed (sym e))
+  pub is_failed : true ≡ eqb (number m) 1 → number m ≡ 1
+  is_failed e = eqb-true (number m) 1 (sym e)
 
-  pub isnt_failed : false ≡ sameb the_type m V.Failed → number m ≡ 1 → ⊥
-  isnt_failed e f = same_false the_type m V.Failed (sym e) (same_mode f)
+  pub isnt_failed : false ≡ eqb (number m) 1 → number m ≡ 1 → ⊥
+  isnt_failed e = eqb-false (number m) 1 (sym e)
 
   -- `is_stopped`
   pub stopped : true ≡ leb 2 (number m) → 2 ≤ number m

@@ -20,11 +20,9 @@ use Rattle.definition.specs.Buffer.{height, cell, next_depth, placed, buffer}
 use Rattle.definition.proofs.Buffer.{buffer_leaf}
 use Rattle.definition.proofs.Gap.{gap, gap_out}
 use Rattle.notes.specs.declared.names.Notes.{Notes}
-use Rattle.notes.specs.declared.reading.Given.{Given}
 use Rattle.notes.specs.Whole.{Whole, fresh}
-use Rattle.notes.specs.Reading.{source_of}
 use Rattle.notes.specs.Change.{with_pos}
-use Rattle.notes.specs.Means.{Bufs, bufs, Past, Stands, Lines, mode_of, over_of}
+use Rattle.notes.specs.Means.{Bufs, bufs, Past, source, Stands, Lines, mode_of, over_of}
 use Rattle.notes.specs.Did.{Ok, Wf, Events, Put}
 use Rattle.notes.proofs.Lists.{get_d_any}
 use Rattle.notes.proofs.Peeks.{skip_yes, skip_no}
@@ -237,22 +235,23 @@ pub trivia_idle : {x : Source} {s : Whole} {ev : List ℕ} → Ok (length x.ids)
 trivia_idle {x} {s} {ev} w h n = record { did = λ er sc v. idle v (λ p a t. trivia_none v t (λ z. trivia_not s.mode a n (t.means z).mode)); ok = w; fits = h; first = refl; grows = le_refl _ }
 
 -- rows are taken up from s₀ on, whatever is noted
-pub record Skipping (g : P.Reader) (x : Given) (s₀ s : State) (ev₀ ev : List ℕ) : Type 0 where
-  pub of : (n : Notes) → Ok (length x.ids.now) (whole s₀ n) → Taking g (source_of x) (whole s₀ n) (whole s n) ev₀ ev
+pub record Skipping (g : P.Reader) (ids ends : List ℕ) (s₀ s : State) (ev₀ ev : List ℕ) : Type 0 where
+  pub of : (bytes : List ℕ) (n : Notes) → Ok (length ids) (whole s₀ n) → Taking g (source bytes ids ends) (whole s₀ n) (whole s n) ev₀ ev
+  pub lines : Lines ids ends
   pub fits : Fits s ev
   pub mode : s.mode ≡ s₀.mode
   pub long : length ev ≡ length ev₀
 
-pub skipping : (g : P.Reader) {x : Given} (s : State) (ev : List ℕ) → Fits s ev → Skipping g x s s ev ev
-skipping g {x} s ev h = record { of = λ n v. taking g x.tiled.lines v h.1; fits = h; mode = refl; long = refl }
+pub skipping : (g : P.Reader) {ids ends : List ℕ} (s : State) (ev : List ℕ) → Lines ids ends → Fits s ev → Skipping g ids ends s s ev ev
+skipping g s ev w h = record { of = λ bytes n v. taking g w v h.1; lines = w; fits = h; mode = refl; long = refl }
 
 pub fits_put : {q : List ℕ} (s r : State) {ev ev' : List ℕ} → Fits s ev → ((n : Notes) → Put q (whole s n) (whole r n) ev ev') → Fits r ev'
 fits_put s r h u = (omega (arith, (u fresh).fits, (caps_put (u fresh)).0), omega (arith, h.1, (caps_put (u fresh)).0, (u fresh).long))
 
 -- one row more
-pub skips : {g : P.Reader} {x : Given} {q : List ℕ} {s₀ s : State} (r : State) (p : ℕ) {ev₀ ev ev' : List ℕ} → Skipping g x s₀ s ev₀ ev → ((n : Notes) → Put q (whole s n) (whole r n) ev ev')
-    → ((n : Notes) → Taking g (source_of x) (whole s₀ n) (whole s n) ev₀ ev → Taking g (source_of x) (whole s₀ n) (whole (on_to p r) n) ev₀ ev') → Skipping g x s₀ (on_to p r) ev₀ ev'
-skips {s = s} r p k u f = record { of = λ n w. f n (k.of n w); fits = fits_put s r k.fits u; mode = same_mode (ap (λ (y : Whole). y.mode) (u fresh).is) ∙ k.mode; long = (u fresh).long ∙ k.long }
+pub skips : {g : P.Reader} {ids ends q : List ℕ} {s₀ s : State} (r : State) (p : ℕ) {ev₀ ev ev' : List ℕ} → Skipping g ids ends s₀ s ev₀ ev → ((n : Notes) → Put q (whole s n) (whole r n) ev ev')
+    → ((bytes : List ℕ) (n : Notes) → Taking g (source bytes ids ends) (whole s₀ n) (whole s n) ev₀ ev → Taking g (source bytes ids ends) (whole s₀ n) (whole (on_to p r) n) ev₀ ev') → Skipping g ids ends s₀ (on_to p r) ev₀ ev'
+skips {s = s} r p k u f = record { of = λ bytes n w. f bytes n (k.of bytes n w); lines = k.lines; fits = fits_put s r k.fits u; mode = same_mode (ap (λ (y : Whole). y.mode) (u fresh).is) ∙ k.mode; long = (u fresh).long ∙ k.long }
 
 pub ok_none : (n : ℕ) (s : State) → s.pos ≤ n → s.ev ≤ s.evcap → Ok n (whole s fresh)
 ok_none n s h k = (

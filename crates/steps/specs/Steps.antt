@@ -3,10 +3,11 @@ use Rattle.std.specs.Prelude.{ℕ, ◌≤◌, ◌≡◌, List, Bool, length}
 use Rattle.shapes.specs.Mode.{number}
 use Rattle.definition.specs.Run as P
 use Rattle.notes.specs.declared.names.Notes.{Notes}
+use Rattle.notes.specs.declared.reading.RowList.{RowList}
 use Rattle.notes.specs.declared.reading.Given.{Given}
 use Rattle.notes.specs.declared.reading.Lent.{Lent}
 use Rattle.notes.specs.Whole.{Whole, exceeded}
-use Rattle.notes.specs.Means.{bufs}
+use Rattle.notes.specs.Means.{source, bufs, Lines}
 use Rattle.notes.specs.Reading.{source_of}
 use Rattle.notes.specs.Did.{Ok, Wf, Events, Both, Shuts}
 use Rattle.steps.specs.declared.state.State.{State}
@@ -44,20 +45,20 @@ abbrev pub Fits : State → List ℕ → Type 0
 Fits s ev = (s.ev ≤ s.evcap) × (s.evcap ≤ length ev)
 
 -- well formed among the rows, and the events fit
-abbrev pub Ready : Given → State → Lent → Type 0
-Ready x s l = Ok (length x.ids.now) (whole s l.notes) × (s.evcap ≤ length l.events.now)
+abbrev pub Ready : RowList → State → Lent → Type 0
+Ready rows s l = Lines rows.ids.now rows.ends.now × Ok (length rows.ids.now) (whole s l.notes) × (s.evcap ≤ length l.events.now)
 
--- the same with room for records
+-- the same among rows that tile, with room for records
 abbrev pub Whence : Given → State → Lent → Type 0
-Whence x s l = Ok (length x.ids.now) (whole s l.notes) × (s.evcap ≤ length l.events.now) × (l.notes.ercap ≤ length l.errors.now)
+Whence x s l = Ok (length x.rows.ids.now) (whole s l.notes) × (s.evcap ≤ length l.events.now) × (l.notes.ercap ≤ length l.errors.now)
 
--- a step on events, whatever is noted
-abbrev pub Writes : P.Reader → Given → State → State → List ℕ → List ℕ → Type 0
-Writes f x s r ev ev' = (n : Notes) → Ok (length x.ids.now) (whole s n) → Events f (source_of x) (whole s n) (whole r n) ev ev'
+-- a step on events, whatever the source's bytes are and whatever is noted
+abbrev pub Writes : P.Reader → RowList → State → State → List ℕ → List ℕ → Type 0
+Writes f rows s r ev ev' = (bytes : List ℕ) (n : Notes) → Ok (length rows.ids.now) (whole s n) → Events f (source bytes rows.ids.now rows.ends.now) (whole s n) (whole r n) ev ev'
 
--- a step on events and notes, which leaves records and scratch as they were
-pub record Eats (f : P.Reader) (x : Given) (s : State) (l : Lent) (r : State) (m : Lent) : Type 0 where
-  pub events : Events f (source_of x) (whole s l.notes) (whole r m.notes) l.events.now m.events.now
+-- a step on events and notes, whatever the source's bytes are, which leaves records and scratch as they were
+pub record Eats (f : P.Reader) (rows : RowList) (s : State) (l : Lent) (r : State) (m : Lent) : Type 0 where
+  pub events : (bytes : List ℕ) → Events f (source bytes rows.ids.now rows.ends.now) (whole s l.notes) (whole r m.notes) l.events.now m.events.now
   pub errors : m.errors ≡ l.errors
   pub scratch : m.scratch ≡ l.scratch
 

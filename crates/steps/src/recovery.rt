@@ -1,7 +1,6 @@
 // Nodes ended, errors chosen, recovery.
 ghost use Rattle.std.specs.Prelude.{◌≡◌, ◌-◌, ◌≤◌, ◌<◌, eqb, length};
 ghost use Rattle.kinds.specs.Kinds as k;
-ghost use Rattle.kinds.specs.Numbers as kinds;
 ghost use Rattle.kinds.specs.Sets.{set_of};
 ghost use Rattle.shapes.specs.Mode.{number};
 ghost use Rattle.shapes.specs.Shapes.{EVENT};
@@ -24,7 +23,7 @@ impl State {
     // Ends a node.
     pub fn end(
         mut self,
-        kind: Kind,
+        kind: u32,
         from: usize,
         at: usize,
         optional: bool,
@@ -34,21 +33,21 @@ impl State {
         requires { Whence x.now self lent.old
             × (from ≤ self.pos)
             × (exceeded self.full ≡ 0 → (EVENT ≤ at) × (at ≤ self.ev)) }
-        ensures step { Ends (P.finish optional (kinds.number kind) (length x.now.ids.now - from)) at x.now self lent.old result lent.new }
+        ensures step { Ends (P.finish optional kind (length x.now.rows.ids.now - from)) at x.now self lent.old result lent.new }
         ensures lists { SameLists lent.old lent.new }
     {
         self = self.told(optional, x, lent.errors, &mut lent.notes);
-        self.shut(u32::from(shown(kind, self.mode)), from, at, x, lent.events)
+        self.shut(shown(kind, self.mode), from, at, &x.rows, lent.events)
     }
 
     // Outside optional parts an error is chosen where a node did not go well.
     fn told(mut self, optional: bool, x: &Given<'_>, errors: &mut [u32], notes: &mut Notes) -> Self
-        requires { Ok (length x.now.ids.now) (whole self notes.old) × (notes.old.ercap ≤ length errors.old) }
+        requires { Ok (length x.now.rows.ids.now) (whole self notes.old) × (notes.old.ercap ≤ length errors.old) }
         ensures { Errors (tells optional) (source_of x.now) (whole self notes.old)
             (whole result notes.new) errors.old errors.new
             × (result.mode ≡ self.mode) }
     {
-        if self.mode == Mode::Fine {
+        if self.mode.is(Mode::FINE) {
             return self;
         }
         if optional {
@@ -71,11 +70,11 @@ impl State {
         ensures step { Mends (P.swallow d optional (set_of set)) x.now self lent.old result lent.new }
         ensures lists { SameLists lent.old lent.new }
     {
-        self = self.begin(d, x, lent.events);
+        self = self.begin(d, &x.rows, lent.events);
         let from = self.pos;
         let at = self.ev;
-        self = self.skip_to(set, x, lent.events);
-        self.end(Kind::Error, from, at, optional, x, lent)
+        self = self.skip_to(set, &x.rows, lent.events);
+        self.end(Kind::Error as u32, from, at, optional, x, lent)
     }
 
     // Goes on at a row of the set, in good order; what stands before it goes into an ERROR node.
@@ -95,17 +94,17 @@ impl State {
             return self;
         }
         let mode = self.mode;
-        self.mode = Mode::Fine;
-        let at = x.peek(self.pos);
-        if at >= x.ids.len() {
+        self.mode = Mode::FINE;
+        let at = x.rows.peek(self.pos);
+        if at >= x.rows.ids.len() {
             return self;
         }
-        if !has(set, x.ids[at]) {
+        if !has(set, x.rows.ids[at]) {
             first_names(set, at, &mut lent.notes);
             self.full = choose(self.full, x, lent.errors, &mut lent.notes);
             return self.swallow(d, optional, set, x, lent);
         }
-        if mode == Mode::Fine {
+        if mode.is(Mode::FINE) {
             return self;
         }
         self.full = choose(self.full, x, lent.errors, &mut lent.notes);
@@ -114,13 +113,13 @@ impl State {
 }
 
 // The kind of a node's events: its own, or ERROR where it did not go well.
-fn shown(kind: Kind, mode: Mode) -> Kind
-    ensures { kinds.number result ≡ ifb (eqb (number mode) 0) (kinds.number kind) k.ERROR }
+fn shown(kind: u32, mode: Mode) -> u32
+    ensures { result ≡ ifb (eqb (number mode) 0) kind k.ERROR }
 {
-    if mode == Mode::Fine {
+    if mode.is(Mode::FINE) {
         return kind;
     }
-    Kind::Error
+    Kind::Error as u32
 }
 
 // Where no error of the item is pending, the set's names are entered first.

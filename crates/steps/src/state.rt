@@ -3,23 +3,21 @@ ghost use Rattle.std.specs.Prelude.{◌≡◌, List, ℕ, ◌+◌, ◌-◌, ◌�
 ghost use Rattle.std.proofs.Math.Dec.{leb};
 ghost use Rattle.shapes.specs.Shapes.{EVENT, event};
 ghost use Rattle.shapes.specs.Mode.{number};
-ghost use Rattle.shapes.specs.Sort as sorts;
 ghost use Rattle.definition.specs.Buffer.{cell, next_depth, placed};
 ghost use Rattle.definition.specs.Render.{Source};
 ghost use Rattle.definition.specs.Run as P;
 ghost use Rattle.notes.specs.declared.names.Notes.{Notes};
 ghost use Rattle.notes.specs.Whole.{exceeded};
 ghost use Rattle.notes.specs.Change.{mark_of, gone, undone_to};
-ghost use Rattle.notes.specs.Means.{bufs};
-ghost use Rattle.notes.specs.Reading.{source_of};
+ghost use Rattle.notes.specs.Means.{source, bufs, Lines};
 ghost use Rattle.notes.specs.Did.{Ok, Wf, Put, Plain, Began, Shuts, shut_a};
 ghost use Rattle.steps.specs.Steps.{whole, Fits, Writes};
 
 use kinds::is_trivia;
-use notes::reading::Given;
+use notes::reading::RowList;
 use shapes::event::{DEPTH, END, EVENT, KIND, START};
+use shapes::full::Full;
 use shapes::mode::Mode;
-use shapes::refusal::Refusal;
 use shapes::sort::Sort;
 
 // What is handed in and handed back at every step. What is looked at seldom is noted in what is lent (crate `notes`).
@@ -33,7 +31,7 @@ pub struct State {
     pub fuel: u32,
     pub mode: Mode,
     // The room that was exceeded first, for events or for records.
-    pub full: Option<Refusal>,
+    pub full: Full,
 }
 
 // A place to come back to.
@@ -71,16 +69,13 @@ impl State {
     pub fn is_stopped(self) -> bool
         ensures { result ≡ leb 2 (number self.mode) }
     {
-        match self.mode {
-            Mode::Fine | Mode::Failed => false,
-            Mode::Spent | Mode::Deep => true,
-        }
+        Mode::SPENT.number <= self.mode.number
     }
 
     // Writes an event that ends no node.
-    pub fn put(self, sort: Sort, kind: u32, start: u32, end: u32, events: &mut [u32]) -> Self
+    pub fn put(self, sort: u32, kind: u32, start: u32, end: u32, events: &mut [u32]) -> Self
         requires { Fits self events.old }
-        ensures { (n : Notes) → Put (placed (sorts.number sort) kind start end events.old self.ev) (whole self n) (whole result n) events.old
+        ensures { (n : Notes) → Put (placed sort kind start end events.old self.ev) (whole self n) (whole result n) events.old
             events.new }
     {
         let depth = around(self.ev, events);
@@ -90,7 +85,7 @@ impl State {
     // Writes an event of a known depth; where there is no room, says so.
     pub fn write(
         mut self,
-        sort: Sort,
+        sort: u32,
         kind: u32,
         start: u32,
         end: u32,
@@ -98,17 +93,17 @@ impl State {
         events: &mut [u32],
     ) -> Self
         requires { Fits self events.old }
-        ensures { (n : Notes) → Put (event (sorts.number sort) kind start end depth) (whole self n) (whole result n) events.old events.new }
+        ensures { (n : Notes) → Put (event sort kind start end depth) (whole self n) (whole result n) events.old events.new }
     {
-        if self.full.is_some() {
+        if self.full.isnt(Full::NONE) {
             return self;
         }
         let at = self.ev;
         if self.evcap - at < EVENT {
-            self.full = Some(Refusal::Events);
+            self.full = Full::EVENTS;
             return self;
         }
-        events[at] = u32::from(sort);
+        events[at] = sort;
         events[at + KIND] = kind;
         events[at + START] = start;
         events[at + END] = end;
@@ -118,22 +113,22 @@ impl State {
     }
 
     // Takes up trivia, in good order only. The loop counts by the state's own place.
-    pub fn trivia(mut self, x: &Given<'_>, events: &mut [u32]) -> Self
-        requires { Fits self events.old }
-        ensures { Writes P.trivia x.now self result events.old events.new × (result.mode ≡ self.mode) }
+    pub fn trivia(mut self, rows: &RowList<'_>, events: &mut [u32]) -> Self
+        requires { Lines rows.now.ids.now rows.now.ends.now × Fits self events.old }
+        ensures { Writes P.trivia rows.now self result events.old events.new × (result.mode ≡ self.mode) }
     {
-        if self.mode != Mode::Fine {
+        if self.mode.isnt(Mode::FINE) {
             return self;
         }
-        while self.pos < x.ids.len() {
+        while self.pos < rows.ids.len() {
             let at = self.pos;
-            let id = x.ids[at];
+            let id = rows.ids[at];
             if !is_trivia(id) {
                 return self;
             }
-            let start = x.start_of(at);
-            let end = x.ends[at];
-            self = self.put(Sort::Token, id, start, end, events);
+            let start = rows.start_of(at);
+            let end = rows.ends[at];
+            self = self.put(Sort::Token as u32, id, start, end, events);
             self.pos = at + 1;
         }
         self
@@ -145,7 +140,7 @@ impl State {
     {
         if self.fuel == 0 {
             if !self.is_stopped() {
-                self.mode = Mode::Spent;
+                self.mode = Mode::SPENT;
                 return self;
             }
             return self;
@@ -153,7 +148,7 @@ impl State {
         self.fuel -= 1;
         if d == 0 {
             if !self.is_stopped() {
-                self.mode = Mode::Deep;
+                self.mode = Mode::DEEP;
                 return self;
             }
             return self;
@@ -162,35 +157,42 @@ impl State {
     }
 
     // Begins a node: its event is written, fuel or not.
-    pub fn begin(mut self, d: usize, x: &Given<'_>, events: &mut [u32]) -> Self
-        requires { Fits self events.old × (self.pos ≤ length x.now.ids.now) }
-        ensures { (n : Notes) → Ok (length x.now.ids.now) (whole self n)
-            → Began d (source_of x.now) (whole self n) (whole result n) events.old events.new }
+    pub fn begin(mut self, d: usize, rows: &RowList<'_>, events: &mut [u32]) -> Self
+        requires { Lines rows.now.ids.now rows.now.ends.now × Fits self events.old × (self.pos ≤ length rows.now.ids.now) }
+        ensures { (bytes : List ℕ) (n : Notes) → Ok (length rows.now.ids.now) (whole self n)
+            → Began d (source bytes rows.now.ids.now rows.now.ends.now) (whole self n) (whole result n) events.old events.new }
     {
-        self = self.trivia(x, events);
+        self = self.trivia(rows, events);
         self = self.charge(d);
-        let start = x.start_of(self.pos);
-        self.put(Sort::Begin, 0, start, start, events)
+        let start = rows.start_of(self.pos);
+        self.put(Sort::Begin as u32, 0, start, start, events)
     }
 
     // Closes a node that began at row `from`, its event before `at`: that event gets kind and end, and the end event is written.
-    pub fn shut(self, kind: u32, from: usize, at: usize, x: &Given<'_>, events: &mut [u32]) -> Self
-        requires { Fits self events.old × (self.pos ≤ length x.now.ids.now) × (from ≤ self.pos) × (exceeded self.full ≡ 0 → (EVENT ≤ at) × (at ≤ self.ev)) }
-        ensures { (n : Notes) (er sc : List ℕ)
-            → Wf (source_of x.now) (bufs events.old er sc) (whole self n)
-            → Shuts (shut_a kind (length x.now.ids.now - from)) at (source_of x.now) (whole self n) (whole result n)
+    pub fn shut(
+        self,
+        kind: u32,
+        from: usize,
+        at: usize,
+        rows: &RowList<'_>,
+        events: &mut [u32],
+    ) -> Self
+        requires { Fits self events.old × (self.pos ≤ length rows.now.ends.now) × (from ≤ self.pos) × (exceeded self.full ≡ 0 → (EVENT ≤ at) × (at ≤ self.ev)) }
+        ensures { (n : Notes) (bytes ids er sc : List ℕ) → Lines ids rows.now.ends.now
+            → Wf (source bytes ids rows.now.ends.now) (bufs events.old er sc) (whole self n)
+            → Shuts (shut_a kind (length ids - from)) at (source bytes ids rows.now.ends.now) (whole self n) (whole result n)
             (bufs events.old er sc) (bufs events.new er sc) }
     {
-        if self.full.is_some() {
+        if self.full.isnt(Full::NONE) {
             return self;
         }
-        let start = x.start_of(from);
-        let end = x.start_of(self.pos);
+        let start = rows.start_of(from);
+        let end = rows.start_of(self.pos);
         let begin = at - EVENT;
         let depth = events[begin + DEPTH];
         events[begin + KIND] = kind;
         events[begin + END] = end;
-        self.write(Sort::End, kind, start, end, depth, events)
+        self.write(Sort::End as u32, kind, start, end, depth, events)
     }
 
     pub fn mark(self) -> Mark
@@ -217,8 +219,8 @@ impl State {
     {
         self.pos = m.pos;
         self.ev = m.ev;
-        if self.mode == Mode::Failed {
-            self.mode = Mode::Fine;
+        if self.mode.is(Mode::FAILED) {
+            self.mode = Mode::FINE;
             return self;
         }
         self

@@ -8,21 +8,21 @@ use Rattle.parts.proofs.Lines.{from, plus, plus_e, asks_e, ended}
 use Rattle.labels.proofs.rule_tags.Goals as goal
 
 pub end-requires : goal.end-requires
-end-requires c = closes G.RULE_TAGS c.args.may c.args.x.now.entrypoint c.args.d (from c.args.x.now c.args.s c.args.lent.now c.requires) (c.begin-s.ensures c.args.lent.now.notes) (begins G.RULE_TAGS c.args.may c.args.x.now.entrypoint c.args.d (from c.args.x.now c.args.s c.args.lent.now c.requires) (c.begin-s.ensures c.args.lent.now.notes))
+end-requires c = closes G.RULE_TAGS c.args.may c.args.x.now.entrypoint c.args.d (from c.args.x.now c.args.s c.args.lent.now c.requires) (c.begin-s.ensures c.args.x.now.src.now c.args.lent.now.notes) (begins G.RULE_TAGS c.args.may c.args.x.now.entrypoint c.args.d (from c.args.x.now c.args.s c.args.lent.now c.requires) (c.begin-s.ensures c.args.x.now.src.now c.args.lent.now.notes))
 
 pub returns-then-d-eq0-clause-read : goal.returns-then-d-eq0-clause-read
 unfolding grammar kind names_of
-returns-then-d-eq0-clause-read c = makes_none G.RULE_TAGS c.args.may c.args.x.now.entrypoint c.args.d (from c.args.x.now c.args.s c.args.lent.now c.requires) (c.begin-s.ensures c.args.lent.now.notes) c.if-d-eq0.true (ended c.end.ensures.step)
+returns-then-d-eq0-clause-read c = makes_none G.RULE_TAGS c.args.may c.args.x.now.entrypoint c.args.d (from c.args.x.now c.args.s c.args.lent.now c.requires) (c.begin-s.ensures c.args.x.now.src.now c.args.lent.now.notes) c.if-d-eq0.true (ended c.end.ensures.step)
 
 pub expect-s-requires : goal.expect-s-requires
-expect-s-requires c = (asks_e (begins G.RULE_TAGS c.args.may c.args.x.now.entrypoint c.args.d (from c.args.x.now c.args.s c.args.lent.now c.requires) (c.begin-s.ensures c.args.lent.now.notes)), omega arith)
+expect-s-requires c = (asks_e (begins G.RULE_TAGS c.args.may c.args.x.now.entrypoint c.args.d (from c.args.x.now c.args.s c.args.lent.now c.requires) (c.begin-s.ensures c.args.x.now.src.now c.args.lent.now.notes)) c.args.x.now.tiled.lines, omega arith)
 
 pub idents-s-requires : goal.idents-s-requires
-idents-s-requires c = (plus_e (begins G.RULE_TAGS c.args.may c.args.x.now.entrypoint c.args.d (from c.args.x.now c.args.s c.args.lent.now c.requires) (c.begin-s.ensures c.args.lent.now.notes)) c.expect-s.ensures.step).wf
+idents-s-requires c = (plus_e (begins G.RULE_TAGS c.args.may c.args.x.now.entrypoint c.args.d (from c.args.x.now c.args.s c.args.lent.now c.requires) (c.begin-s.ensures c.args.x.now.src.now c.args.lent.now.notes)) c.expect-s.ensures.step).wf
 
 pub end-requires-2 : goal.end-requires-2
-end-requires-2 c = closes G.RULE_TAGS c.args.may c.args.x.now.entrypoint c.args.d (from c.args.x.now c.args.s c.args.lent.now c.requires) (c.begin-s.ensures c.args.lent.now.notes) (plus (plus_e (begins G.RULE_TAGS c.args.may c.args.x.now.entrypoint c.args.d (from c.args.x.now c.args.s c.args.lent.now c.requires) (c.begin-s.ensures c.args.lent.now.notes)) c.expect-s.ensures.step) c.idents-s.ensures.read)
+end-requires-2 c = closes G.RULE_TAGS c.args.may c.args.x.now.entrypoint c.args.d (from c.args.x.now c.args.s c.args.lent.now c.requires) (c.begin-s.ensures c.args.x.now.src.now c.args.lent.now.notes) (plus (plus_e (begins G.RULE_TAGS c.args.may c.args.x.now.entrypoint c.args.d (from c.args.x.now c.args.s c.args.lent.now c.requires) (c.begin-s.ensures c.args.x.now.src.now c.args.lent.now.notes)) c.expect-s.ensures.step) c.idents-s.ensures.read)
 
 pub returns-clause-read : goal.returns-clause-read
 unfolding grammar kind names_of
-returns-clause-read c = makes G.RULE_TAGS c.args.may c.args.x.now.entrypoint c.args.d (from c.args.x.now c.args.s c.args.lent.now c.requires) (c.begin-s.ensures c.args.lent.now.notes) c.if-d-eq0.false (plus (plus_e (begins G.RULE_TAGS c.args.may c.args.x.now.entrypoint c.args.d (from c.args.x.now c.args.s c.args.lent.now c.requires) (c.begin-s.ensures c.args.lent.now.notes)) c.expect-s.ensures.step) c.idents-s.ensures.read) (ended c.end-2.ensures.step)
+returns-clause-read c = makes G.RULE_TAGS c.args.may c.args.x.now.entrypoint c.args.d (from c.args.x.now c.args.s c.args.lent.now c.requires) (c.begin-s.ensures c.args.x.now.src.now c.args.lent.now.notes) c.if-d-eq0.false (plus (plus_e (begins G.RULE_TAGS c.args.may c.args.x.now.entrypoint c.args.d (from c.args.x.now c.args.s c.args.lent.now c.requires) (c.begin-s.ensures c.args.x.now.src.now c.args.lent.now.notes)) c.expect-s.ensures.step) c.idents-s.ensures.read) (ended c.end-2.ensures.step)

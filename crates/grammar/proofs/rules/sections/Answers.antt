@@ -15,7 +15,7 @@ pub condition-s-requires : goal.condition-s-requires
 condition-s-requires c = (plus (plus (from c.args.x.now c.args.s c.args.lent.now c.requires) c.metas-s.ensures.read) c.patterns-s.ensures.read).wf
 
 pub expect-s-requires : goal.expect-s-requires
-expect-s-requires c = (asks_e (plus (plus (plus (from c.args.x.now c.args.s c.args.lent.now c.requires) c.metas-s.ensures.read) c.patterns-s.ensures.read) c.condition-s.ensures.read), omega arith)
+expect-s-requires c = (asks_e (plus (plus (plus (from c.args.x.now c.args.s c.args.lent.now c.requires) c.metas-s.ensures.read) c.patterns-s.ensures.read) c.condition-s.ensures.read) c.args.x.now.tiled.lines, omega arith)
 
 pub returns-clause-read : goal.returns-clause-read
 unfolding grammar kind names_of

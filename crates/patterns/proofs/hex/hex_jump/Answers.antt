@@ -8,24 +8,24 @@ use Rattle.parts.proofs.Lines.{from, plus, plus_e, asks_e, ended}
 use Rattle.patterns.proofs.hex.hex_jump.Goals as goal
 
 pub end-requires : goal.end-requires
-end-requires c = closes G.HEX_JUMP c.args.may c.args.x.now.entrypoint c.args.d (from c.args.x.now c.args.s c.args.lent.now c.requires) (c.begin-s.ensures c.args.lent.now.notes) (begins G.HEX_JUMP c.args.may c.args.x.now.entrypoint c.args.d (from c.args.x.now c.args.s c.args.lent.now c.requires) (c.begin-s.ensures c.args.lent.now.notes))
+end-requires c = closes G.HEX_JUMP c.args.may c.args.x.now.entrypoint c.args.d (from c.args.x.now c.args.s c.args.lent.now c.requires) (c.begin-s.ensures c.args.x.now.src.now c.args.lent.now.notes) (begins G.HEX_JUMP c.args.may c.args.x.now.entrypoint c.args.d (from c.args.x.now c.args.s c.args.lent.now c.requires) (c.begin-s.ensures c.args.x.now.src.now c.args.lent.now.notes))
 
 pub returns-then-d-eq0-clause-read : goal.returns-then-d-eq0-clause-read
 unfolding grammar kind names_of
-returns-then-d-eq0-clause-read c = makes_none G.HEX_JUMP c.args.may c.args.x.now.entrypoint c.args.d (from c.args.x.now c.args.s c.args.lent.now c.requires) (c.begin-s.ensures c.args.lent.now.notes) c.if-d-eq0.true (ended c.end.ensures.step)
+returns-then-d-eq0-clause-read c = makes_none G.HEX_JUMP c.args.may c.args.x.now.entrypoint c.args.d (from c.args.x.now c.args.s c.args.lent.now c.requires) (c.begin-s.ensures c.args.x.now.src.now c.args.lent.now.notes) c.if-d-eq0.true (ended c.end.ensures.step)
 
 pub expect-s-requires : goal.expect-s-requires
-expect-s-requires c = (asks_e (begins G.HEX_JUMP c.args.may c.args.x.now.entrypoint c.args.d (from c.args.x.now c.args.s c.args.lent.now c.requires) (c.begin-s.ensures c.args.lent.now.notes)), omega arith)
+expect-s-requires c = (asks_e (begins G.HEX_JUMP c.args.may c.args.x.now.entrypoint c.args.d (from c.args.x.now c.args.s c.args.lent.now c.requires) (c.begin-s.ensures c.args.x.now.src.now c.args.lent.now.notes)) c.args.x.now.tiled.lines, omega arith)
 
 pub jump_range-s-requires : goal.jump_range-s-requires
-jump_range-s-requires c = (plus_e (begins G.HEX_JUMP c.args.may c.args.x.now.entrypoint c.args.d (from c.args.x.now c.args.s c.args.lent.now c.requires) (c.begin-s.ensures c.args.lent.now.notes)) c.expect-s.ensures.step).wf
+jump_range-s-requires c = (plus_e (begins G.HEX_JUMP c.args.may c.args.x.now.entrypoint c.args.d (from c.args.x.now c.args.s c.args.lent.now c.requires) (c.begin-s.ensures c.args.x.now.src.now c.args.lent.now.notes)) c.expect-s.ensures.step).wf
 
 pub expect-s-requires-2 : goal.expect-s-requires-2
-expect-s-requires-2 c = (asks_e (plus (plus_e (begins G.HEX_JUMP c.args.may c.args.x.now.entrypoint c.args.d (from c.args.x.now c.args.s c.args.lent.now c.requires) (c.begin-s.ensures c.args.lent.now.notes)) c.expect-s.ensures.step) c.jump_range-s.ensures.read), omega arith)
+expect-s-requires-2 c = (asks_e (plus (plus_e (begins G.HEX_JUMP c.args.may c.args.x.now.entrypoint c.args.d (from c.args.x.now c.args.s c.args.lent.now c.requires) (c.begin-s.ensures c.args.x.now.src.now c.args.lent.now.notes)) c.expect-s.ensures.step) c.jump_range-s.ensures.read) c.args.x.now.tiled.lines, omega arith)
 
 pub end-requires-2 : goal.end-requires-2
-end-requires-2 c = closes G.HEX_JUMP c.args.may c.args.x.now.entrypoint c.args.d (from c.args.x.now c.args.s c.args.lent.now c.requires) (c.begin-s.ensures c.args.lent.now.notes) (plus_e (plus (plus_e (begins G.HEX_JUMP c.args.may c.args.x.now.entrypoint c.args.d (from c.args.x.now c.args.s c.args.lent.now c.requires) (c.begin-s.ensures c.args.lent.now.notes)) c.expect-s.ensures.step) c.jump_range-s.ensures.read) c.expect-s-2.ensures.step)
+end-requires-2 c = closes G.HEX_JUMP c.args.may c.args.x.now.entrypoint c.args.d (from c.args.x.now c.args.s c.args.lent.now c.requires) (c.begin-s.ensures c.args.x.now.src.now c.args.lent.now.notes) (plus_e (plus (plus_e (begins G.HEX_JUMP c.args.may c.args.x.now.entrypoint c.args.d (from c.args.x.now c.args.s c.args.lent.now c.requires) (c.begin-s.ensures c.args.x.now.src.now c.args.lent.now.notes)) c.expect-s.ensures.step) c.jump_range-s.ensures.read) c.expect-s-2.ensures.step)
 
 pub returns-clause-read : goal.returns-clause-read
 unfolding grammar kind names_of
-returns-clause-read c = makes G.HEX_JUMP c.args.may c.args.x.now.entrypoint c.args.d (from c.args.x.now c.args.s c.args.lent.now c.requires) (c.begin-s.ensures c.args.lent.now.notes) c.if-d-eq0.false (plus_e (plus (plus_e (begins G.HEX_JUMP c.args.may c.args.x.now.entrypoint c.args.d (from c.args.x.now c.args.s c.args.lent.now c.requires) (c.begin-s.ensures c.args.lent.now.notes)) c.expect-s.ensures.step) c.jump_range-s.ensures.read) c.expect-s-2.ensures.step) (ended c.end-2.ensures.step)
+returns-clause-read c = makes G.HEX_JUMP c.args.may c.args.x.now.entrypoint c.args.d (from c.args.x.now c.args.s c.args.lent.now c.requires) (c.begin-s.ensures c.args.x.now.src.now c.args.lent.now.notes) c.if-d-eq0.false (plus_e (plus (plus_e (begins G.HEX_JUMP c.args.may c.args.x.now.entrypoint c.args.d (from c.args.x.now c.args.s c.args.lent.now c.requires) (c.begin-s.ensures c.args.x.now.src.now c.args.lent.now.notes)) c.expect-s.ensures.step) c.jump_range-s.ensures.read) c.expect-s-2.ensures.step) (ended c.end-2.ensures.step)

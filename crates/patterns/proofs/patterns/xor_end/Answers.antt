@@ -12,21 +12,21 @@ use Rattle.patterns.proofs.patterns.xor_end.Goals as goal
 
 pub returns-then-not-sees-clause-read : goal.returns-then-not-sees-clause-read
 unfolding grammar kind names_of
-returns-then-not-sees-clause-read c = passes (from c.args.x.now c.args.s c.args.lent.now c.requires) c.args.x.now.entrypoint c.args.d c.args.may (k.HYPHEN ∷ []) (one k.HYPHEN ⨟ then (one k.INTEGER_LIT)) c.sees.ensures (c.if-not-sees.true) (plus_p (from c.args.x.now c.args.s c.args.lent.now c.requires) (c.pass.ensures (from c.args.x.now c.args.s c.args.lent.now c.requires).wf.0 (sym c.sees.ensures ∙ (c.if-not-sees.true))))
+returns-then-not-sees-clause-read c = passes (from c.args.x.now c.args.s c.args.lent.now c.requires) c.args.x.now.entrypoint c.args.d c.args.may (k.HYPHEN ∷ []) (one k.HYPHEN ⨟ then (one k.INTEGER_LIT)) c.sees.ensures (c.if-not-sees.true) (plus_p (from c.args.x.now c.args.s c.args.lent.now c.requires) (c.pass.ensures c.args.x.now.src.now c.args.x.now.rows.ends.now (from c.args.x.now c.args.s c.args.lent.now c.requires).wf.0 (sym c.sees.ensures ∙ (c.if-not-sees.true))))
 
 pub expect-s-requires : goal.expect-s-requires
-expect-s-requires c = (asks_e (plus_t (from c.args.x.now c.args.s c.args.lent.now c.requires) (c.trivia-s.ensures.0 c.args.lent.now.notes)), omega arith)
+expect-s-requires c = (asks_e (plus_t (from c.args.x.now c.args.s c.args.lent.now c.requires) (c.trivia-s.ensures.0 c.args.x.now.src.now c.args.lent.now.notes)) c.args.x.now.tiled.lines, omega arith)
 
-pub returns-then-ne-clause-read : goal.returns-then-ne-clause-read
+pub returns-then-isnt-clause-read : goal.returns-then-isnt-clause-read
 unfolding grammar kind names_of
-returns-then-ne-clause-read c = enters (from c.args.x.now c.args.s c.args.lent.now c.requires) c.args.x.now.entrypoint c.args.d c.args.may (k.HYPHEN ∷ []) (one k.HYPHEN ⨟ then (one k.INTEGER_LIT)) c.sees.ensures (c.if-not-sees.false) (stops (plus_e (plus_t (from c.args.x.now c.args.s c.args.lent.now c.requires) (c.trivia-s.ensures.0 c.args.lent.now.notes)) c.expect-s.ensures.step) c.args.x.now.entrypoint c.args.d c.args.may (then (one k.INTEGER_LIT)) tt (not_fine _ c.if-ne.ensures))
+returns-then-isnt-clause-read c = enters (from c.args.x.now c.args.s c.args.lent.now c.requires) c.args.x.now.entrypoint c.args.d c.args.may (k.HYPHEN ∷ []) (one k.HYPHEN ⨟ then (one k.INTEGER_LIT)) c.sees.ensures (c.if-not-sees.false) (stops (plus_e (plus_t (from c.args.x.now c.args.s c.args.lent.now c.requires) (c.trivia-s.ensures.0 c.args.x.now.src.now c.args.lent.now.notes)) c.expect-s.ensures.step) c.args.x.now.entrypoint c.args.d c.args.may (then (one k.INTEGER_LIT)) tt (not_fine _ c.if-isnt.ensures))
 
 pub trivia-s-requires-2 : goal.trivia-s-requires-2
-trivia-s-requires-2 c = ((here (plus_e (plus_t (from c.args.x.now c.args.s c.args.lent.now c.requires) (c.trivia-s.ensures.0 c.args.lent.now.notes)) c.expect-s.ensures.step)).wf.0.2.events, (here (plus_e (plus_t (from c.args.x.now c.args.s c.args.lent.now c.requires) (c.trivia-s.ensures.0 c.args.lent.now.notes)) c.expect-s.ensures.step)).wf.1.events)
+trivia-s-requires-2 c = (c.args.x.now.tiled.lines, ((here (plus_e (plus_t (from c.args.x.now c.args.s c.args.lent.now c.requires) (c.trivia-s.ensures.0 c.args.x.now.src.now c.args.lent.now.notes)) c.expect-s.ensures.step)).wf.0.2.events, (here (plus_e (plus_t (from c.args.x.now c.args.s c.args.lent.now c.requires) (c.trivia-s.ensures.0 c.args.x.now.src.now c.args.lent.now.notes)) c.expect-s.ensures.step)).wf.1.events))
 
 pub expect-s-requires-2 : goal.expect-s-requires-2
-expect-s-requires-2 c = (asks_e (plus_t (here (plus_e (plus_t (from c.args.x.now c.args.s c.args.lent.now c.requires) (c.trivia-s.ensures.0 c.args.lent.now.notes)) c.expect-s.ensures.step)) (c.trivia-s-2.ensures.0 c.expect-s.new.lent.notes)), omega arith)
+expect-s-requires-2 c = (asks_e (plus_t (here (plus_e (plus_t (from c.args.x.now c.args.s c.args.lent.now c.requires) (c.trivia-s.ensures.0 c.args.x.now.src.now c.args.lent.now.notes)) c.expect-s.ensures.step)) (c.trivia-s-2.ensures.0 c.args.x.now.src.now c.expect-s.new.lent.notes)) c.args.x.now.tiled.lines, omega arith)
 
 pub returns-clause-read : goal.returns-clause-read
 unfolding grammar kind names_of
-returns-clause-read c = enters (from c.args.x.now c.args.s c.args.lent.now c.requires) c.args.x.now.entrypoint c.args.d c.args.may (k.HYPHEN ∷ []) (one k.HYPHEN ⨟ then (one k.INTEGER_LIT)) c.sees.ensures (c.if-not-sees.false) ((plus (plus_e (plus_t (from c.args.x.now c.args.s c.args.lent.now c.requires) (c.trivia-s.ensures.0 c.args.lent.now.notes)) c.expect-s.ensures.step) (then_past c.args.x.now.entrypoint c.args.d c.args.may (one k.INTEGER_LIT) (fine _ c.if-ne.ensures) (plus_e (plus_t (here (plus_e (plus_t (from c.args.x.now c.args.s c.args.lent.now c.requires) (c.trivia-s.ensures.0 c.args.lent.now.notes)) c.expect-s.ensures.step)) (c.trivia-s-2.ensures.0 c.expect-s.new.lent.notes)) c.expect-s-2.ensures.step))))
+returns-clause-read c = enters (from c.args.x.now c.args.s c.args.lent.now c.requires) c.args.x.now.entrypoint c.args.d c.args.may (k.HYPHEN ∷ []) (one k.HYPHEN ⨟ then (one k.INTEGER_LIT)) c.sees.ensures (c.if-not-sees.false) ((plus (plus_e (plus_t (from c.args.x.now c.args.s c.args.lent.now c.requires) (c.trivia-s.ensures.0 c.args.x.now.src.now c.args.lent.now.notes)) c.expect-s.ensures.step) (then_past c.args.x.now.entrypoint c.args.d c.args.may (one k.INTEGER_LIT) (fine _ c.if-isnt.ensures) (plus_e (plus_t (here (plus_e (plus_t (from c.args.x.now c.args.s c.args.lent.now c.requires) (c.trivia-s.ensures.0 c.args.x.now.src.now c.args.lent.now.notes)) c.expect-s.ensures.step)) (c.trivia-s-2.ensures.0 c.args.x.now.src.now c.expect-s.new.lent.notes)) c.expect-s-2.ensures.step))))

@@ -25,8 +25,8 @@ swallow-requires c = ((c.choose-self.ensures (with_mode 0 (whole c.args.self c.a
 pub returns-then-not-has-clause-step : goal.returns-then-not-has-clause-step
 returns-then-not-has-clause-step c = record { both = recover_skips c.args.d c.args.optional (set_of c.args.set) c.requires.0.0 c.requires.0.1 c.requires.0.2 (not_stopped _ c.if-is_stopped.ensures) (next_lacks (set_of c.args.set) c.peek-at.ensures c.if-at-x.false (sym (c.if-not-has.true) ∙ c.has.ensures)) (c.first_names.ensures (source_of c.args.x.now) (with_mode 0 (whole c.args.self c.args.lent.now.notes)) c.requires.0.0 c.peek-at.ensures) (c.choose-self.ensures (with_mode 0 (whole c.args.self c.args.lent.now.notes)) refl (c.first_names.ensures (source_of c.args.x.now) (with_mode 0 (whole c.args.self c.args.lent.now.notes)) c.requires.0.0 c.peek-at.ensures).ok) c.swallow.ensures.step.both; scratch = c.swallow.ensures.step.scratch }
 
-pub returns-then-eq-clause-step : goal.returns-then-eq-clause-step
-returns-then-eq-clause-step c = record { both = recover_found c.args.d c.args.optional (set_of c.args.set) c.requires.0.0 c.requires.0.1 c.requires.0.2 (is_fine _ c.if-eq.ensures) (next_has (set_of c.args.set) c.peek-at.ensures c.if-at-x.false (sym (c.if-not-has.false) ∙ c.has.ensures)); scratch = refl }
+pub returns-then-is-clause-step : goal.returns-then-is-clause-step
+returns-then-is-clause-step c = record { both = recover_found c.args.d c.args.optional (set_of c.args.set) c.requires.0.0 c.requires.0.1 c.requires.0.2 (is_fine _ c.if-is.ensures) (next_has (set_of c.args.set) c.peek-at.ensures c.if-at-x.false (sym (c.if-not-has.false) ∙ c.has.ensures)); scratch = refl }
 
 pub returns-clause-step : goal.returns-clause-step
-returns-clause-step c = record { both = recover_failed c.args.d c.args.optional (set_of c.args.set) c.requires.0.0 c.requires.0.1 c.requires.0.2 (not_stopped _ c.if-is_stopped.ensures) (isnt_fine _ c.if-eq.ensures) (next_has (set_of c.args.set) c.peek-at.ensures c.if-at-x.false (sym (c.if-not-has.false) ∙ c.has.ensures)) (c.choose-self-2.ensures (with_mode 0 (whole c.args.self c.args.lent.now.notes)) refl c.requires.0.0); scratch = refl }
+returns-clause-step c = record { both = recover_failed c.args.d c.args.optional (set_of c.args.set) c.requires.0.0 c.requires.0.1 c.requires.0.2 (not_stopped _ c.if-is_stopped.ensures) (isnt_fine _ c.if-is.ensures) (next_has (set_of c.args.set) c.peek-at.ensures c.if-at-x.false (sym (c.if-not-has.false) ∙ c.has.ensures)) (c.choose-self-2.ensures (with_mode 0 (whole c.args.self c.args.lent.now.notes)) refl c.requires.0.0); scratch = refl }
